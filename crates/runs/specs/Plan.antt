@@ -1,0 +1,107 @@
+-- Plans: a tree of tasks, all-of and any-of groups; conditions of the tasks; orders among the children of a group. Definitions only.
+use mathlib.Core.Path.{_≡_}
+use mathlib.Core.Logic.{_≢_}
+use mathlib.Core.Bool.{Bool}
+use mathlib.Core.Option.{Option, some}
+use Prim.Native.Nat.{ℕ, _<_}
+use lib.Dec.{T}
+
+pub data Kind : Type 0 where
+  task all-of any-of : Kind
+  deriving Discrete as Kind-discrete
+
+-- the groups of which one branch is taken
+abbrev pub Picks : Kind → Type 0
+Picks task = ⊥
+Picks all-of = ⊥
+Picks any-of = Unit {0}
+
+-- pre-, in- and postcondition: 01's need, hold and leaving
+pub data Place : Type 0 where
+  pre inc post : Place
+  deriving Discrete as Place-discrete
+
+pub record Tree : Type 0 where
+  pub size : ℕ
+  -- the nodes; all are below size
+  pub here : ℕ → Bool
+  pub kind : ℕ → Kind
+  pub parent : ℕ → ℕ
+
+pub record Conditions : Type 0 where
+  pub flags : ℕ
+  -- place, task, flag: the sign of the task's condition there, if it has one
+  pub sign : Place → ℕ → ℕ → Option Bool
+
+-- The meaning of 01's book, but for names, minutes and start flags. Its three parts are apart: what rests on one of them is the same for all plans
+-- that share it.
+pub record Plan : Type 0 where
+  pub tree : Tree
+  pub cond : Conditions
+  -- earlier, later
+  pub order : ℕ → ℕ → Bool
+
+-- c is a child of g
+pub record ChildOf (t : Tree) (g c : ℕ) : Type 0 where
+  pub not-root : 0 < c
+  pub node : T (t .here c)
+  pub up : t .parent c ≡ g
+
+-- n is under a: it is a, or its parent is under a
+pub data UnderOf (t : Tree) (a : ℕ) : ℕ → Type 0 where
+  itself : UnderOf t a a
+  below : {n : ℕ} → 0 < n → T (t .here n) → UnderOf t a (t .parent n) → UnderOf t a n
+
+module _ (p : Plan) where
+  abbrev pub Node : ℕ → Type 0
+  Node n = T (p .tree .here n)
+
+  abbrev pub Child : ℕ → ℕ → Type 0
+  Child g c = ChildOf (p .tree) g c
+
+  abbrev pub Under : ℕ → ℕ → Type 0
+  Under a n = UnderOf (p .tree) a n
+
+  -- 01's "before", which follows chains of orders
+  pub data Before : ℕ → ℕ → Type 0 where
+    direct : {a b : ℕ} → T (p .order a b) → Before a b
+    chain : {a b c : ℕ} → T (p .order a b) → Before b c → Before a c
+
+  -- 01's "unordered"
+  pub record Unordered (a b : ℕ) : Type 0 where
+    pub distinct : a ≢ b
+    pub not-before : ¬ Before a b
+    pub not-after : ¬ Before b a
+
+  -- What the theory asks of a plan; refusals 7, 8, 9, 12 and 13 leave it (`Accepted`, below). The rank stands for the node's number, so that orders
+  -- may also run against the numbers.
+  pub record WellFormed : Type 0 where
+    pub root-node : Node 0
+    pub node-below : (n : ℕ) → Node n → n < p .tree .size
+    pub parent-lower : (n : ℕ) → 0 < n → Node n → p .tree .parent n < n
+    pub parent-node : (n : ℕ) → 0 < n → Node n → Node (p .tree .parent n)
+    pub parent-group : (n : ℕ) → 0 < n → Node n → p .tree .kind (p .tree .parent n) ≢ task
+    -- each group has a child, but for an all-of root, which may have none
+    pub some-branch : (g : ℕ) → Node g → p .tree .kind g ≡ any-of → (c : ℕ) × Child g c
+    pub some-part : (g : ℕ) → 0 < g → Node g → p .tree .kind g ≡ all-of → (c : ℕ) × Child g c
+    pub order-group : (a b : ℕ) → T (p .order a b) → (g : ℕ) × (p .tree .kind g ≡ all-of) × Child g a × Child g b
+    pub on-task : (k : Place) (t f : ℕ) (v : Bool) → p .cond .sign k t f ≡ some v → (t < p .tree .size) × (p .tree .kind t ≡ task) × (f < p .cond .flags)
+    pub inc-post : (t f : ℕ) (v : Bool) → p .cond .sign inc t f ≡ some v → (u : Bool) × (p .cond .sign post t f ≡ some u)
+    pub rank : ℕ → ℕ
+    pub rank-below : (n : ℕ) → Node n → rank n < p .tree .size
+    pub rank-rises : (a b : ℕ) → T (p .order a b) → rank a < rank b
+
+  -- What refusals 7, 8, 9, 12 and 13 leave, in 01's words. (10, 11 and 14 are no matter here: `sign` gives one sign, `order` has no repetitions.)
+  pub record Accepted : Type 0 where
+    pub nodes : (n : ℕ) → (Node n → n < p .tree .size) × (n < p .tree .size → Node n)
+    pub some-node : 0 < p .tree .size
+    -- 7: a parent is a group of a lower number
+    pub parent-lower : (n : ℕ) → 0 < n → n < p .tree .size → (p .tree .parent n < n) × (p .tree .kind (p .tree .parent n) ≢ task)
+    -- 8: a group has a child
+    pub has-child : (g : ℕ) → g < p .tree .size → p .tree .kind g ≢ task → (c : ℕ) × Child g c
+    -- 9: a condition is on a task and a flag of the plan
+    pub on-task : (k : Place) (t f : ℕ) (v : Bool) → p .cond .sign k t f ≡ some v → (t < p .tree .size) × (p .tree .kind t ≡ task) × (f < p .cond .flags)
+    -- 12: a hold is on a flag that the task has a leaving on
+    pub inc-post : (t f : ℕ) (v : Bool) → p .cond .sign inc t f ≡ some v → (u : Bool) × (p .cond .sign post t f ≡ some u)
+    -- 13: an order is between children of one all-of group, the earlier number the lower
+    pub orders : (a b : ℕ) → T (p .order a b) → (a < b) × ((g : ℕ) × (p .tree .kind g ≡ all-of) × Child g a × Child g b)
