@@ -1,2 +1,11 @@
--- And/or plans after Clement and Durfee (1999), and the claims of 01 about them. What must be believed is in these files, which hold nothing else.
+-- And/or plans after Clement and Durfee (1999), and the claims of 01 about them.
+-- What must be believed is in Plan, Execution, Summary, Verdict, Calls and Demand3, which hold definitions and nothing else.
 pub mod Plan
+pub mod Execution
+pub mod Summary
+pub mod Verdict
+pub mod Calls
+pub mod Demand3
+-- What computes, proved to be the same.
+pub mod Tests
+pub mod Model

@@ -1,0 +1,88 @@
+-- Histories: the states that they leave, what holds of all their events, and what they were earlier.
+use mathlib.Core.Path.{_≡_, refl, ap}
+use mathlib.Core.Logic.{_≢_, _⊎_, inl, inr}
+use mathlib.Core.Bool.{Bool, true, false, cond}
+use mathlib.Core.List.{[], _∷_, _++_}
+use Prim.Native.Nat.{ℕ}
+use lib.Dec.{T, eqb, eqb→eq, eqb-refl}
+use Rattle.runs.specs.Execution.{waiting, Event, History, nodeOf, statusOf, statusAfter, Earlier, now, then}
+use Rattle.runs.proofs.Reflect.{clash}
+
+-- the states
+true-of : (b : Bool) → T b → b ≡ true
+true-of true t = refl
+true-of false t = absurd t
+
+false-of : (b : Bool) → ¬ T b → b ≡ false
+false-of true k = absurd (k tt)
+false-of false k = refl
+
+pub after-nil : (x : ℕ) → statusAfter [] x ≡ waiting
+unfolding statusAfter
+after-nil x = refl
+
+pub after-same : (e : Event) (h : History) → statusAfter (e ∷ h) (nodeOf e) ≡ statusOf e
+unfolding statusAfter
+after-same e h = rw (true-of (eqb (nodeOf e) (nodeOf e)) (eqb-refl (nodeOf e)))
+
+pub after-other : (e : Event) (h : History) (x : ℕ) → x ≢ nodeOf e → statusAfter (e ∷ h) x ≡ statusAfter h x
+unfolding statusAfter
+after-other e h x n = rw (false-of (eqb x (nodeOf e)) (λ t. n (eqb→eq x (nodeOf e) t)))
+
+pub after-cong : (e : Event) (h k : History) (x : ℕ) → statusAfter h x ≡ statusAfter k x → statusAfter (e ∷ h) x ≡ statusAfter (e ∷ k) x
+unfolding statusAfter
+after-cong e h k x q = ap (λ z. cond (eqb x (nodeOf e)) (statusOf e) z) q
+
+-- every event of a list
+pub data All (Q : Event → Type 0) : History → Type 0 where
+  all-nil : All Q []
+  all-cons : {e : Event} {h : History} → Q e → All Q h → All Q (e ∷ h)
+
+module _ {Q : Event → Type 0} where
+  pub all-append : {g h : History} → All Q g → All Q h → All Q (g ++ h)
+  all-append all-nil b = b
+  all-append (all-cons q a) b = all-cons q (all-append a b)
+
+  pub all-left : (g h : History) → All Q (g ++ h) → All Q g
+  all-left [] h a = all-nil
+  all-left (e ∷ g) h (all-cons q a) = all-cons q (all-left g h a)
+
+  all-earlier : {r h : History} → Earlier r h → All Q h → All Q r
+  all-earlier now a = a
+  all-earlier (then q) (all-cons x a) = all-earlier q a
+
+  all-head : {e : Event} {r : History} → All Q (e ∷ r) → Q e
+  all-head (all-cons x y) = x
+
+  pub all-at : {e : Event} {r h : History} → Earlier (e ∷ r) h → All Q h → Q e
+  all-at q a = all-head (all-earlier q a)
+
+-- no condition on the events
+abbrev pub Anything : Event → Type 0
+Anything e = Unit {0}
+
+pub all-anything : (h : History) → All Anything h
+all-anything [] = all-nil
+all-anything (e ∷ h) = all-cons tt (all-anything h)
+
+-- what a history was earlier
+pub earlier-append : (g h : History) → Earlier h (g ++ h)
+earlier-append [] h = now
+earlier-append (e ∷ g) h = then (earlier-append g h)
+
+pub earlier-compare : {r s h : History} → Earlier r h → Earlier s h → Earlier r s ⊎ Earlier s r
+earlier-compare now y = inr y
+earlier-compare (then x) now = inl (then x)
+earlier-compare (then x) (then y) = earlier-compare x y
+
+pub earlier-nil : {e : Event} {r h : History} → Earlier (e ∷ r) h → h ≡ [] → ⊥
+earlier-nil now q = clash cc
+earlier-nil (then x) q = clash cc
+
+pub earlier-inv : {x : Event} {r k : History} → Earlier r (x ∷ k) → (r ≡ x ∷ k) ⊎ Earlier r k
+earlier-inv now = inl refl
+earlier-inv (then q) = inr q
+
+pub earlier-trans : {a b c : History} → Earlier a b → Earlier b c → Earlier a c
+earlier-trans x now = x
+earlier-trans x (then y) = then (earlier-trans x y)

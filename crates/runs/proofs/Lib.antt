@@ -1,0 +1,3 @@
+pub mod Reflect
+pub mod Plan
+pub mod Execution

@@ -1,0 +1,5 @@
+-- Laws of plans.
+pub mod Trees
+pub mod Chains
+pub mod Reflect
+pub mod Accepted

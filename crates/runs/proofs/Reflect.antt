@@ -1,0 +1,135 @@
+-- Tests reflect what they test. `Reflects b A`: the test b is true exactly if A holds. The laws named `r-x` are gathered in the ruleset `reflection`.
+use mathlib.Core.Path.{_≡_, refl, ap}
+use mathlib.Core.Logic.{_⊎_, inl, inr, _↔_}
+use mathlib.Core.Bool.{Bool, true, false, decide}
+use mathlib.Core.Option.{Option, none, some}
+use Prim.Native.Nat.{ℕ, zero, suc, _<_}
+use native.Mathlib.Omega.{arith}
+use native.Mathlib.Decide.{ℕ-discrete}
+use lib.Dec.{T, eqb, ltb, eqb→eq, eqb-refl, ltb→lt, lt→ltb}
+use Rattle.runs.specs.Tests.{both, either, implies, negate, anyBelow, allBelow, sameB, isNone, isSome}
+
+-- two constructors are equal: `clash cc`
+pub clash : {A : Type 0} → _≡_ {A = ℕ} 0 1 → A
+clash q = absurd (omega arith)
+
+pub record Reflects (b : Bool) (A : Type 0) : Type 0 where
+  pub to : T b → A
+  pub from : A → T b
+
+module _ {b : Bool} {A : Type 0} where
+  pub r-map : {B : Type 0} → A ↔ B → Reflects b A → Reflects b B
+  r-map e r = record { to = λ t. e .0 (r .to t); from = λ x. r .from (e .1 x) }
+
+  -- what a test reflects can be decided
+  pub decided : Reflects b A → Dec A
+  decided r = at b (r .to) (r .from)
+    where
+      at : (b : Bool) → (T b → A) → (A → T b) → Dec A
+      at true to from = yes (to tt)
+      at false to from = no from
+
+  pub reflects-iff : Reflects b A → T b ↔ A
+  reflects-iff r = (r .to, r .from)
+
+-- two tests of one thing are equal
+pub same-test : {b c : Bool} {A : Type 0} → Reflects b A → Reflects c A → b ≡ c
+same-test {b} {c} r s = at b c (λ t. s .from (r .to t)) (λ t. r .from (s .to t))
+  where
+    at : (b c : Bool) → (T b → T c) → (T c → T b) → b ≡ c
+    at true true to from = refl
+    at true false to from = absurd (to tt)
+    at false true to from = absurd (from tt)
+    at false false to from = refl
+
+pub r-T : (b : Bool) → Reflects b (T b)
+r-T b = record { to = λ t. t; from = λ t. t }
+
+pub r-true : Reflects true (Unit {0})
+r-true = record { to = λ t. t; from = λ t. t }
+
+-- the second test need only be right where the first holds
+pub r-guarded : {A B : Type 0} (b : Bool) (g : Unit {0} → Bool) → Reflects b A → (A → Reflects (g tt) B) → Reflects (both b g) (A × B)
+unfolding both
+r-guarded true g ra rb = record { to = λ t. (ra .to tt, (rb (ra .to tt)) .to t); from = λ x. (rb (x .0)) .from (x .1) }
+r-guarded false g ra rb = record { to = λ t. absurd t; from = λ x. ra .from (x .0) }
+
+pub r-implies : {A B : Type 0} (b : Bool) (g : Unit {0} → Bool) → Reflects b A → (A → Reflects (g tt) B) → Reflects (implies b g) (A → B)
+unfolding implies
+r-implies true g ra rb = record { to = λ t a. (rb a) .to t; from = λ h. (rb (ra .to tt)) .from (h (ra .to tt)) }
+r-implies false g ra rb = record { to = λ t a. absurd (ra .from a); from = λ h. tt }
+
+pub r-both : {A B : Type 0} (b : Bool) (g : Unit {0} → Bool) → Reflects b A → Reflects (g tt) B → Reflects (both b g) (A × B)
+r-both b g ra rb = r-guarded b g ra (λ a. rb)
+
+pub r-either : {A B : Type 0} (b : Bool) (g : Unit {0} → Bool) → Reflects b A → Reflects (g tt) B → Reflects (either b g) (A ⊎ B)
+unfolding either
+r-either {A} {B} true g ra rb = record { to = λ t. inl (ra .to tt); from = λ x. tt }
+r-either {A} {B} false g ra rb = record { to = λ t. inr (rb .to t); from = back }
+  where
+    back : A ⊎ B → T (g tt)
+    back (inl a) = absurd (ra .from a)
+    back (inr b) = rb .from b
+
+pub r-negate : {A : Type 0} (b : Bool) → Reflects b A → Reflects (negate b) (¬ A)
+unfolding negate
+r-negate true ra = record { to = λ t. absurd t; from = λ k. k (ra .to tt) }
+r-negate false ra = record { to = λ t a. ra .from a; from = λ k. tt }
+
+pub r-any : (P : ℕ → Type 0) (m : ℕ) (g : ℕ → Bool) → ((i : ℕ) → Reflects (g i) (P i)) → Reflects (anyBelow m g) ((i : ℕ) × (i < m) × P i)
+unfolding anyBelow
+r-any P zero g r = record { to = λ t. absurd t; from = λ x. absurd (omega (arith, x .1)) }
+r-any P (suc m) g r = r-map (up, down) (r-either (g m) (λ u. anyBelow m g) (r m) (r-any P m g r))
+  where
+    up : P m ⊎ ((i : ℕ) × (i < m) × P i) → (i : ℕ) × (i < suc m) × P i
+    up (inl x) = (m, omega arith, x)
+    up (inr (i, l, x)) = (i, omega arith, x)
+
+    down : (i : ℕ) × (i < suc m) × P i → P m ⊎ ((i : ℕ) × (i < m) × P i)
+    down (i, l, x) = at (ℕ-discrete i m)
+      where
+        at : Dec (i ≡ m) → P m ⊎ ((i : ℕ) × (i < m) × P i)
+        at (yes e) = inl (rw e at x)
+        at (no ne) = inr (i, omega arith, x)
+
+pub r-all : (P : ℕ → Type 0) (m : ℕ) (g : ℕ → Bool) → ((i : ℕ) → Reflects (g i) (P i)) → Reflects (allBelow m g) ((i : ℕ) → i < m → P i)
+unfolding allBelow
+r-all P zero g r = record { to = λ t i l. absurd (omega arith); from = λ x. tt }
+r-all P (suc m) g r = r-map (up, λ h. (h m (omega arith), λ i l. h i (omega arith))) (r-both (g m) (λ u. allBelow m g) (r m) (r-all P m g r))
+  where
+    up : P m × ((i : ℕ) → i < m → P i) → (i : ℕ) → i < suc m → P i
+    up (x, h) i l = at (ℕ-discrete i m)
+      where
+        at : Dec (i ≡ m) → P i
+        at (yes e) = rw e x
+        at (no ne) = h i (omega arith)
+
+pub r-decide : {A : Type 0} (d : Dec A) → Reflects (decide d) A
+unfolding decide
+r-decide (yes a) = record { to = λ t. a; from = λ x. tt }
+r-decide (no k) = record { to = λ t. absurd t; from = λ x. k x }
+
+pub r-eq : (a b : ℕ) → Reflects (eqb a b) (a ≡ b)
+r-eq a b = record { to = eqb→eq a b; from = λ e. rw e (eqb-refl b) }
+
+pub r-lt : (a b : ℕ) → Reflects (ltb a b) (a < b)
+r-lt a b = record { to = ltb→lt a b; from = lt→ltb a b }
+
+pub r-same : (u v : Bool) → Reflects (sameB u v) (u ≡ v)
+unfolding sameB
+r-same true true = record { to = λ t. refl; from = λ q. tt }
+r-same true false = record { to = λ t. absurd t; from = λ q. clash cc }
+r-same false true = record { to = λ t. absurd t; from = λ q. clash cc }
+r-same false false = record { to = λ t. refl; from = λ q. tt }
+
+pub r-none : (o : Option Bool) → Reflects (isNone o) (o ≡ none)
+unfolding isNone
+r-none none = record { to = λ t. refl; from = λ q. tt }
+r-none (some u) = record { to = λ t. absurd t; from = λ q. clash cc }
+
+pub r-some : (o : Option Bool) (v : Bool) → Reflects (isSome o v) (o ≡ some v)
+unfolding isSome
+r-some none v = record { to = λ t. absurd t; from = λ q. clash cc }
+r-some (some u) v = r-map (ap some, λ q. cc) (r-same u v)
+
+pub ruleset reflection = (r-both, r-either, r-negate, r-T, r-decide, r-eq, r-lt, r-same, r-none, r-some)

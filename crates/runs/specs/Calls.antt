@@ -1,0 +1,137 @@
+-- The monitor's calls on a plan: refusals 17 to 22 and the states, as 01 words them, for any numbers and any states, reachable or not. Definitions only.
+use mathlib.Core.Path.{_≡_}
+use mathlib.Core.Logic.{_≢_, _⊎_}
+use mathlib.Core.Bool.{Bool, not}
+use mathlib.Core.Option.{Option·getD, some}
+use mathlib.Core.List.{List, [], _∷_}
+use Prim.Native.Nat.{ℕ}
+use lib.Dec.{T}
+use Rattle.runs.specs.Plan.{task, Picks, inc, Plan, Node, Child, Under}
+use Rattle.runs.specs.Execution.{Status, waiting, running, done, State, Event, start, finish, History, nodeOf, moved, Complete, Rival, preOf}
+use Rattle.runs.specs.Execution.{asserts}
+
+-- a call asks for an event of any number
+pub data Call : Type 0 where
+  one : Event → Call
+
+-- the events that it stands for, the newest first
+abbrev pub events : Call → History
+events (one e) = e ∷ []
+
+-- the states that 01 works out from the book and the calls: the status of each task, the value of each flag
+pub record World : Type 0 where
+  pub status : State
+  pub flag : ℕ → Bool
+
+-- at first every task waits and each flag is as its start bit says
+abbrev pub fresh : (ℕ → Bool) → World
+fresh F = record { status = λ x. waiting; flag = F }
+
+-- an event moves its task on and makes its literals true
+abbrev pub happen : Plan → World → Event → World
+happen p a e = record { status = moved (a .status) e; flag = λ f. Option·getD (asserts p e f) (a .flag f) }
+
+abbrev pub happenAll : Plan → World → History → World
+happenAll p a [] = a
+happenAll p a (e ∷ h) = happen p (happenAll p a h) e
+
+-- what a start or a finish can be refused for, on an accepted book and a well-formed record
+pub data Refusal : Type 0 where
+  no-task wrong-status branch-begun order-open pre-unmet inc-broken : Refusal
+  deriving Discrete as Refusal-discrete
+
+abbrev pub number : Refusal → ℕ
+number no-task = 17
+number wrong-status = 18
+number branch-begun = 19
+number order-open = 20
+number pre-unmet = 21
+number inc-broken = 22
+
+-- the status that an event asks of its task
+abbrev pub asks : Event → Status
+asks (start t) = waiting
+asks (finish t) = running
+
+module _ (p : Plan) where
+  pub record Task (t : ℕ) : Type 0 where
+    pub node : Node p t
+    pub is-task : p .tree .kind t ≡ task
+
+  -- 19: another branch of an any-of group above t is taken
+  pub record BranchBegun (s : State) (t : ℕ) : Type 0 where
+    pub group : ℕ
+    pub own : ℕ
+    pub picks : Picks (p .tree .kind group)
+    pub own-child : Child p group own
+    pub above : Under p own t
+    pub rival : Rival p s group own
+
+  -- 20: an order applies to t, and its earlier node is not complete
+  pub record OrderOpen (s : State) (t : ℕ) : Type 0 where
+    pub earlier : ℕ
+    pub later : ℕ
+    pub ordered : T (p .order earlier later)
+    pub above : Under p later t
+    pub incomplete : ¬ Complete p s earlier
+
+  -- 21: a need is unmet
+  pub record PreUnmet (flag : ℕ → Bool) (e : Event) : Type 0 where
+    pub on : ℕ
+    pub sign : Bool
+    pub needs : preOf (p .cond) e on ≡ some sign
+    pub unmet : flag on ≡ not sign
+
+  -- 22: the event would break a hold of another running task: it writes the opposite
+  pub record IncBroken (s : State) (e : Event) : Type 0 where
+    pub who : ℕ
+    pub on : ℕ
+    pub sign : Bool
+    pub another : nodeOf e ≢ who
+    pub runs : s who ≡ running
+    pub holds : p .cond .sign inc who on ≡ some sign
+    pub breaks : asserts p e on ≡ some (not sign)
+
+  -- 01's table of refusals, row by row
+  abbrev pub Applies : World → Call → Refusal → Type 0
+  Applies a (one e) no-task = ¬ Task (nodeOf e)
+  Applies a (one e) wrong-status = a .status (nodeOf e) ≢ asks e
+  Applies a (one e) branch-begun = BranchBegun (a .status) (nodeOf e)
+  Applies a (one e) order-open = OrderOpen (a .status) (nodeOf e)
+  Applies a (one e) pre-unmet = PreUnmet (a .flag) e
+  Applies a (one e) inc-broken = IncBroken (a .status) e
+
+-- the checks that concern a call, in their order
+abbrev pub checks : Call → List Refusal
+checks (one (start t)) = no-task ∷ wrong-status ∷ branch-begun ∷ order-open ∷ pre-unmet ∷ inc-broken ∷ []
+checks (one (finish t)) = no-task ∷ wrong-status ∷ inc-broken ∷ []
+
+-- r is the first of a list that applies; none of a list applies
+abbrev pub First : (Refusal → Type 0) → Refusal → List Refusal → Type 0
+First A r [] = ⊥
+First A r (q ∷ l) = ((q ≡ r) × A r) ⊎ ((¬ A q) × First A r l)
+
+abbrev pub None : (Refusal → Type 0) → List Refusal → Type 0
+None A [] = Unit {0}
+None A (q ∷ l) = (¬ A q) × None A l
+
+-- One call from the states a: it returns 0 and its events happen, if no check applies; otherwise it returns the first that does and changes nothing.
+pub data Answered (p : Plan) (a : World) (c : Call) : ℕ → World → Type 0 where
+  accepted : None (Applies p a c) (checks c) → Answered p a c 0 (happenAll p a (events c))
+  refused : (r : Refusal) → First (Applies p a c) r (checks c) → Answered p a c (number r) a
+
+-- A list of calls, the first call first: its returns, and the states after it.
+pub data Worked (p : Plan) : World → List Call → List ℕ → World → Type 0 where
+  no-calls : {a : World} → Worked p a [] [] a
+  next-call : {a b z : World} {c : Call} {cs : List Call} {n : ℕ} {ns : List ℕ} → Answered p a c n b → Worked p b cs ns z → Worked p a (c ∷ cs) (n ∷ ns) z
+
+-- the state's byte for a task (01: record)
+abbrev pub statusByte : Status → ℕ
+statusByte waiting = 0
+statusByte running = 1
+statusByte done = 2
+
+-- r is in a list of returns
+pub data Among (r : ℕ) : List ℕ → Type 0 where
+  here : {l : List ℕ} → Among r (r ∷ l)
+  there : {x : ℕ} {l : List ℕ} → Among r l → Among r (x ∷ l)

@@ -1,0 +1,100 @@
+-- The calls as functions that compute: refusals, the number returned, the states; over lists of calls with the first call first. Definitions only.
+use mathlib.Core.Bool.{Bool, true, false, not, decide}
+use mathlib.Core.Option.{Option, none, some}
+use mathlib.Core.List.{List, [], _∷_}
+use Prim.Native.Nat.{ℕ, zero, suc}
+use lib.Dec.{eqb}
+use Rattle.runs.specs.Tests.{both, negate, anyBelow, isSome}
+use Rattle.runs.specs.Plan.{task, inc, Plan}
+use Rattle.runs.specs.Execution.{Status, waiting, running, done, Status-discrete, State, Event, nodeOf, preOf, asserts}
+use Rattle.runs.specs.Calls.{Call, one, events, World, happenAll, Refusal, no-task, wrong-status, branch-begun, order-open, pre-unmet}
+use Rattle.runs.specs.Calls.{inc-broken, number, asks, checks}
+use Rattle.runs.specs.Model.Trees.{kindB, picksB, byKind, someChildB, everyChildB, underB, someTaskB}
+
+unfoldable pub statusB : Status → Status → Bool
+statusB s r = decide (Status-discrete s r)
+
+-- the two signs are there and opposite
+unfoldable pub oppositeB : Option Bool → Option Bool → Bool
+oppositeB none o = false
+oppositeB (some u) o = isSome o (not u)
+
+module _ (p : Plan) where
+  unfoldable pub taskB : ℕ → Bool
+  taskB t = both (p .tree .here t) (λ u. kindB (p .tree .kind t) task)
+
+  module _ (s : State) where
+    -- k: more than the levels under n
+    unfoldable pub completeIn : ℕ → ℕ → Bool
+    completeIn zero n = false
+    completeIn (suc k) n = byKind (p .tree .kind n) (λ u. statusB (s n) done)
+        (λ u. everyChildB p n (λ c. completeIn k c)) (λ u. someChildB p n (λ c. completeIn k c))
+
+    unfoldable pub completeB : ℕ → Bool
+    completeB n = completeIn (p .tree .size) n
+
+    unfoldable pub begunB : ℕ → Bool
+    begunB b = someTaskB p b (λ t. negate (statusB (s t) waiting))
+
+    unfoldable pub rivalB : ℕ → ℕ → Bool
+    rivalB g b = someChildB p g (λ c. both (negate (eqb c b)) (λ u. begunB c))
+
+    unfoldable pub branchBegunB : ℕ → Bool
+    branchBegunB t = anyBelow (p .tree .size)
+        (λ g. both (picksB (p .tree .kind g)) (λ u. someChildB p g (λ b. both (underB p b t) (λ u. rivalB g b))))
+
+    unfoldable pub orderOpenB : ℕ → Bool
+    orderOpenB t = anyBelow (p .tree .size) (λ a. anyBelow (p .tree .size)
+        (λ b. both (p .order a b) (λ u. both (underB p b t) (λ u. negate (completeB a)))))
+
+    unfoldable pub incBrokenB : Event → Bool
+    incBrokenB e = anyBelow (p .tree .size) (λ t. both (negate (eqb (nodeOf e) t)) (λ u. both (statusB (s t) running)
+        (λ u. anyBelow (p .cond .flags) (λ f. oppositeB (p .cond .sign inc t f) (asserts p e f)))))
+
+  unfoldable pub preUnmetB : (ℕ → Bool) → Event → Bool
+  preUnmetB flag e = anyBelow (p .cond .flags) (λ f. isSome (preOf (p .cond) e f) (not (flag f)))
+
+  unfoldable pub appliesB : World → Call → Refusal → Bool
+  appliesB a (one e) no-task = negate (taskB (nodeOf e))
+  appliesB a (one e) wrong-status = negate (statusB (a .status (nodeOf e)) (asks e))
+  appliesB a (one e) branch-begun = branchBegunB (a .status) (nodeOf e)
+  appliesB a (one e) order-open = orderOpenB (a .status) (nodeOf e)
+  appliesB a (one e) pre-unmet = preUnmetB (a .flag) e
+  appliesB a (one e) inc-broken = incBrokenB (a .status) e
+
+abbrev pub orElse : Bool → Refusal → (Unit {0} → Option Refusal) → Option Refusal
+orElse true r k = some r
+orElse false r k = k tt
+
+unfoldable pub firstOf : (Refusal → Bool) → List Refusal → Option Refusal
+firstOf g [] = none
+firstOf g (q ∷ l) = orElse (g q) q (λ u. firstOf g l)
+
+abbrev pub code : Option Refusal → ℕ
+code none = 0
+code (some r) = number r
+
+abbrev pub settle : Option Refusal → World → World → World
+settle none old new = new
+settle (some r) old new = old
+
+module _ (p : Plan) where
+  -- the first check that applies
+  unfoldable pub refusalOf : World → Call → Option Refusal
+  refusalOf a c = firstOf (appliesB p a c) (checks c)
+
+  -- what the call returns
+  unfoldable pub returned : World → Call → ℕ
+  returned a c = code (refusalOf a c)
+
+  -- the states after it
+  unfoldable pub step : World → Call → World
+  step a c = settle (refusalOf a c) a (happenAll p a (events c))
+
+  unfoldable pub returns : World → List Call → List ℕ
+  returns a [] = []
+  returns a (c ∷ cs) = returned a c ∷ returns (step a c) cs
+
+  unfoldable pub states : World → List Call → World
+  states a [] = a
+  states a (c ∷ cs) = states (step a c) cs

@@ -1,0 +1,40 @@
+-- Tests that compute, put together. What need not be computed stands under a λ, for an argument is computed before a call. Definitions only.
+-- They are shut where they are used, so that laws about them find their arguments; a proof by computation names them on its `unfolding` line.
+use mathlib.Core.Bool.{Bool, true, false, not}
+use mathlib.Core.Option.{Option, none, some}
+use Prim.Native.Nat.{ℕ, zero, suc}
+
+unfoldable pub both : Bool → (Unit {0} → Bool) → Bool
+both true g = g tt
+both false g = false
+
+unfoldable pub either : Bool → (Unit {0} → Bool) → Bool
+either true g = true
+either false g = g tt
+
+unfoldable pub implies : Bool → (Unit {0} → Bool) → Bool
+implies true g = g tt
+implies false g = true
+
+unfoldable pub negate : Bool → Bool
+negate b = not b
+
+unfoldable pub anyBelow : ℕ → (ℕ → Bool) → Bool
+anyBelow zero g = false
+anyBelow (suc m) g = either (g m) (λ u. anyBelow m g)
+
+unfoldable pub allBelow : ℕ → (ℕ → Bool) → Bool
+allBelow zero g = true
+allBelow (suc m) g = both (g m) (λ u. allBelow m g)
+
+unfoldable pub sameB : Bool → Bool → Bool
+sameB true v = v
+sameB false v = not v
+
+unfoldable pub isNone : Option Bool → Bool
+isNone none = true
+isNone (some u) = false
+
+unfoldable pub isSome : Option Bool → Bool → Bool
+isSome none v = false
+isSome (some u) v = sameB u v
