@@ -1,0 +1,119 @@
+-- Meet Q H: some execution comes to an event in H with only Q before it. Its rules by children.
+use mathlib.Core.Path.{_≡_, ap, _∙_}
+use mathlib.Core.Logic.{_⊎_, inl, inr, _↔_}
+use mathlib.Core.List.{[], _∷_, _++_, append-nil}
+use Prim.Native.Nat.{ℕ}
+use native.Mathlib.Omega.{arith}
+use Rattle.runs.specs.Plan.{task, all-of, any-of, Plan, Child, Under, Before, direct, chain, WellFormed}
+use Rattle.runs.specs.Execution.{Event, start, finish, History, nodeOf, statusAfter, Complete, Begun, Execution}
+use Rattle.runs.proofs.Plan.Trees.{child-under, Branch, one-branch}
+use Rattle.runs.proofs.Plan.Chains.{before-child, before-rank}
+use Rattle.runs.proofs.Plan.Reflect.{decBefore}
+use Rattle.runs.proofs.Execution.Histories.{All, all-nil, all-cons, all-append}
+use Rattle.runs.proofs.Execution.Locality.{branch-of}
+use Rattle.runs.proofs.Execution.Parts.{part, part-nil, part-in, part-out, part-execution, part-complete, execution-tail, execution-last}
+use Rattle.runs.proofs.Execution.Parts.{part-all}
+use Rattle.runs.proofs.Execution.AnyOf.{pick-join, any-split}
+use Rattle.runs.proofs.Execution.Extension.{extend}
+use Rattle.runs.proofs.Execution.Stages.{Staged}
+use Rattle.runs.proofs.Execution.Final.{before-complete, part-begun}
+use Rattle.runs.proofs.Execution.Task.{TaskExecution, begun, ended, task-execution, task-begun, task-ended}
+use Rattle.runs.proofs.Execution.Completeness.{picks-any}
+use Rattle.runs.proofs.Summary.Quiet.{MayQuiet, quiet-stage}
+
+module _ (p : Plan) (Q H : Event → Type 0) where
+  pub record MayMeet (n : ℕ) : Type 0 where
+    pub event : Event
+    pub before : History
+    pub execution : Execution p n (event ∷ before)
+    pub hit : H event
+    pub quiet : All Q before
+
+module _ (p : Plan) (w : WellFormed p) (Q H : Event → Type 0) where
+  -- task: the start is in H, or it is in Q and the finish is in H
+  pub meet-task : {n : ℕ} → p .tree .kind n ≡ task → MayMeet p Q H n ↔ (H (start n) ⊎ (Q (start n) × H (finish n)))
+  meet-task {n} k = (λ m. to (task-execution p w k (m .execution)) (m .hit) (m .quiet), from)
+    where
+      to : {e : Event} {r : History} → TaskExecution n (e ∷ r) → H e → All Q r → H (start n) ⊎ (Q (start n) × H (finish n))
+      to begun h q = inl h
+      to ended h (all-cons q a) = inr (q, h)
+
+      from : H (start n) ⊎ (Q (start n) × H (finish n)) → MayMeet p Q H n
+      from (inl h) = record { event = start n; before = []; execution = task-begun p w k; hit = h; quiet = all-nil }
+      from (inr (q, h)) = record { event = finish n; before = start n ∷ []; execution = task-ended p w k .execution; hit = h; quiet = all-cons q all-nil }
+
+  -- any-of: some branch
+  pub meet-any : {n : ℕ} → p .tree .kind n ≡ any-of → MayMeet p Q H n ↔ ((c : ℕ) × Child p n c × MayMeet p Q H c)
+  meet-any {n} k = (
+    λ m. let (c, hc, x) = any-split p w k (m .execution) in (
+      c,
+      hc,
+      record { event = m .event; before = m .before; execution = x; hit = m .hit; quiet = m .quiet },
+    ),
+    λ x. record {
+      event = x .2 .event;
+      before = x .2 .before;
+      execution = pick-join p w (picks-any k) (x .1)
+          (x .2 .execution);
+      hit = x .2 .hit;
+      quiet = x .2 .quiet;
+    },
+  )
+
+  abbrev MeetAll : ℕ → Type 0
+  MeetAll n = (c : ℕ) × Child p n c × MayMeet p Q H c × ((a : ℕ) → Before p a c → MayQuiet p Q a)
+
+  meet-all-to : {n : ℕ} → p .tree .kind n ≡ all-of → MayMeet p Q H n → MeetAll n
+  meet-all-to {n} k m = (
+    b .via,
+    b .child,
+    record {
+      event = m .event;
+      before = part p w (b .via) (m .before);
+      execution = rw (part-in p w (b .via) (m .event) (m .before) (b .beneath)) at (part-execution p w (child-under p (b .child)) (m .execution));
+      hit = m .hit;
+      quiet = part-all p w (b .via) (m .quiet);
+    },
+    λ a q. quiet-before a q,
+  )
+    where
+      b : Branch p n (nodeOf (m .event))
+      b = branch-of p w (statusAfter (m .before)) k (execution-last p w (m .execution))
+
+      took : Begun p (statusAfter (m .event ∷ m .before)) (b .via)
+      took = part-begun p w (m .event ∷ m .before) (child-under p (b .child)) (m .execution) (part-in p w (b .via) (m .event) (m .before) (b .beneath))
+
+      quiet-before : (a : ℕ) → Before p a (b .via) → MayQuiet p Q a
+      quiet-before a q =
+          let ha : Child p n a = before-child p w (b .child) q in
+          let ne : ¬ Under p a (nodeOf (m .event)) = λ u. irrefl q (one-branch p w ha (b .child) u (b .beneath)) in
+          let d : Complete p (statusAfter (m .event ∷ m .before)) a = before-complete p w (m .execution) (b .child) q took in
+          record {
+            history = part p w a (m .before);
+            quiet = part-all p w a (m .quiet);
+            completed = record {
+              execution = part-execution p w (child-under p ha) (execution-tail p w (m .execution));
+              complete = rw (part-out p w a (m .event) (m .before) ne) at ((part-complete p w a (m .event ∷ m .before)) .0 d);
+            };
+          }
+        where
+          irrefl : {x y : ℕ} → Before p x y → x ≡ y → ⊥
+          irrefl {x} {y} q′ e = omega (arith, before-rank p w q′, ap (w .rank) e)
+
+  meet-all-from : {n : ℕ} → p .tree .kind n ≡ all-of → MeetAll n → MayMeet p Q H n
+  meet-all-from {n} k (c, hc, m, before) = build (quiet-stage p w Q k (λ a. Before p a c) (λ a. decBefore p w a c) (λ a b ha hb q o. chain o q)
+      (λ a ha q. before a q))
+    where
+      build : Staged p w Q n [] (λ a. Before p a c) → MayMeet p Q H n
+      build s = record {
+        event = m .event;
+        before = m .before ++ (s .more ++ []);
+        hit = m .hit;
+        quiet = all-append (m .quiet) (all-append (s .good) all-nil);
+        execution = extend p w (m .event ∷ m .before) (s .more ++ []) k hc (λ a ha o. s .got a ha (direct o)) (s .execution)
+            (rw (s .kept c hc (λ q. omega (arith, before-rank p w q)) ∙ part-nil p w c, append-nil (m .event ∷ m .before)) (m .execution));
+      }
+
+  -- all-of: some child meets H, and all that stands before it is quiet
+  pub meet-all : {n : ℕ} → p .tree .kind n ≡ all-of → MayMeet p Q H n ↔ MeetAll n
+  meet-all {n} k = (meet-all-to k, meet-all-from k)
