@@ -10,5 +10,6 @@ pub mod Stages
 pub mod Completion
 pub mod Final
 pub mod Task
+pub mod Running
 pub mod Sequence
 pub mod Forward

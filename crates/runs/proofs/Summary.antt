@@ -3,3 +3,7 @@ pub mod Events
 pub mod Quiet
 pub mod Meet
 pub mod Last
+pub mod Reach
+pub mod Preconditions
+pub mod Inconditions
+pub mod Postconditions

@@ -1,0 +1,72 @@
+-- May and must external postcondition, through last and quiet.
+use mathlib.Core.Path.{_≡_, refl, ap, _∙_}
+use mathlib.Core.Logic.{_↔_}
+use mathlib.Core.Bool.{Bool, true, false, not}
+use mathlib.Core.Option.{Option, none, some}
+use mathlib.Core.List.{[], _∷_}
+use Prim.Native.Nat.{ℕ}
+use Rattle.runs.specs.Plan.{Plan}
+use Rattle.runs.specs.Execution.{History, Completed, lastAssertedOf, asserts, lastAsserted}
+use Rattle.runs.specs.Summary.{May, Must, ExternalPost}
+use Rattle.runs.proofs.Reflect.{clash, decided, r-some}
+use Rattle.runs.proofs.Summary.Events.{Unasserted, unasserted-all, all-unasserted, Asserts}
+use Rattle.runs.proofs.Summary.Last.{LastIs, here, past, MayLast}
+use Rattle.runs.proofs.Summary.Quiet.{MayQuiet}
+
+module _ (p : Plan) (f : ℕ) where
+  pub last-some : {v : Bool} {h : History} → LastIs (Unasserted p f) (Asserts p f v) h → lastAsserted p h f ≡ some v
+  unfolding lastAssertedOf
+  last-some (here x) = rw x
+  last-some (past q l) = rw q (last-some l)
+
+  pub some-last : (v : Bool) (h : History) → lastAsserted p h f ≡ some v → LastIs (Unasserted p f) (Asserts p f v) h
+  unfolding lastAssertedOf
+  some-last v [] q = clash cc
+  some-last v (e ∷ h) q = go (asserts p e f) refl (λ x. some-last v h x)
+    where
+      go : (o : Option Bool) → asserts p e f ≡ o → (lastAsserted p h f ≡ some v → LastIs (Unasserted p f) (Asserts p f v) h)
+          → LastIs (Unasserted p f) (Asserts p f v) (e ∷ h)
+      go none r ih = past r (ih (rw r at q))
+      go (some u) r ih = here (r ∙ (rw r at q))
+
+  -- may external postcondition: the literal is asserted last
+  pub may-post-is-last : {n : ℕ} (v : Bool) → May p n (ExternalPost p f v) ↔ MayLast p (Unasserted p f) (Asserts p f v) n
+  may-post-is-last {n} v = (
+    λ m. record { history = m .history; completed = m .completed; is = some-last v (m .history) (m .holds) },
+    λ m. record { history = m .history; completed = m .completed; holds = last-some (m .is) },
+  )
+
+  -- must external postcondition: no completed execution avoids the flag, none asserts the opposite last
+  pub must-post-is : {n : ℕ} (v : Bool) → Must p n (ExternalPost p f v) ↔ ((¬ MayQuiet p (Unasserted p f) n) × (¬ May p n (ExternalPost p f (not v))))
+  must-post-is {n} v = (
+    λ m. (
+      λ q. never (q .history) (m (q .history) (q .completed)) (all-unasserted p f (q .quiet)),
+      λ q. other (q .history) v
+          (m (q .history) (q .completed)) (q .holds),
+    ),
+    from,
+  )
+    where
+      never : (h : History) → lastAsserted p h f ≡ some v → lastAsserted p h f ≡ none → ⊥
+      never h a b = clash cc
+
+      other : (h : History) (v : Bool) → lastAsserted p h f ≡ some v → lastAsserted p h f ≡ some (not v) → ⊥
+      other h true a b = clash cc
+      other h false a b = clash cc
+
+      from : (¬ MayQuiet p (Unasserted p f) n) × (¬ May p n (ExternalPost p f (not v))) → (h : History) → Completed p n h → lastAsserted p h f ≡ some v
+      from (a, b) h wh = at (lastAsserted p h f) refl
+        where
+          flip : (u v : Bool) → ¬ (u ≡ v) → u ≡ not v
+          flip true true k = absurd (k refl)
+          flip true false k = refl
+          flip false true k = refl
+          flip false false k = absurd (k refl)
+
+          same : (u : Bool) → lastAsserted p h f ≡ some u → Dec (some u ≡ some v) → lastAsserted p h f ≡ some v
+          same u q (yes e) = q ∙ e
+          same u q (no ne) = absurd (b (record { history = h; completed = wh; holds = q ∙ ap some (flip u v (λ e. ne (ap some e))) }))
+
+          at : (o : Option Bool) → lastAsserted p h f ≡ o → lastAsserted p h f ≡ some v
+          at none q = absurd (a (record { history = h; completed = wh; quiet = unasserted-all p f h q }))
+          at (some u) q = same u q (decided (r-some (some u) v))
