@@ -32,6 +32,15 @@ module _ {b : Bool} {A : Type 0} where
   pub reflects-iff : Reflects b A → T b ↔ A
   reflects-iff r = (r .to, r .from)
 
+pub dec-or : {A B : Type 0} → Dec A → Dec B → Dec (A ⊎ B)
+dec-or (yes a) d = yes (inl a)
+dec-or (no k) (yes b) = yes (inr b)
+dec-or {A} {B} (no k) (no l) = no neither
+  where
+    neither : A ⊎ B → ⊥
+    neither (inl a) = k a
+    neither (inr b) = l b
+
 -- two tests of one thing are equal
 pub same-test : {b c : Bool} {A : Type 0} → Reflects b A → Reflects c A → b ≡ c
 same-test {b} {c} r s = at b c (λ t. s .from (r .to t)) (λ t. r .from (s .to t))

@@ -7,3 +7,7 @@ pub mod Reach
 pub mod Preconditions
 pub mod Inconditions
 pub mod Postconditions
+pub mod PairsComplete
+pub mod PairsSound
+pub mod Clobber
+pub mod MustClobber

@@ -29,6 +29,13 @@ module _ (p : Plan) (f : ℕ) where
       go none r ih = past r (ih (rw r at q))
       go (some u) r ih = here (r ∙ (rw r at q))
 
+  -- some completed execution does not assert the flag
+  pub avoid-is-quiet : {n : ℕ} → May p n (λ h. lastAsserted p h f ≡ none) ↔ MayQuiet p (Unasserted p f) n
+  avoid-is-quiet = (
+    λ m. record { history = m .history; completed = m .completed; quiet = unasserted-all p f (m .history) (m .holds) },
+    λ m. record { history = m .history; completed = m .completed; holds = all-unasserted p f (m .quiet) },
+  )
+
   -- may external postcondition: the literal is asserted last
   pub may-post-is-last : {n : ℕ} (v : Bool) → May p n (ExternalPost p f v) ↔ MayLast p (Unasserted p f) (Asserts p f v) n
   may-post-is-last {n} v = (

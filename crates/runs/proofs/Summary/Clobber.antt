@@ -1,0 +1,53 @@
+-- May clobber, by children: the pair rule for all-of, some branch for any-of, never for a task.
+use mathlib.Core.Path.{_≡_, sym, _∙_}
+use mathlib.Core.Logic.{_↔_}
+use mathlib.Core.Bool.{Bool, not}
+use mathlib.Core.Option.{some}
+use mathlib.Core.List.{_∷_}
+use Prim.Native.Nat.{ℕ}
+use Rattle.runs.specs.Plan.{task, all-of, any-of, Plan, Child, WellFormed}
+use Rattle.runs.specs.Execution.{Event, History, Execution, preOf, lastAssertedOf, lastAsserted}
+use Rattle.runs.specs.Summary.{Clobbers, precondition, incondition, Clobbered, ClobberByPairs, in-child, unordered-pair, passed-on, MayClobber}
+use Rattle.runs.proofs.Reflect.{clash}
+use Rattle.runs.proofs.Execution.Locality.{enabled-under}
+use Rattle.runs.proofs.Execution.Parts.{execution-tail, execution-last}
+use Rattle.runs.proofs.Execution.AnyOf.{pick-join, any-split}
+use Rattle.runs.proofs.Execution.Final.{under-task}
+use Rattle.runs.proofs.Execution.Task.{TaskExecution, begun, ended, task-execution}
+use Rattle.runs.proofs.Execution.Completeness.{picks-any}
+use Rattle.runs.proofs.Execution.Running.{running-moved, moved-under}
+use Rattle.runs.proofs.Summary.PairsComplete.{clobber-to-pairs}
+use Rattle.runs.proofs.Summary.PairsSound.{passed-on-clobbers, in-child-clobbers, unordered-clobbers}
+
+module _ (p : Plan) (w : WellFormed p) where
+  module _ {n : ℕ} (kn : p .tree .kind n ≡ all-of) (f : ℕ) (v : Bool) where
+    pub pairs-to-clobber : ClobberByPairs p f v n → Clobbered p f v n
+    pairs-to-clobber (in-child c hc x) = in-child-clobbers p w kn f v c hc x
+    pairs-to-clobber (unordered-pair c d hc hd un wa ma) = unordered-clobbers p w kn f v c d hc hd un wa ma
+    pairs-to-clobber (passed-on c d hc hd q lv mn bt) = passed-on-clobbers p w kn f v c d hc hd q lv mn bt
+
+    -- the pair rule of 01 for all-of groups is exact
+    pub clobber-all : MayClobber p f v n ↔ ClobberByPairs p f v n
+    clobber-all = (clobber-to-pairs p w kn f v, pairs-to-clobber)
+
+  -- a choice clobbers exactly if some branch does
+  pub clobber-any : {n : ℕ} (f : ℕ) (v : Bool) → p .tree .kind n ≡ any-of → MayClobber p f v n ↔ ((c : ℕ) × Child p n c × MayClobber p f v c)
+  clobber-any {n} f v k = (
+    λ x. let (c, hc, g) = any-split p w k (x .execution) in (c, hc, record { history = x .history; event = x .event; execution = g; clobbers = x .clobbers }),
+    λ y. let x = y .2 in
+        record { history = x .history; event = x .event; execution = pick-join p w (picks-any k) (y .1) (x .execution); clobbers = x .clobbers },
+  )
+
+  -- no task does
+  pub clobber-task : {n : ℕ} (f : ℕ) (v : Bool) → p .tree .kind n ≡ task → ¬ MayClobber p f v n
+  unfolding lastAssertedOf
+  clobber-task {n} f v k x = go (x .history) (x .event) (x .execution) (x .clobbers)
+    where
+      fresh : {e : Event} {r : History} → TaskExecution n (e ∷ r) → preOf (p .cond) e f ≡ some v → lastAsserted p r f ≡ some (not v) → ⊥
+      fresh begun nd q = clash cc
+      fresh ended nd q = clash cc
+
+      go : (h : History) (e : Event) → Execution p n (e ∷ h) → Clobbers p f v h e → ⊥
+      go h e fr (precondition nd sp) = fresh (task-execution p w k fr) nd sp
+      go h e fr (incondition t ne ho ru br) = ne (sym (under-task p w k (enabled-under p (execution-last p w fr)))
+          ∙ under-task p w k (moved-under p w (execution-tail p w fr) t (running-moved ru)))

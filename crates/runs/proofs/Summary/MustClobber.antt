@@ -1,0 +1,170 @@
+-- The rule for must clobber is sound: every completed execution of such a node starts a task whose precondition was last asserted false.
+use mathlib.Core.Path.{_≡_, refl, sym}
+use mathlib.Core.Logic.{_≢_, _⊎_, inl, inr}
+use mathlib.Core.Bool.{Bool, not}
+use mathlib.Core.Option.{Option, none, some}
+use mathlib.Core.List.{[], _∷_}
+use Prim.Native.Nat.{ℕ}
+use native.Mathlib.Decide.{ℕ-discrete}
+use Rattle.runs.specs.Plan.{all-of, Plan, Child, Under, Before, Unordered, WellFormed}
+use Rattle.runs.specs.Execution.{Event, History, nodeOf, statusAfter, Execution, Completed, preOf, lastAssertedOf, asserts, lastAsserted}
+use Rattle.runs.specs.Execution.{Earlier, now, then}
+use Rattle.runs.specs.Summary.{Must, ExternalPre, ExternalPost, Silent, MustClobber, by-any-of, by-child, by-pair}
+use Rattle.runs.proofs.Reflect.{clash}
+use Rattle.runs.proofs.Plan.Trees.{child-under, Branch}
+use Rattle.runs.proofs.Plan.Reflect.{decUnder, decBefore}
+use Rattle.runs.proofs.Execution.Histories.{all-at, earlier-nil, earlier-inv}
+use Rattle.runs.proofs.Execution.Locality.{branch-of, enabled-of-task}
+use Rattle.runs.proofs.Execution.Parts.{part, part-nil, part-in, part-out, part-execution, part-complete, execution-tail, execution-last}
+use Rattle.runs.proofs.Execution.Parts.{earlier-execution}
+use Rattle.runs.proofs.Execution.AnyOf.{any-completed}
+use Rattle.runs.proofs.Execution.Final.{apart, completed-before}
+use Rattle.runs.proofs.Execution.Completeness.{complete-all}
+use Rattle.runs.proofs.Summary.Events.{Unasserted, unasserted-all}
+
+-- in the history h a task with the precondition starts after a last assertion of its opposite
+pub data Fails (p : Plan) (f : ℕ) (v : Bool) (h : History) : Type 0 where
+  pre-fails : (e : Event) (r : History) → Earlier (e ∷ r) h → preOf (p .cond) e f ≡ some v → lastAsserted p r f ≡ some (not v) → Fails p f v h
+
+module _ (p : Plan) (w : WellFormed p) where
+  -- a moment of a part is a moment of the history
+  pub record InHistory (c : ℕ) (e : Event) (k h : History) : Type 0 where
+    pub before : History
+    pub at : Earlier (e ∷ before) h
+    pub same : part p w c before ≡ k
+    pub beneath : Under p c (nodeOf e)
+
+  pub in-history : (c : ℕ) (e : Event) (k h : History) → Earlier (e ∷ k) (part p w c h) → InHistory c e k h
+  in-history c e k [] q = absurd (earlier-nil q (part-nil p w c))
+  in-history c e k (x ∷ h) q = go (decUnder p w c (nodeOf x)) (λ z. in-history c e k h z)
+    where
+      up : InHistory c e k h → InHistory c e k (x ∷ h)
+      up i = record { before = i .before; at = then (i .at); same = i .same; beneath = i .beneath }
+
+      go : Dec (Under p c (nodeOf x)) → (Earlier (e ∷ k) (part p w c h) → InHistory c e k h) → InHistory c e k (x ∷ h)
+      go (no n) ih = up (ih (rw (part-out p w c x h n) at q))
+      go (yes u) ih = split (earlier-inv (rw (part-in p w c x h u) at q))
+        where
+          split : (e ∷ k ≡ x ∷ part p w c h) ⊎ Earlier (e ∷ k) (part p w c h) → InHistory c e k (x ∷ h)
+          split (inr z) = up (ih z)
+          split (inl z) = let same-e : e ≡ x = cc in let same-k : k ≡ part p w c h = cc in
+              record { before = h; at = rw same-e now; same = sym same-k; beneath = rw same-e u }
+
+  pub earlier-part : {b : ℕ} {e : Event} {s r : History} → Under p b (nodeOf e) → Earlier (e ∷ s) r → Earlier (e ∷ part p w b s) (part p w b r)
+  earlier-part {b} {e} {s} u now = rw (part-in p w b e s u) now
+  earlier-part {b} {e} {s} u (then {e = x} {h = l} y) = lift (decUnder p w b (nodeOf x)) (earlier-part u y)
+    where
+      lift : Dec (Under p b (nodeOf x)) → Earlier (e ∷ part p w b s) (part p w b l) → Earlier (e ∷ part p w b s) (part p w b (x ∷ l))
+      lift (yes v) y = rw (part-in p w b x l v) (then y)
+      lift (no k) y = rw (part-out p w b x l k) y
+
+  -- a part's last assertion is the history's, if no other one comes after the part has begun
+  pub last-of-part : (f : ℕ) (u : Bool) (c : ℕ) (r : History)
+      → ((e : Event) (s : History) → Earlier (e ∷ s) r → ¬ Unasserted p f e → Under p c (nodeOf e) ⊎ (part p w c s ≡ []))
+      → lastAsserted p (part p w c r) f ≡ some u → lastAsserted p r f ≡ some u
+  unfolding lastAssertedOf
+  last-of-part f u c [] k q = rw (part-nil p w c) at q
+  last-of-part f u c (e ∷ s) k q = go (decUnder p w c (nodeOf e)) (asserts p e f) refl (λ z. last-of-part f u c s (λ x r y. k x r (then y)) z)
+    where
+      go : Dec (Under p c (nodeOf e)) → (o : Option Bool) → asserts p e f ≡ o
+          → (lastAsserted p (part p w c s) f ≡ some u → lastAsserted p s f ≡ some u) → lastAsserted p (e ∷ s) f ≡ some u
+      go (yes v) none wr ih = let q′ : lastAsserted p (e ∷ part p w c s) f ≡ some u = rw (part-in p w c e s v) at q in rw wr (ih (rw wr at q′))
+      go (yes v) (some o) wr ih = let q′ : lastAsserted p (e ∷ part p w c s) f ≡ some u = rw (part-in p w c e s v) at q in rw wr (rw wr at q′)
+      go (no n) none wr ih = rw wr (ih (rw (part-out p w c e s n) at q))
+      go (no n) (some o) wr ih = absurd (at (k e s now (λ z. clash cc)))
+        where
+          at : Under p c (nodeOf e) ⊎ (part p w c s ≡ []) → ⊥
+          at (inl v) = n v
+          at (inr z) = let q₁ : lastAsserted p (part p w c s) f ≡ some u = rw (part-out p w c e s n) at q in
+              let q₂ : lastAsserted p [] f ≡ some u = rw z at q₁ in clash cc
+
+  module _ (f : ℕ) (v : Bool) where
+    module _ {n : ℕ} (kn : p .tree .kind n ≡ all-of) where
+      -- an event under c comes next: nothing under what stands after c has happened
+      not-yet : {b c : ℕ} {ev e : Event} {r s : History} → Child p n b → Execution p n (ev ∷ r) → Under p c (nodeOf ev) → Before p c b
+          → Earlier (e ∷ s) r → Under p b (nodeOf e) → ⊥
+      not-yet hb fr ut q x u = earlier-nil (earlier-part u x) (apart p w fr hb q ut)
+
+      child-fails : (c : ℕ) → Child p n c → ((b : ℕ) → Child p n b → Unordered p b c → Silent p f b) → (h : History) → Execution p n h
+          → Fails p f v (part p w c h) → Fails p f v h
+      child-fails c hc un h fh (pre-fails ev r′ q nd sp) = let i : InHistory c ev r′ h = in-history c ev r′ h q in
+          pre-fails ev (i .before) (i .at) nd (last-of-part f (not v) c (i .before) (λ e s x nu. where-is i e s x nu) (rw (i .same) sp))
+        where
+          where-is : (i : InHistory c ev r′ h) (e : Event) (s : History) → Earlier (e ∷ s) (i .before) → ¬ Unasserted p f e
+              → Under p c (nodeOf e) ⊎ (part p w c s ≡ [])
+          where-is i e s x nu = go (ℕ-discrete b c) (decBefore p w b c) (decBefore p w c b)
+            where
+              fr : Execution p n (ev ∷ i .before)
+              fr = earlier-execution p w (i .at) fh
+
+              fe : Execution p n (e ∷ s)
+              fe = earlier-execution p w x (execution-tail p w fr)
+
+              be : Branch p n (nodeOf e)
+              be = branch-of p w (statusAfter s) kn (execution-last p w fe)
+
+              b : ℕ
+              b = be .via
+
+              go : Dec (b ≡ c) → Dec (Before p b c) → Dec (Before p c b) → Under p c (nodeOf e) ⊎ (part p w c s ≡ [])
+              go (yes z) y₁ y₂ = inl (rw z at (be .beneath))
+              go (no k) (yes y) y₂ = inr (apart p w fe hc y (be .beneath))
+              go (no k) (no y) (yes z) = absurd (not-yet (be .child) fr (i .beneath) z x (be .beneath))
+              go (no k) (no y) (no z) = absurd (nu (un b (be .child) (record { distinct = k; not-before = y; not-after = z }) e (enabled-of-task p (execution-last p w fe)) (be .beneath)))
+
+      pair-fails : (c d : ℕ) → Child p n c → Child p n d → Before p d c → Must p d (ExternalPost p f (not v)) → Must p c (ExternalPre p f v)
+          → ((b : ℕ) → Child p n b → b ≢ c → b ≢ d → ¬ Before p b d → ¬ Before p c b → Silent p f b) → (h : History) → Completed p n h → Fails p f v h
+      pair-fails c d hc hd dc ml mn others h wh = at (mn (part p w c h) (whole-part c hc))
+        where
+          whole-part : (a : ℕ) → Child p n a → Completed p a (part p w a h)
+          whole-part a ha = record {
+            execution = part-execution p w (child-under p ha) (wh .execution);
+            complete = (part-complete p w a h) .0
+                (complete-all p kn (wh .complete) a ha);
+          }
+
+          where-is : (x : ExternalPre p f v (part p w c h)) (i : InHistory c (x .event) (x .before) h) (e : Event) (s : History)
+              → Earlier (e ∷ s) (i .before) → ¬ Unasserted p f e → Under p d (nodeOf e) ⊎ (part p w d s ≡ [])
+          where-is nx i e s x nu = go (ℕ-discrete b d) (ℕ-discrete b c) (decBefore p w b d) (decBefore p w c b)
+            where
+              fr : Execution p n (nx .event ∷ i .before)
+              fr = earlier-execution p w (i .at) (wh .execution)
+
+              fe : Execution p n (e ∷ s)
+              fe = earlier-execution p w x (execution-tail p w fr)
+
+              be : Branch p n (nodeOf e)
+              be = branch-of p w (statusAfter s) kn (execution-last p w fe)
+
+              b : ℕ
+              b = be .via
+
+              in-part : b ≡ c → Earlier (e ∷ part p w c s) (part p w c (i .before))
+              in-part z = earlier-part (rw z at (be .beneath)) x
+
+              go : Dec (b ≡ d) → Dec (b ≡ c) → Dec (Before p b d) → Dec (Before p c b) → Under p d (nodeOf e) ⊎ (part p w d s ≡ [])
+              go (yes z) y₁ y₂ y₃ = inl (rw z at (be .beneath))
+              go (no k) (yes z) y₂ y₃ = absurd (nu (all-at {Q = Unasserted p f} (in-part z)
+                  (rw (i .same) (unasserted-all p f (nx .before) (nx .unasserted)))))
+              go (no k) (no k′) (yes y) y₃ = inr (apart p w fe hd y (be .beneath))
+              go (no k) (no k′) (no y) (yes z) = absurd (not-yet (be .child) fr (i .beneath) z x (be .beneath))
+              go (no k) (no k′) (no y) (no z) = absurd (nu (others b (be .child) k′ k y z e (enabled-of-task p (execution-last p w fe)) (be .beneath)))
+
+          at : ExternalPre p f v (part p w c h) → Fails p f v h
+          at x = let i : InHistory c (x .event) (x .before) h = in-history c (x .event) (x .before) h (x .at) in
+              pre-fails (x .event) (i .before) (i .at) (x .needs)
+              (last-of-part f (not v) d (i .before) (λ e s y nu. where-is x i e s y nu) (ml (part p w d (i .before)) (whole-d x i)))
+            where
+              whole-d : (x : ExternalPre p f v (part p w c h)) (i : InHistory c (x .event) (x .before) h) → Completed p d (part p w d (i .before))
+              whole-d x i = completed-before p w (x .event) (i .before) hc (earlier-execution p w (i .at) (wh .execution)) (i .beneath) dc
+
+    -- every completed execution of a node that must clobber fails
+    pub must-clobber-fails : {n : ℕ} → MustClobber p f v n → (h : History) → Completed p n h → Fails p f v h
+    must-clobber-fails (by-any-of k all) h wh = let (c, hc, x) = any-completed p w k wh in must-clobber-fails (all c hc) h x
+    must-clobber-fails (by-child k c hc d un) h wh = child-fails k c hc un h (wh .execution)
+        (must-clobber-fails d (part p w c h) (record {
+          execution = part-execution p w (child-under p hc)
+              (wh .execution);
+          complete = (part-complete p w c h) .0 (complete-all p k (wh .complete) c hc);
+        }))
+    must-clobber-fails (by-pair k c d hc hd q ml mn others) h wh = pair-fails k c d hc hd q ml mn others h wh

@@ -1,0 +1,160 @@
+-- An all-of group that may clobber has a pair: the children are read off the execution by projection.
+use mathlib.Core.Path.{_≡_, sym, _∙_}
+use mathlib.Core.Logic.{_≢_, _⊎_, inl, inr}
+use mathlib.Core.Bool.{Bool, not}
+use mathlib.Core.Option.{some}
+use mathlib.Core.List.{[], _∷_, _++_, append-nil}
+use Prim.Native.Nat.{ℕ}
+use native.Mathlib.Decide.{ℕ-discrete}
+use Rattle.runs.specs.Plan.{task, all-of, inc, Plan, Child, Under, Before, WellFormed, pre, post}
+use Rattle.runs.specs.Execution.{running, Event, start, finish, History, nodeOf, statusAfter, Execution, Completed, preOf, asserts}
+use Rattle.runs.specs.Execution.{lastAsserted}
+use Rattle.runs.specs.Summary.{Clobbers, precondition, incondition, TaskWith, ClobberByPairs, in-child, unordered-pair, passed-on, MayClobber}
+use Rattle.runs.proofs.Reflect.{clash}
+use Rattle.runs.proofs.Plan.Trees.{child-under, Branch, branch, one-branch}
+use Rattle.runs.proofs.Plan.Chains.{before-irrefl}
+use Rattle.runs.proofs.Plan.Reflect.{decBefore}
+use Rattle.runs.proofs.Execution.Histories.{after-nil, All, earlier-append}
+use Rattle.runs.proofs.Execution.Locality.{OfTask, enabled-of-task, all-of-rests, branch-of}
+use Rattle.runs.proofs.Execution.Parts.{part, part-in, part-out, after-part, part-execution, execution-tail, execution-last, earlier-execution}
+use Rattle.runs.proofs.Execution.Parts.{part-append, part-all}
+use Rattle.runs.proofs.Execution.Final.{apart, completed-before}
+use Rattle.runs.proofs.Execution.Running.{running-moved, running-task, moved-under, none-runs}
+use Rattle.runs.proofs.Summary.Events.{Unasserted, all-unasserted}
+use Rattle.runs.proofs.Summary.Last.{here, last-at, last-past}
+use Rattle.runs.proofs.Summary.Postconditions.{last-some, some-last}
+use Rattle.runs.proofs.Summary.Preconditions.{may-pre-is-meet}
+
+module _ (p : Plan) (w : WellFormed p) where
+  -- what an event needs, its task needs
+  need-of : {f : ℕ} {v : Bool} (d : ℕ) (e : Event) → OfTask p e → Under p d (nodeOf e) → preOf (p .cond) e f ≡ some v → TaskWith p pre inc f v d
+  need-of d (start t) k u q = record { who = t; is-task = k; beneath = u; has = inl q }
+  need-of d (finish t) k u q = clash cc
+
+  -- what an event asserts, its task holds or leaves
+  assertion-of : {f : ℕ} {v : Bool} (d : ℕ) (e : Event) → OfTask p e → Under p d (nodeOf e) → asserts p e f ≡ some v → TaskWith p inc post f v d
+  assertion-of d (start t) k u q = record { who = t; is-task = k; beneath = u; has = inl q }
+  assertion-of d (finish t) k u q = record { who = t; is-task = k; beneath = u; has = inr q }
+
+  module _ {n : ℕ} (kn : p .tree .kind n ≡ all-of) (f : ℕ) (v : Bool) where
+    -- d before b, an event under d: nothing under b has happened
+    nothing-after : {b d : ℕ} (g : History) (e : Event) (r : History) → Child p n b → Child p n d → Execution p n (e ∷ r) → Under p d (nodeOf e)
+        → Before p d b → All (Unasserted p f) g → All (Unasserted p f) (part p w b (g ++ (e ∷ r)))
+    nothing-after {b} {d} g e r hb hd fr u q a =
+        let ne : ¬ Under p b (nodeOf e) = λ x. before-irrefl p w (rw (one-branch p w hd hb u x) at q) in
+        let nil : part p w b (e ∷ r) ≡ [] = part-out p w b e r ne ∙ apart p w fr hb q u in
+        rw (part-append p w b g (e ∷ r), nil, append-nil (part p w b g)) (part-all p w b a)
+
+    pre-to-pairs : (ev : Event) (g : History) (e : Event) (r : History) → Execution p n (ev ∷ (g ++ (e ∷ r))) → preOf (p .cond) ev f ≡ some v
+        → All (Unasserted p f) g → asserts p e f ≡ some (not v) → ClobberByPairs p f v n
+    pre-to-pairs ev g e r fr nd a wr = go (ℕ-discrete d c) (decBefore p w c d) (decBefore p w d c)
+      where
+        h : History
+        h = g ++ (e ∷ r)
+
+        fe : Execution p n (e ∷ r)
+        fe = earlier-execution p w (earlier-append g (e ∷ r)) (execution-tail p w fr)
+
+        bt : Branch p n (nodeOf ev)
+        bt = branch-of p w (statusAfter h) kn (execution-last p w fr)
+
+        be : Branch p n (nodeOf e)
+        be = branch-of p w (statusAfter r) kn (execution-last p w fe)
+
+        c : ℕ
+        c = bt .via
+
+        d : ℕ
+        d = be .via
+
+        part-d : part p w d h ≡ part p w d g ++ (e ∷ part p w d r)
+        part-d = part-append p w d g (e ∷ r) ∙ rw (part-in p w d e r (be .beneath))
+
+        last-d : lastAsserted p (part p w d h) f ≡ some (not v)
+        last-d = rw part-d (last-some p f (last-past (part-all p w d a) (here wr)))
+
+        free-c : Execution p c (ev ∷ part p w c h)
+        free-c = rw (part-in p w c ev h (bt .beneath)) at (part-execution p w (child-under p (bt .child)) fr)
+
+        not-nil : (k : History) → k ++ (e ∷ part p w d r) ≡ [] → ⊥
+        not-nil [] q = clash cc
+        not-nil (x ∷ k) q = clash cc
+
+        go : Dec (d ≡ c) → Dec (Before p c d) → Dec (Before p d c) → ClobberByPairs p f v n
+        go (yes q) x y = in-child c (bt .child) (record {
+          history = part p w c h;
+          event = ev;
+          execution = free-c;
+          clobbers = precondition nd (rw (← q) last-d);
+        })
+        go (no k) (yes q) y = absurd (not-nil (part p w d g) (sym part-d ∙ apart p w fr (be .child) q (bt .beneath)))
+        go (no k) (no x) (yes q) = passed-on c d (bt .child) (be .child) q
+            (record { history = part p w d h; completed = completed-before p w ev h (bt .child) fr (bt .beneath) q; holds = last-d })
+            ((may-pre-is-meet p w f v (bt .child .node)) .1
+            (record {
+              event = ev;
+              before = part p w c h;
+              execution = free-c;
+              hit = nd;
+              quiet = nothing-after g e r (bt .child) (be .child) fe (be .beneath) q a;
+            }))
+            (λ b hb q₁ q₂. record {
+              history = part p w b h;
+              completed = completed-before p w ev h (bt .child) fr (bt .beneath) q₂;
+              holds = all-unasserted p f (nothing-after g e r hb (be .child) fe (be .beneath) q₁ a);
+            })
+        go (no k) (no x) (no y) = unordered-pair c d (bt .child) (be .child) (record { distinct = λ q. k (sym q); not-before = x; not-after = y })
+            (need-of c ev (enabled-of-task p (execution-last p w fr)) (bt .beneath) nd)
+            (assertion-of d e (enabled-of-task p (execution-last p w fe)) (be .beneath) wr)
+
+    inc-to-pairs : (e : Event) (h : History) (t : ℕ) → Execution p n (e ∷ h) → nodeOf e ≢ t → p .cond .sign inc t f ≡ some v → statusAfter h t ≡ running
+        → asserts p e f ≡ some (not v) → ClobberByPairs p f v n
+    inc-to-pairs e h t fr other ho ru br = go (ℕ-discrete d c) (decBefore p w c d) (decBefore p w d c)
+      where
+        kt : p .tree .kind t ≡ task
+        kt = running-task p w (execution-tail p w fr) t ru
+
+        ut : Under p n t
+        ut = moved-under p w (execution-tail p w fr) t (running-moved ru)
+
+        pick : (n ≡ t) ⊎ Branch p n t → Branch p n t
+        pick (inl q) = absurd (all-of-rests p w (start t) kn kt q)
+        pick (inr b) = b
+
+        bt : Branch p n t
+        bt = pick (branch p ut)
+
+        be : Branch p n (nodeOf e)
+        be = branch-of p w (statusAfter h) kn (execution-last p w fr)
+
+        c : ℕ
+        c = bt .via
+
+        d : ℕ
+        d = be .via
+
+        runs-c : statusAfter (part p w c h) t ≡ running
+        runs-c = after-part p w c h t (bt .beneath) ∙ ru
+
+        go : Dec (d ≡ c) → Dec (Before p c d) → Dec (Before p d c) → ClobberByPairs p f v n
+        go (yes q) y z = in-child c (bt .child) (record {
+          history = part p w c h;
+          event = e;
+          clobbers = incondition t other ho runs-c br;
+          execution = rw (part-in p w c e h (rw q at (be .beneath))) at (part-execution p w (child-under p (bt .child)) fr);
+        })
+        go (no k) (yes q) z = let wc : Completed p c (part p w c h) = completed-before p w e h (be .child) fr (be .beneath) q in
+            absurd (none-runs p w (bt .child .node) (wc .execution) (wc .complete) t runs-c)
+        go (no k) (no y) (yes q) = absurd (running-moved runs-c (rw (apart p w fr (bt .child) q (be .beneath)) (after-nil t)))
+        go (no k) (no y) (no z) = unordered-pair c d (bt .child) (be .child) (record { distinct = λ q. k (sym q); not-before = y; not-after = z })
+            (record { who = t; is-task = kt; beneath = bt .beneath; has = inr ho })
+            (assertion-of d e (enabled-of-task p (execution-last p w fr)) (be .beneath) br)
+
+    -- an all-of group that may clobber has a pair
+    pub clobber-to-pairs : MayClobber p f v n → ClobberByPairs p f v n
+    clobber-to-pairs x = go (x .history) (x .event) (x .execution) (x .clobbers)
+      where
+        go : (h : History) (e : Event) → Execution p n (e ∷ h) → Clobbers p f v h e → ClobberByPairs p f v n
+        go h e fr (precondition nd sp) = let a = last-at (some-last p f (not v) h sp) in
+            pre-to-pairs e (a .later) (a .event) (a .before) (rw (a .splits) at fr) nd (a .quiet) (a .hit)
+        go h e fr (incondition t ne ho ru br) = inc-to-pairs e h t fr ne ho ru br
