@@ -11,3 +11,6 @@ pub mod PairsComplete
 pub mod PairsSound
 pub mod Clobber
 pub mod MustClobber
+pub mod ReflectConditions
+pub mod ReflectClobber
+pub mod Exact

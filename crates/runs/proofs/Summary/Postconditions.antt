@@ -1,14 +1,14 @@
 -- May and must external postcondition, through last and quiet.
 use mathlib.Core.Path.{_≡_, refl, ap, _∙_}
-use mathlib.Core.Logic.{_↔_}
-use mathlib.Core.Bool.{Bool, true, false, not}
+use mathlib.Core.Logic.{_↔_, _≢_}
+use mathlib.Core.Bool.{Bool-discrete, Bool, true, false, not}
 use mathlib.Core.Option.{Option, none, some}
 use mathlib.Core.List.{[], _∷_}
 use Prim.Native.Nat.{ℕ}
 use Rattle.runs.specs.Plan.{Plan}
 use Rattle.runs.specs.Execution.{History, Completed, lastAssertedOf, asserts, lastAsserted}
 use Rattle.runs.specs.Summary.{May, Must, ExternalPost}
-use Rattle.runs.proofs.Reflect.{clash, decided, r-some}
+use Rattle.runs.proofs.Reflect.{clash}
 use Rattle.runs.proofs.Summary.Events.{Unasserted, unasserted-all, all-unasserted, Asserts}
 use Rattle.runs.proofs.Summary.Last.{LastIs, here, past, MayLast}
 use Rattle.runs.proofs.Summary.Quiet.{MayQuiet}
@@ -44,14 +44,11 @@ module _ (p : Plan) (f : ℕ) where
   )
 
   -- must external postcondition: no completed execution avoids the flag, none asserts the opposite last
-  pub must-post-is : {n : ℕ} (v : Bool) → Must p n (ExternalPost p f v) ↔ ((¬ MayQuiet p (Unasserted p f) n) × (¬ May p n (ExternalPost p f (not v))))
+  pub must-post-is : {n : ℕ} (v : Bool) → Must p n (ExternalPost p f v)
+      ↔ ((¬ May p n (λ h. lastAsserted p h f ≡ none)) × (¬ May p n (ExternalPost p f (not v))))
   must-post-is {n} v = (
-    λ m. (
-      λ q. never (q .history) (m (q .history) (q .completed)) (all-unasserted p f (q .quiet)),
-      λ q. other (q .history) v
-          (m (q .history) (q .completed)) (q .holds),
-    ),
-    from,
+    λ m. (λ q. never (q .history) (m (q .history) (q .completed)) (q .holds), λ q. other (q .history) v (m (q .history) (q .completed)) (q .holds)),
+    λ k h x. at k h x (lastAsserted p h f) refl,
   )
     where
       never : (h : History) → lastAsserted p h f ≡ some v → lastAsserted p h f ≡ none → ⊥
@@ -61,19 +58,17 @@ module _ (p : Plan) (f : ℕ) where
       other h true a b = clash cc
       other h false a b = clash cc
 
-      from : (¬ MayQuiet p (Unasserted p f) n) × (¬ May p n (ExternalPost p f (not v))) → (h : History) → Completed p n h → lastAsserted p h f ≡ some v
-      from (a, b) h wh = at (lastAsserted p h f) refl
+      flip : (u v : Bool) → u ≢ v → u ≡ not v
+      flip true true k = absurd (k refl)
+      flip true false k = refl
+      flip false true k = refl
+      flip false false k = absurd (k refl)
+
+      at : (¬ May p n (λ h. lastAsserted p h f ≡ none)) × (¬ May p n (ExternalPost p f (not v))) → (h : History) → Completed p n h
+          → (o : Option Bool) → lastAsserted p h f ≡ o → lastAsserted p h f ≡ some v
+      at (a, b) h x none q = absurd (a (record { history = h; completed = x; holds = q }))
+      at (a, b) h x (some u) q = same (Bool-discrete u v)
         where
-          flip : (u v : Bool) → ¬ (u ≡ v) → u ≡ not v
-          flip true true k = absurd (k refl)
-          flip true false k = refl
-          flip false true k = refl
-          flip false false k = absurd (k refl)
-
-          same : (u : Bool) → lastAsserted p h f ≡ some u → Dec (some u ≡ some v) → lastAsserted p h f ≡ some v
-          same u q (yes e) = q ∙ e
-          same u q (no ne) = absurd (b (record { history = h; completed = wh; holds = q ∙ ap some (flip u v (λ e. ne (ap some e))) }))
-
-          at : (o : Option Bool) → lastAsserted p h f ≡ o → lastAsserted p h f ≡ some v
-          at none q = absurd (a (record { history = h; completed = wh; quiet = unasserted-all p f h q }))
-          at (some u) q = same u q (decided (r-some (some u) v))
+          same : Dec (u ≡ v) → lastAsserted p h f ≡ some v
+          same (yes e) = q ∙ ap some e
+          same (no ne) = absurd (b (record { history = h; completed = x; holds = q ∙ ap some (flip u v ne) }))
