@@ -11,5 +11,4 @@ pub mod Completion
 pub mod Final
 pub mod Task
 pub mod Running
-pub mod Sequence
 pub mod Forward

@@ -2,3 +2,5 @@ pub mod Reflect
 pub mod Plan
 pub mod Execution
 pub mod Summary
+pub mod Verdict
+pub mod Calls

@@ -62,16 +62,17 @@ module _ (p : Plan) (w : WellFormed p) where
   pub all-of-execution : {n : ℕ} (h : History) → p .tree .kind n ≡ all-of → Execution p n h ↔ AllOfExecution n h
   all-of-execution {n} h k = (all-of-split h k, all-of-join h k)
 
+  -- the part of a completed execution under a child is a completed execution of the child
+  pub part-completed : {n c : ℕ} {h : History} → p .tree .kind n ≡ all-of → Completed p n h → Child p n c → Completed p c (part p w c h)
+  part-completed {n} {c} {h} k x hc = record {
+    execution = part-execution p w (child-under p hc) (x .execution);
+    complete = part-complete p w c h .0 (complete-all p k (x .complete) c hc);
+  }
+
   -- an execution of an all-of group is completed exactly if each part is
   pub all-of-completed : {n : ℕ} (h : History) → p .tree .kind n ≡ all-of → Completed p n h
       ↔ (Execution p n h × ((c : ℕ) → Child p n c → Completed p c (part p w c h)))
   all-of-completed {n} h k = (
-    λ x. (
-      x .execution,
-      λ c hc. record {
-        execution = part-execution p w (child-under p hc) (x .execution);
-        complete = part-complete p w c h .0 (complete-all p k (x .complete) c hc);
-      },
-    ),
+    λ x. (x .execution, λ c hc. part-completed k x hc),
     λ x. record { execution = x .0; complete = all-done k (λ c hc. part-complete p w c h .1 ((x .1 c hc) .complete)) },
   )

@@ -8,19 +8,20 @@ use native.Mathlib.Decide.{ℕ-discrete}
 use lib.Dec.{T}
 use Rattle.runs.specs.Plan.{task, all-of, any-of, Plan, Child, Under, Before, direct, WellFormed}
 use Rattle.runs.specs.Execution.{Event, start, finish, History, nodeOf, statusAfter, all-done, Complete, Execution, Completed}
-use Rattle.runs.proofs.Plan.Trees.{child-under, Branch, one-branch}
+use Rattle.runs.proofs.Plan.Trees.{Branch, one-branch}
 use Rattle.runs.proofs.Plan.Chains.{before-rank, before-trans, before-irrefl}
 use Rattle.runs.proofs.Plan.Reflect.{decBefore}
 use Rattle.runs.proofs.Execution.Histories.{All, all-nil, all-cons, earlier-append, Anything}
 use Rattle.runs.proofs.Execution.Locality.{branch-of}
-use Rattle.runs.proofs.Execution.Parts.{part, part-nil, part-in, part-out, part-execution, part-complete, execution-last, earlier-execution}
-use Rattle.runs.proofs.Execution.Parts.{execution-under, part-append, part-other, part-all}
+use Rattle.runs.proofs.Execution.Parts.{part, part-nil, part-in, part-out, execution-last, earlier-execution, execution-under, part-append}
+use Rattle.runs.proofs.Execution.Parts.{part-other, part-all}
+use Rattle.runs.proofs.Execution.AllOf.{part-completed}
 use Rattle.runs.proofs.Execution.AnyOf.{any-completed, completed-pick}
 use Rattle.runs.proofs.Execution.Extension.{complete-stays, extend-completed}
 use Rattle.runs.proofs.Execution.Stages.{Staged, stage}
 use Rattle.runs.proofs.Execution.Final.{apart}
 use Rattle.runs.proofs.Execution.Task.{task-ended, task-completed}
-use Rattle.runs.proofs.Execution.Completeness.{complete-all, picks-any}
+use Rattle.runs.proofs.Execution.Completeness.{picks-any}
 use Rattle.runs.proofs.Summary.Quiet.{MayQuiet, quiet-stage, quiet-anything}
 
 pub data LastIs (Q H : Event → Type 0) : History → Type 0 where
@@ -83,7 +84,7 @@ module _ (p : Plan) (w : WellFormed p) (Q H : Event → Type 0) where
     hc,
     record {
       history = part p w c (g ++ (e ∷ r));
-      completed = whole-part c hc;
+      completed = part-completed p w k wh hc;
       is = rw (part-append p w c g (e ∷ r), part-in p w c e r u) (last-past (part-all p w c q) (here x));
     },
     quiet-after,
@@ -104,22 +105,14 @@ module _ (p : Plan) (w : WellFormed p) (Q H : Event → Type 0) where
       u : Under p c (nodeOf e)
       u = b .beneath
 
-      whole-part : (a : ℕ) → Child p n a → Completed p a (part p w a (g ++ (e ∷ r)))
-      whole-part a ha = record {
-        execution = part-execution p w (child-under p ha)
-            (wh .execution);
-        complete = (part-complete p w a (g ++ (e ∷ r))) .0 (complete-all p k (wh .complete) a ha);
-      }
-
       quiet-after : (a : ℕ) → Child p n a → Before p c a → MayQuiet p Q a
       quiet-after a ha q′ =
           let ne : ¬ Under p a (nodeOf e) = λ v. omega (arith, before-rank p w q′, ap (w .rank) (one-branch p w hc ha u v)) in
           let nil : part p w a (e ∷ r) ≡ [] = part-out p w a e r ne ∙ apart p w fr ha q′ u in
           record {
             history = part p w a (g ++ (e ∷ r));
-            completed = whole-part a ha;
-            quiet = rw
-                (part-append p w a g (e ∷ r), nil, append-nil (part p w a g)) (part-all p w a q);
+            completed = part-completed p w k wh ha;
+            quiet = rw (part-append p w a g (e ∷ r), nil, append-nil (part p w a g)) (part-all p w a q);
           }
 
   -- some children of n run to their end, the others not begun, and in the whole an event in H has only Q after it

@@ -6,25 +6,29 @@ use mathlib.Core.Option.{Option, none, some}
 use mathlib.Core.List.{[], _∷_}
 use Prim.Native.Nat.{ℕ}
 use native.Mathlib.Decide.{ℕ-discrete}
-use Rattle.runs.specs.Plan.{all-of, Plan, Child, Under, Before, Unordered, WellFormed}
+use Rattle.runs.specs.Plan.{all-of, Plan, Child, Under, Before, Unordered, WellFormed, Node}
 use Rattle.runs.specs.Execution.{Event, History, nodeOf, statusAfter, Execution, Completed, preOf, lastAssertedOf, asserts, lastAsserted}
 use Rattle.runs.specs.Execution.{Earlier, now, then}
-use Rattle.runs.specs.Summary.{Must, ExternalPre, ExternalPost, Silent, MustClobber, by-any-of, by-child, by-pair}
+use Rattle.runs.specs.Summary.{Must, ExternalPre, ExternalPost, Silent, MustClobber, by-any-of, by-child, by-pair, MayClobber, precondition}
 use Rattle.runs.proofs.Reflect.{clash}
-use Rattle.runs.proofs.Plan.Trees.{child-under, Branch}
+use Rattle.runs.proofs.Plan.Trees.{Branch}
 use Rattle.runs.proofs.Plan.Reflect.{decUnder, decBefore}
 use Rattle.runs.proofs.Execution.Histories.{all-at, earlier-nil, earlier-inv}
 use Rattle.runs.proofs.Execution.Locality.{branch-of, enabled-of-task}
-use Rattle.runs.proofs.Execution.Parts.{part, part-nil, part-in, part-out, part-execution, part-complete, execution-tail, execution-last}
-use Rattle.runs.proofs.Execution.Parts.{earlier-execution}
+use Rattle.runs.proofs.Execution.Parts.{part, part-nil, part-in, part-out, execution-tail, execution-last, earlier-execution}
+use Rattle.runs.proofs.Execution.AllOf.{part-completed}
 use Rattle.runs.proofs.Execution.AnyOf.{any-completed}
+use Rattle.runs.proofs.Execution.Completion.{completed-execution}
 use Rattle.runs.proofs.Execution.Final.{apart, completed-before}
-use Rattle.runs.proofs.Execution.Completeness.{complete-all}
 use Rattle.runs.proofs.Summary.Events.{Unasserted, unasserted-all}
 
 -- in the history h a task with the precondition starts after a last assertion of its opposite
-pub data Fails (p : Plan) (f : ℕ) (v : Bool) (h : History) : Type 0 where
-  pre-fails : (e : Event) (r : History) → Earlier (e ∷ r) h → preOf (p .cond) e f ≡ some v → lastAsserted p r f ≡ some (not v) → Fails p f v h
+pub record Fails (p : Plan) (f : ℕ) (v : Bool) (h : History) : Type 0 where
+  pub event : Event
+  pub before : History
+  pub at : Earlier (event ∷ before) h
+  pub needs : preOf (p .cond) event f ≡ some v
+  pub opposed : lastAsserted p before f ≡ some (not v)
 
 module _ (p : Plan) (w : WellFormed p) where
   -- a moment of a part is a moment of the history
@@ -87,14 +91,21 @@ module _ (p : Plan) (w : WellFormed p) where
 
       child-fails : (c : ℕ) → Child p n c → ((b : ℕ) → Child p n b → Unordered p b c → Silent p f b) → (h : History) → Execution p n h
           → Fails p f v (part p w c h) → Fails p f v h
-      child-fails c hc un h fh (pre-fails ev r′ q nd sp) = let i : InHistory c ev r′ h = in-history c ev r′ h q in
-          pre-fails ev (i .before) (i .at) nd (last-of-part f (not v) c (i .before) (λ e s x nu. where-is i e s x nu) (rw (i .same) sp))
+      child-fails c hc un h fh y = record {
+        event = y .event;
+        before = i .before;
+        at = i .at;
+        needs = y .needs;
+        opposed = last-of-part f (not v) c (i .before) where-is (rw (i .same) (y .opposed));
+      }
         where
-          where-is : (i : InHistory c ev r′ h) (e : Event) (s : History) → Earlier (e ∷ s) (i .before) → ¬ Unasserted p f e
-              → Under p c (nodeOf e) ⊎ (part p w c s ≡ [])
-          where-is i e s x nu = go (ℕ-discrete b c) (decBefore p w b c) (decBefore p w c b)
+          i : InHistory c (y .event) (y .before) h
+          i = in-history c (y .event) (y .before) h (y .at)
+
+          where-is : (e : Event) (s : History) → Earlier (e ∷ s) (i .before) → ¬ Unasserted p f e → Under p c (nodeOf e) ⊎ (part p w c s ≡ [])
+          where-is e s x nu = go (ℕ-discrete b c) (decBefore p w b c) (decBefore p w c b)
             where
-              fr : Execution p n (ev ∷ i .before)
+              fr : Execution p n (y .event ∷ i .before)
               fr = earlier-execution p w (i .at) fh
 
               fe : Execution p n (e ∷ s)
@@ -114,18 +125,25 @@ module _ (p : Plan) (w : WellFormed p) where
 
       pair-fails : (c d : ℕ) → Child p n c → Child p n d → Before p d c → Must p d (ExternalPost p f (not v)) → Must p c (ExternalPre p f v)
           → ((b : ℕ) → Child p n b → b ≢ c → b ≢ d → ¬ Before p b d → ¬ Before p c b → Silent p f b) → (h : History) → Completed p n h → Fails p f v h
-      pair-fails c d hc hd dc ml mn others h wh = at (mn (part p w c h) (whole-part c hc))
+      pair-fails c d hc hd dc ml mn others h wh = record {
+        event = nx .event;
+        before = i .before;
+        at = i .at;
+        needs = nx .needs;
+        opposed = last-of-part f (not v) d (i .before) where-is (ml (part p w d (i .before)) whole-d);
+      }
         where
-          whole-part : (a : ℕ) → Child p n a → Completed p a (part p w a h)
-          whole-part a ha = record {
-            execution = part-execution p w (child-under p ha) (wh .execution);
-            complete = (part-complete p w a h) .0
-                (complete-all p kn (wh .complete) a ha);
-          }
+          nx : ExternalPre p f v (part p w c h)
+          nx = mn (part p w c h) (part-completed p w kn wh hc)
 
-          where-is : (x : ExternalPre p f v (part p w c h)) (i : InHistory c (x .event) (x .before) h) (e : Event) (s : History)
-              → Earlier (e ∷ s) (i .before) → ¬ Unasserted p f e → Under p d (nodeOf e) ⊎ (part p w d s ≡ [])
-          where-is nx i e s x nu = go (ℕ-discrete b d) (ℕ-discrete b c) (decBefore p w b d) (decBefore p w c b)
+          i : InHistory c (nx .event) (nx .before) h
+          i = in-history c (nx .event) (nx .before) h (nx .at)
+
+          whole-d : Completed p d (part p w d (i .before))
+          whole-d = completed-before p w (nx .event) (i .before) hc (earlier-execution p w (i .at) (wh .execution)) (i .beneath) dc
+
+          where-is : (e : Event) (s : History) → Earlier (e ∷ s) (i .before) → ¬ Unasserted p f e → Under p d (nodeOf e) ⊎ (part p w d s ≡ [])
+          where-is e s x nu = go (ℕ-discrete b d) (ℕ-discrete b c) (decBefore p w b d) (decBefore p w c b)
             where
               fr : Execution p n (nx .event ∷ i .before)
               fr = earlier-execution p w (i .at) (wh .execution)
@@ -150,21 +168,18 @@ module _ (p : Plan) (w : WellFormed p) where
               go (no k) (no k′) (no y) (yes z) = absurd (not-yet (be .child) fr (i .beneath) z x (be .beneath))
               go (no k) (no k′) (no y) (no z) = absurd (nu (others b (be .child) k′ k y z e (enabled-of-task p (execution-last p w fe)) (be .beneath)))
 
-          at : ExternalPre p f v (part p w c h) → Fails p f v h
-          at x = let i : InHistory c (x .event) (x .before) h = in-history c (x .event) (x .before) h (x .at) in
-              pre-fails (x .event) (i .before) (i .at) (x .needs)
-              (last-of-part f (not v) d (i .before) (λ e s y nu. where-is x i e s y nu) (ml (part p w d (i .before)) (whole-d x i)))
-            where
-              whole-d : (x : ExternalPre p f v (part p w c h)) (i : InHistory c (x .event) (x .before) h) → Completed p d (part p w d (i .before))
-              whole-d x i = completed-before p w (x .event) (i .before) hc (earlier-execution p w (i .at) (wh .execution)) (i .beneath) dc
-
     -- every completed execution of a node that must clobber fails
     pub must-clobber-fails : {n : ℕ} → MustClobber p f v n → (h : History) → Completed p n h → Fails p f v h
     must-clobber-fails (by-any-of k all) h wh = let (c, hc, x) = any-completed p w k wh in must-clobber-fails (all c hc) h x
-    must-clobber-fails (by-child k c hc d un) h wh = child-fails k c hc un h (wh .execution)
-        (must-clobber-fails d (part p w c h) (record {
-          execution = part-execution p w (child-under p hc)
-              (wh .execution);
-          complete = (part-complete p w c h) .0 (complete-all p k (wh .complete) c hc);
-        }))
+    must-clobber-fails (by-child k c hc d un) h x = child-fails k c hc un h (x .execution) (must-clobber-fails d (part p w c h) (part-completed p w k x hc))
     must-clobber-fails (by-pair k c d hc hd q ml mn others) h wh = pair-fails k c d hc hd q ml mn others h wh
+
+    -- doom implies may clash
+    pub must-clobber-may : {n : ℕ} → Node p n → MustClobber p f v n → MayClobber p f v n
+    must-clobber-may {n} l d = let (h, x) = completed-execution p w n l in let y : Fails p f v h = must-clobber-fails d h x in
+        record {
+          history = y .before;
+          event = y .event;
+          execution = earlier-execution p w (y .at) (x .execution);
+          clobbers = precondition (y .needs) (y .opposed);
+        }

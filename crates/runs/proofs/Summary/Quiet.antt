@@ -6,14 +6,14 @@ use Prim.Native.Nat.{ℕ}
 use lib.Dec.{T}
 use Rattle.runs.specs.Plan.{task, all-of, any-of, Plan, Child, WellFormed, Node}
 use Rattle.runs.specs.Execution.{Event, start, finish, History, all-done, none-yet, Completed}
-use Rattle.runs.proofs.Plan.Trees.{child-under}
 use Rattle.runs.proofs.Execution.Histories.{All, all-nil, all-cons, all-append, Anything, all-anything}
-use Rattle.runs.proofs.Execution.Parts.{part, part-nil, part-execution, part-complete, part-all}
+use Rattle.runs.proofs.Execution.Parts.{part, part-nil, part-all}
+use Rattle.runs.proofs.Execution.AllOf.{part-completed}
 use Rattle.runs.proofs.Execution.AnyOf.{any-completed, completed-pick}
 use Rattle.runs.proofs.Execution.Stages.{Staged, stage}
 use Rattle.runs.proofs.Execution.Completion.{completed-execution}
 use Rattle.runs.proofs.Execution.Task.{task-ended, task-completed}
-use Rattle.runs.proofs.Execution.Completeness.{complete-all, picks-any}
+use Rattle.runs.proofs.Execution.Completeness.{picks-any}
 
 module _ (p : Plan) (Q : Event → Type 0) where
   pub record MayQuiet (n : ℕ) : Type 0 where
@@ -52,11 +52,7 @@ module _ (p : Plan) (w : WellFormed p) (Q : Event → Type 0) where
   quiet-all {n} k = (
     λ m c hc. record {
       history = part p w c (m .history);
-      completed = record {
-        execution = part-execution p w (child-under p hc)
-            (m .completed .execution);
-        complete = (part-complete p w c (m .history)) .0 (complete-all p k (m .completed .complete) c hc);
-      };
+      completed = part-completed p w k (m .completed) hc;
       quiet = part-all p w c (m .quiet);
     },
     λ r. build (quiet-stage k (λ c. Unit {0}) (λ c. yes tt) (λ a b ha hb d o. tt) (λ c hc d. r c hc)),
@@ -67,8 +63,7 @@ module _ (p : Plan) (w : WellFormed p) (Q : Event → Type 0) where
         history = s .more ++ [];
         completed = record {
           execution = s .execution;
-          complete = all-done k
-              (λ c hc. s .got c hc tt);
+          complete = all-done k (λ c hc. s .got c hc tt);
         };
         quiet = all-append (s .good) all-nil;
       }

@@ -1,0 +1,3 @@
+-- Laws of the monitor's calls.
+pub mod Reflect
+pub mod First

@@ -1,0 +1,136 @@
+-- The first check that applies: its computation reflects 01's words, and one call has one return and one state after it.
+use mathlib.Core.Path.{_≡_, refl, sym, ap, _∙_}
+use mathlib.Core.Logic.{inl, inr, _⊎_, _↔_, Iff·trans}
+use mathlib.Core.Bool.{Bool, true, false}
+use mathlib.Core.Option.{Option, none, some}
+use mathlib.Core.List.{List, [], _∷_, _++_}
+use Prim.Native.Nat.{ℕ}
+use lib.Dec.{T, eqb}
+use Rattle.runs.specs.Plan.{Plan, WellFormed}
+use Rattle.runs.specs.Calls.{Call, events, World, happenAll, Refusal, no-task, wrong-status, branch-begun, order-open, pre-unmet, inc-broken}
+use Rattle.runs.specs.Calls.{number, Applies, checks, First, None, Answered, accepted, refused, Worked, no-calls, next-call}
+use Rattle.runs.specs.Model.Monitor.{appliesB, orElse, firstOf, code, settle, refusalOf, returned, step, returns, states}
+use Rattle.runs.proofs.Reflect.{clash, Reflects}
+use Rattle.runs.proofs.Calls.Reflect.{r-applies}
+
+-- over any rows A with tests g
+module _ (A : Refusal → Type 0) (g : Refusal → Bool) (r : (x : Refusal) → Reflects (g x) (A x)) where
+  applies : (q : Refusal) → g q ≡ true → A q
+  applies q z = (r q) .to (rw z tt)
+
+  applies-not : (q : Refusal) → g q ≡ false → ¬ A q
+  applies-not q z a = let y : T (g q) = (r q) .from a in rw z at y
+
+  first-is : (x : Refusal) (l : List Refusal) → (firstOf g l ≡ some x) ↔ First A x l
+  unfolding firstOf
+  first-is x [] = (λ q. clash cc, λ t. absurd t)
+  first-is x (q ∷ l) = go (g q) refl (first-is x l)
+    where
+      go : (b : Bool) → g q ≡ b → ((firstOf g l ≡ some x) ↔ First A x l) → (orElse b q (λ u. firstOf g l) ≡ some x) ↔ First A x (q ∷ l)
+      go true z ih = (λ e. let y : q ≡ x = cc in inl (y, rw y at (applies q z)), from)
+        where
+          from : First A x (q ∷ l) → some q ≡ some x
+          from (inl (e, a)) = ap some e
+          from (inr (k, t)) = absurd (k (applies q z))
+      go false z ih = (λ e. inr (applies-not q z, ih .0 e), from)
+        where
+          from : First A x (q ∷ l) → firstOf g l ≡ some x
+          from (inl (e, a)) = absurd (applies-not q z (rw (← e) at a))
+          from (inr (k, t)) = ih .1 t
+
+  none-is : (l : List Refusal) → (firstOf g l ≡ none) ↔ None A l
+  unfolding firstOf
+  none-is [] = (λ q. tt, λ t. refl)
+  none-is (q ∷ l) = go (g q) refl (none-is l)
+    where
+      go : (b : Bool) → g q ≡ b → ((firstOf g l ≡ none) ↔ None A l) → (orElse b q (λ u. firstOf g l) ≡ none) ↔ None A (q ∷ l)
+      go true z ih = (λ e. clash cc, λ t. absurd (t .0 (applies q z)))
+      go false z ih = (λ e. (applies-not q z, ih .0 e), λ t. ih .1 (t .1))
+
+-- over any rows A, and two lists of checks one after the other
+module _ (A : Refusal → Type 0) where
+  pub none-append : (l k : List Refusal) → None A (l ++ k) ↔ (None A l × None A k)
+  none-append [] k = (λ x. (tt, x), λ x. x .1)
+  none-append (q ∷ l) k = let e = none-append l k in
+      (λ x. let y = e .0 (x .1) in ((x .0, y .0), y .1), λ x. (x .0 .0, e .1 (x .0 .1, x .1)))
+
+  pub first-append : (r : Refusal) (l k : List Refusal) → First A r (l ++ k) → First A r l ⊎ (None A l × First A r k)
+  first-append r [] k x = inr (tt, x)
+  first-append r (q ∷ l) k (inl y) = inl (inl y)
+  first-append r (q ∷ l) k (inr (n, x)) = at (first-append r l k x)
+    where
+      at : First A r l ⊎ (None A l × First A r k) → First A r (q ∷ l) ⊎ (None A (q ∷ l) × First A r k)
+      at (inl y) = inl (inr (n, y))
+      at (inr (m, y)) = inr ((n, m), y)
+
+  pub first-not-none : (r : Refusal) (l : List Refusal) → First A r l → None A l → ⊥
+  first-not-none r [] x n = x
+  first-not-none r (q ∷ l) (inl (e, a)) n = n .0 (rw (← e) at a)
+  first-not-none r (q ∷ l) (inr (k, x)) n = first-not-none r l x (n .1)
+
+-- the number tells the refusal
+ofNumber : ℕ → Option Refusal
+ofNumber n = orElse (eqb n 17) no-task (λ u. orElse (eqb n 18) wrong-status (λ u. orElse (eqb n 19) branch-begun
+    (λ u. orElse (eqb n 20) order-open (λ u. orElse (eqb n 21) pre-unmet (λ u. orElse (eqb n 22) inc-broken (λ u. none))))))
+
+number-tells : (o : Option Refusal) → ofNumber (code o) ≡ o
+unfolding ofNumber
+number-tells none = refl
+number-tells (some no-task) = refl
+number-tells (some wrong-status) = refl
+number-tells (some branch-begun) = refl
+number-tells (some order-open) = refl
+number-tells (some pre-unmet) = refl
+number-tells (some inc-broken) = refl
+
+pub code-inj : {o x : Option Refusal} → code o ≡ code x → o ≡ x
+code-inj {o} {x} q = sym (number-tells o) ∙ ap ofNumber q ∙ number-tells x
+
+module _ (p : Plan) (w : WellFormed p) (a : World) (c : Call) where
+  -- a call is refused for the first of its checks that applies, and accepted exactly if none does
+  pub refused-first : (r : Refusal) → (refusalOf p a c ≡ some r) ↔ First (Applies p a c) r (checks c)
+  unfolding refusalOf
+  refused-first r = first-is (Applies p a c) (appliesB p a c) (r-applies p w a c) r (checks c)
+
+  pub refused-none : (refusalOf p a c ≡ none) ↔ None (Applies p a c) (checks c)
+  unfolding refusalOf
+  refused-none = none-is (Applies p a c) (appliesB p a c) (r-applies p w a c) (checks c)
+
+  -- a call returns the number of the first of its checks that applies, and 0 exactly if none does
+  pub returned-first : (r : Refusal) → (returned p a c ≡ number r) ↔ First (Applies p a c) r (checks c)
+  unfolding returned
+  returned-first r = Iff·trans (λ q. code-inj {o = refusalOf p a c} {x = some r} q, λ q. ap code q) (refused-first r)
+
+  pub returned-zero : (returned p a c ≡ 0) ↔ None (Applies p a c) (checks c)
+  unfolding returned
+  returned-zero = Iff·trans (λ q. code-inj {o = refusalOf p a c} {x = none} q, λ q. ap code q) refused-none
+
+  -- what is computed for a call is what 01 says of it, and there is nothing else
+  pub answered : Answered p a c (returned p a c) (step p a c)
+  unfolding returned step
+  answered = go (refusalOf p a c) refl
+    where
+      go : (o : Option Refusal) → refusalOf p a c ≡ o → Answered p a c (code o) (settle o a (happenAll p a (events c)))
+      go none q = accepted (refused-none .0 q)
+      go (some r) q = refused r ((refused-first r) .0 q)
+
+  pub answered-only : {n : ℕ} {b : World} → Answered p a c n b → (n ≡ returned p a c) × (b ≡ step p a c)
+  unfolding returned step
+  answered-only (accepted k) = let q : refusalOf p a c ≡ none = refused-none .1 k in (rw q, rw q)
+  answered-only (refused r k) = let q : refusalOf p a c ≡ some r = (refused-first r) .1 k in (rw q, rw q)
+
+module _ (p : Plan) (w : WellFormed p) where
+  -- the same for lists of calls
+  pub worked : (a : World) (cs : List Call) → Worked p a cs (returns p a cs) (states p a cs)
+  unfolding returns states
+  worked a [] = no-calls
+  worked a (c ∷ cs) = next-call (answered p w a c) (worked (step p a c) cs)
+
+  pub worked-only : {a z : World} {cs : List Call} {ns : List ℕ} → Worked p a cs ns z → (ns ≡ returns p a cs) × (z ≡ states p a cs)
+  unfolding returns states
+  worked-only no-calls = (refl, refl)
+  worked-only (next-call {a = a} {b = b} {z = z} {c = c} {cs = cs} {n = n} {ns = ns} x y) = at (answered-only p w a c x) (worked-only y)
+    where
+      at : (n ≡ returned p a c) × (b ≡ step p a c) → (ns ≡ returns p b cs) × (z ≡ states p b cs)
+          → (n ∷ ns ≡ returned p a c ∷ returns p (step p a c) cs) × (z ≡ states p (step p a c) cs)
+      at (e, f) (g, h) = (rw (e, g, f), h ∙ ap (λ b. states p b cs) f)
