@@ -1,3 +1,8 @@
 -- Laws of the monitor's calls.
 pub mod Reflect
 pub mod First
+pub mod Violation
+pub mod Accepted
+pub mod Rows
+pub mod Lists
+pub mod Demand3

@@ -1,16 +1,17 @@
 -- The first check that applies: its computation reflects 01's words, and one call has one return and one state after it.
 use mathlib.Core.Path.{_≡_, refl, sym, ap, _∙_}
 use mathlib.Core.Logic.{inl, inr, _⊎_, _↔_, Iff·trans}
-use mathlib.Core.Bool.{Bool, true, false}
+use mathlib.Core.Bool.{Bool, true, false, decide}
 use mathlib.Core.Option.{Option, none, some}
 use mathlib.Core.List.{List, [], _∷_, _++_}
 use Prim.Native.Nat.{ℕ}
 use lib.Dec.{T, eqb}
+use Rattle.runs.specs.Tests.{either}
 use Rattle.runs.specs.Plan.{Plan, WellFormed}
 use Rattle.runs.specs.Calls.{Call, events, World, happenAll, Refusal, no-task, wrong-status, branch-begun, order-open, pre-unmet, inc-broken}
-use Rattle.runs.specs.Calls.{number, Applies, checks, First, None, Answered, accepted, refused, Worked, no-calls, next-call}
+use Rattle.runs.specs.Calls.{number, Applies, checks, First, None, Answered, accepted, refused, Worked, no-calls, next-call, Refusal-discrete}
 use Rattle.runs.specs.Model.Monitor.{appliesB, orElse, firstOf, code, settle, refusalOf, returned, step, returns, states}
-use Rattle.runs.proofs.Reflect.{clash, Reflects}
+use Rattle.runs.proofs.Reflect.{r-either, r-decide, r-T, clash, Reflects}
 use Rattle.runs.proofs.Calls.Reflect.{r-applies}
 
 -- over any rows A with tests g
@@ -67,6 +68,20 @@ module _ (A : Refusal → Type 0) where
   first-not-none r [] x n = x
   first-not-none r (q ∷ l) (inl (e, a)) n = n .0 (rw (← e) at a)
   first-not-none r (q ∷ l) (inr (k, x)) n = first-not-none r l x (n .1)
+
+-- what is first in a list is in it
+unfoldable pub memberB : Refusal → List Refusal → Bool
+memberB r [] = false
+memberB r (q ∷ l) = either (decide (Refusal-discrete q r)) (λ u. memberB r l)
+
+pub first-member : (A : Refusal → Type 0) (r : Refusal) (l : List Refusal) → First A r l → T (memberB r l)
+unfolding memberB
+first-member A r [] x = x
+first-member A r (q ∷ l) x = (r-either _ _ (r-decide (Refusal-discrete q r)) (r-T (memberB r l))) .from (at x (first-member A r l))
+  where
+    at : First A r (q ∷ l) → (First A r l → T (memberB r l)) → (q ≡ r) ⊎ T (memberB r l)
+    at (inl (e, a)) ih = inl e
+    at (inr (k, y)) ih = inr (ih y)
 
 -- the number tells the refusal
 ofNumber : ℕ → Option Refusal

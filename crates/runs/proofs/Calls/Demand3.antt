@@ -1,0 +1,119 @@
+-- Demand 3 holds of every well-formed plan, whatever flags are set at the start; and the same for what computes.
+use mathlib.Core.Path.{_≡_, refl, sym, ap, _∙_}
+use mathlib.Core.Logic.{_≢_, _⊎_, inl, inr, _↔_}
+use mathlib.Core.Bool.{Bool}
+use mathlib.Core.Option.{Option, none, some}
+use mathlib.Core.List.{List, [], _∷_}
+use Prim.Native.Nat.{ℕ, _≤_}
+use native.Mathlib.Omega.{arith}
+use Rattle.runs.specs.Plan.{Place, inc, post, Plan, WellFormed}
+use Rattle.runs.specs.Execution.{waiting, Status-discrete, Event, start, finish, History, statusAfter, Complete, lastAssertedOf, asserts}
+use Rattle.runs.specs.Execution.{lastAsserted}
+use Rattle.runs.specs.Verdict.{Clear, Doomed}
+use Rattle.runs.specs.Calls.{Call, World, fresh, Refusal, pre-unmet, inc-broken, number, Task, Among, Worked}
+use Rattle.runs.specs.Demand3.{Demand3}
+use Rattle.runs.specs.Model.Monitor.{returns, states}
+use Rattle.runs.specs.Model.Verdicts.{verdict}
+use Rattle.runs.proofs.Plan.Trees.{under-node}
+use Rattle.runs.proofs.Execution.Running.{moved-task, moved-under}
+use Rattle.runs.proofs.Verdict.Exact.{verdict-exact}
+use Rattle.runs.proofs.Calls.Accepted.{flat, FirstViolation, accepted-execution, clear-no-first-violation, clear-or-first-violation}
+use Rattle.runs.proofs.Calls.Accepted.{doomed-incomplete}
+use Rattle.runs.proofs.Calls.First.{worked, worked-only}
+use Rattle.runs.proofs.Calls.Lists.{ViolatingList, Reached, reaches, violating-list, list-violates}
+use Rattle.runs.proofs.Calls.Rows.{Violating}
+use Rattle.runs.proofs.Calls.Violation.{flagAfter}
+
+module _ (p : Plan) (w : WellFormed p) (F : ℕ → Bool) where
+  -- no return of a list is 21 or 22
+  abbrev pub NeverViolates : List ℕ → Type 0
+  NeverViolates ns = (r : ℕ) → Among r ns → (r ≢ 21) × (r ≢ 22)
+
+  never-in : (cs : List Call) → Clear p F → NeverViolates (returns p (fresh F) cs)
+  never-in cs c r x = (
+    λ z. hit pre-unmet (inl refl) (rw z at x),
+    λ z. hit inc-broken (inr refl) (rw z at x),
+  )
+    where
+      hit : (q : Refusal) → Violating q → Among (number q) (returns p (fresh F) cs) → ⊥
+      hit q v y = clear-no-first-violation p w F c (list-violates p w F (record { calls = cs; refusal = q; violating = v; hit = y }))
+
+  -- CLEAR exactly if no call in any list returns 21 or 22
+  pub clear-exact : Clear p F ↔ ((cs : List Call) → NeverViolates (returns p (fresh F) cs))
+  clear-exact = (λ c cs. never-in cs c, λ g. from g (clear-or-first-violation p w F))
+    where
+      no-list : ((cs : List Call) → NeverViolates (returns p (fresh F) cs)) → ¬ ViolatingList p F
+      no-list g x = at (x .violating)
+        where
+          at : Violating (x .refusal) → ⊥
+          at (inl q) = (g (x .calls) (number (x .refusal)) (x .hit)) .0 (ap number q)
+          at (inr q) = (g (x .calls) (number (x .refusal)) (x .hit)) .1 (ap number q)
+
+      from : ((cs : List Call) → NeverViolates (returns p (fresh F) cs)) → Clear p F ⊎ FirstViolation p F → Clear p F
+      from g (inl c) = c
+      from g (inr x) = absurd (no-list g (violating-list p w F x))
+
+  -- DOOMED: the root is complete after no list
+  pub doomed-never-complete : Doomed p F → (cs : List Call) → ¬ Complete p (states p (fresh F) cs .status) 0
+  doomed-never-complete d cs = go (states p (fresh F) cs) (reaches p w F cs)
+    where
+      go : (b : World) → Reached p F b → ¬ Complete p (b .status) 0
+      go b x = rw (x .same) (doomed-incomplete p w F d (x .accepted))
+
+  -- what is no task of the plan waits: groups, and numbers past the nodes
+  pub others-wait : (cs : List Call) (x : ℕ) → ¬ Task p x → states p (fresh F) cs .status x ≡ waiting
+  others-wait cs x n = go (states p (fresh F) cs) (reaches p w F cs)
+    where
+      go : (b : World) → Reached p F b → b .status x ≡ waiting
+      go b g = rw (g .same) (settled (Status-discrete (statusAfter (flat (g .calls)) x) waiting))
+        where
+          settled : Dec (statusAfter (flat (g .calls)) x ≡ waiting) → statusAfter (flat (g .calls)) x ≡ waiting
+          settled (yes q) = q
+          settled (no k) = absurd (n (record {
+            node = under-node p (w .root-node) (moved-under p w (accepted-execution p w F (g .accepted)) x k);
+            is-task = moved-task p w (accepted-execution p w F (g .accepted)) x k;
+          }))
+
+  -- a flag past the plan's keeps its start bit
+  pub others-keep : (cs : List Call) (f : ℕ) → p .cond .flags ≤ f → states p (fresh F) cs .flag f ≡ F f
+  unfolding flagAfter lastAssertedOf
+  others-keep cs f l = go (states p (fresh F) cs) (reaches p w F cs)
+    where
+      off : (k : Place) (t : ℕ) (o : Option Bool) → p .cond .sign k t f ≡ o → o ≡ none
+      off k t none q = refl
+      off k t (some v) q = absurd (omega (arith, (w .on-task k t f v q) .2))
+
+      silent : (e : Event) → asserts p e f ≡ none
+      silent (start t) = off inc t (p .cond .sign inc t f) refl
+      silent (finish t) = off post t (p .cond .sign post t f) refl
+
+      never : (h : History) → lastAsserted p h f ≡ none
+      never [] = refl
+      never (e ∷ h) = rw (silent e) (never h)
+
+      go : (b : World) → Reached p F b → b .flag f ≡ F f
+      go b x = rw (x .same) (rw (never (flat (x .calls))))
+
+  -- every well-formed plan satisfies demand 3
+  pub demand3 : Demand3 p F
+  demand3 = record {
+    worked = λ cs. (returns p (fresh F) cs, states p (fresh F) cs, worked p w (fresh F) cs);
+    unique = λ x y. let (a, b) = worked-only p w x in let (c, d) = worked-only p w y in (a ∙ sym c, b ∙ sym d);
+    others = λ x. others x;
+    beyond = λ x. beyond x;
+    judged = (verdict p F, (verdict-exact p w F (verdict p F)) .0 refl, λ u j. sym ((verdict-exact p w F u) .1 j));
+    clear = (λ c cs ns a x. never c x, λ g. clear-exact .1 (λ cs. g cs (returns p (fresh F) cs) (states p (fresh F) cs) (worked p w (fresh F) cs)));
+    doomed = λ d cs ns a x. doomed d x;
+  }
+    where
+      others : {cs : List Call} {ns : List ℕ} {a : World} → Worked p (fresh F) cs ns a → (x : ℕ) → ¬ Task p x → a .status x ≡ waiting
+      others {cs} {a = a} y x n = let (e, q) = worked-only p w y in rw q (others-wait cs x n)
+
+      beyond : {cs : List Call} {ns : List ℕ} {a : World} → Worked p (fresh F) cs ns a → (f : ℕ) → p .cond .flags ≤ f → a .flag f ≡ F f
+      beyond {cs} y f l = let (e, q) = worked-only p w y in rw q (others-keep cs f l)
+
+      never : {cs : List Call} {ns : List ℕ} {a : World} → Clear p F → Worked p (fresh F) cs ns a → NeverViolates ns
+      never {cs} c y = let (e, q) = worked-only p w y in rw e (clear-exact .0 c cs)
+
+      doomed : {cs : List Call} {ns : List ℕ} {a : World} → Doomed p F → Worked p (fresh F) cs ns a → ¬ Complete p (a .status) 0
+      doomed {cs} d y = let (e, q) = worked-only p w y in rw q (doomed-never-complete d cs)

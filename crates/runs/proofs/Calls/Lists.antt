@@ -1,0 +1,122 @@
+-- Lists of calls, the first call first, refused calls anywhere among them: the states that they leave are those after the accepted ones, and a return
+-- is 21 or 22 in some list exactly if some accepted list comes to a violation.
+use mathlib.Core.Path.{_≡_, refl, sym, ap, _∙_, fun-ext}
+use mathlib.Core.Logic.{_⊎_, inl, inr}
+use mathlib.Core.Bool.{Bool}
+use mathlib.Core.Option.{Option, none, some, Option·getD}
+use mathlib.Core.List.{List, [], _∷_, _++_, reverseAux}
+use Prim.Native.Nat.{ℕ}
+use Rattle.runs.specs.Plan.{Plan, WellFormed}
+use Rattle.runs.specs.Execution.{Event, History, statusAfter, latest, lastAssertedOf, asserts, lastAsserted}
+use Rattle.runs.specs.Calls.{Call, events, World, fresh, happen, happenAll, Refusal, number, Among, here, there}
+use Rattle.runs.specs.Model.Monitor.{code, settle, refusalOf, returned, step, returns, states}
+use Rattle.runs.proofs.Reflect.{clash}
+use Rattle.runs.proofs.Calls.Accepted.{flat, EnabledCall, ViolatesCall, AcceptedAll, no-call, call-more, FirstViolation}
+use Rattle.runs.proofs.Calls.First.{code-inj}
+use Rattle.runs.proofs.Calls.Rows.{Violating, accepted-is, violates-to, violates-from}
+use Rattle.runs.proofs.Calls.Violation.{flagAfter, worldAfter}
+
+-- a list of calls in which one returns 21 or 22
+pub record ViolatingList (p : Plan) (F : ℕ → Bool) : Type 0 where
+  pub calls : List Call
+  pub refusal : Refusal
+  pub violating : Violating refusal
+  pub hit : Among (number refusal) (returns p (fresh F) calls)
+
+-- the states are those after some accepted calls
+pub record Reached (p : Plan) (F : ℕ → Bool) (b : World) : Type 0 where
+  pub calls : List Call
+  pub accepted : AcceptedAll p F calls
+  pub same : b ≡ worldAfter p F (flat calls)
+
+among-inv : {r x : ℕ} {l : List ℕ} → Among r (x ∷ l) → (r ≡ x) ⊎ Among r l
+among-inv here = inl refl
+among-inv (there y) = inr y
+
+among-nil : {r : ℕ} {l : List ℕ} → Among r l → l ≡ [] → ⊥
+among-nil here q = clash cc
+among-nil (there y) q = clash cc
+
+module _ (p : Plan) (w : WellFormed p) (F : ℕ → Bool) where
+  fresh-is : fresh F ≡ worldAfter p F []
+  unfolding statusAfter flagAfter lastAssertedOf
+  fresh-is = refl
+
+  happen-is : (h : History) (e : Event) → happen p (worldAfter p F h) e ≡ worldAfter p F (e ∷ h)
+  unfolding statusAfter flagAfter lastAssertedOf
+  happen-is h e = λ i. record { status = statusAfter (e ∷ h); flag = fun-ext (λ f. at (asserts p e f) (lastAsserted p h f) (F f)) i }
+    where
+      at : (o l : Option Bool) (b : Bool) → Option·getD o (Option·getD l b) ≡ Option·getD (latest o l) b
+      at none l b = refl
+      at (some v) l b = refl
+
+  happen-all-is : (g h : History) → happenAll p (worldAfter p F h) g ≡ worldAfter p F (g ++ h)
+  happen-all-is [] h = refl
+  happen-all-is (e ∷ g) h = ap (λ a. happen p a e) (happen-all-is g h) ∙ happen-is (g ++ h) e
+
+  abbrev After : List Call → World
+  After cs = worldAfter p F (flat cs)
+
+  -- one call after accepted ones
+  step-reached : {cs : List Call} → AcceptedAll p F cs → (c : Call) → Reached p F (step p (After cs) c)
+  unfolding step
+  step-reached {cs} k c = go (refusalOf p (After cs) c) refl
+    where
+      go : (o : Option Refusal) → refusalOf p (After cs) c ≡ o → Reached p F (settle o (After cs) (happenAll p (After cs) (events c)))
+      go none q = let (m, n) = (accepted-is p w (After cs) c) .0 q in
+          record { calls = c ∷ cs; accepted = call-more k m n; same = happen-all-is (events c) (flat cs) }
+      go (some r) q = record { calls = cs; accepted = k; same = refl }
+
+  step-accepts : (cs : List Call) (c : Call) → EnabledCall p (After cs .status) c → ¬ ViolatesCall p (After cs) c → step p (After cs) c ≡ After (c ∷ cs)
+  unfolding step
+  step-accepts cs c m n = ap (λ o. settle o (After cs) (happenAll p (After cs) (events c))) ((accepted-is p w (After cs) c) .1 (m, n))
+      ∙ happen-all-is (events c) (flat cs)
+
+  states-reached : (cs : List Call) {ds : List Call} → AcceptedAll p F ds → Reached p F (states p (After ds) cs)
+  unfolding states
+  states-reached [] {ds} k = record { calls = ds; accepted = k; same = refl }
+  states-reached (c ∷ cs) {ds} k = go (step p (After ds) c) (step-reached k c) (λ g m. states-reached cs {ds = g} m)
+    where
+      go : (b : World) → Reached p F b → ((g : List Call) → AcceptedAll p F g → Reached p F (states p (After g) cs)) → Reached p F (states p b cs)
+      go b x ih = rw (x .same) (ih (x .calls) (x .accepted))
+
+  -- the states after any list of calls are those after its accepted calls
+  pub reaches : (cs : List Call) → Reached p F (states p (fresh F) cs)
+  reaches cs = rw fresh-is (states-reached cs no-call)
+
+  -- the accepted calls ds, and then the calls cs: what is returned among these is returned among all
+  among-accepted : {ds : List Call} → AcceptedAll p F ds → (cs : List Call) (r : ℕ) → Among r (returns p (After ds) cs)
+      → Among r (returns p (fresh F) (reverseAux ds cs))
+  unfolding returns
+  among-accepted no-call cs r x = rw fresh-is x
+  among-accepted (call-more {c = c} {cs = ds} k m n) cs r x = among-accepted k (c ∷ cs) r (there (rw (step-accepts ds c m n) x))
+
+  pub violating-list : FirstViolation p F → ViolatingList p F
+  unfolding returns returned
+  violating-list x = let (r, v, q) = violates-from p w (After (x .calls)) (x .call) (x .enabled) (x .violates) in record {
+    calls = reverseAux (x .calls) (x .call ∷ []);
+    refusal = r;
+    violating = v;
+    hit = among-accepted (x .accepted) (x .call ∷ []) (number r) (top r q);
+  }
+    where
+      top : (r : Refusal) → refusalOf p (After (x .calls)) (x .call) ≡ some r → Among (number r) (returns p (After (x .calls)) (x .call ∷ []))
+      top r q = rw (sym (ap code q)) here
+
+  violates-in : (cs : List Call) {ds : List Call} → AcceptedAll p F ds → (r : Refusal) → Violating r → Among (number r) (returns p (After ds) cs)
+      → FirstViolation p F
+  unfolding returns returned
+  violates-in [] k r v x = absurd (among-nil x refl)
+  violates-in (c ∷ cs) {ds} k r v x = go (among-inv x) (λ g m y. violates-in cs {ds = g} m r v y)
+    where
+      go : (number r ≡ code (refusalOf p (After ds) c)) ⊎ Among (number r) (returns p (step p (After ds) c) cs)
+          → ((g : List Call) → AcceptedAll p F g → Among (number r) (returns p (After g) cs) → FirstViolation p F) → FirstViolation p F
+      go (inl q) ih = let (m, b) = violates-to p w (After ds) c r v (sym (code-inj {o = some r} {x = refusalOf p (After ds) c} q)) in
+          record { calls = ds; call = c; accepted = k; enabled = m; violates = b }
+      go (inr y) ih = rest (step p (After ds) c) (step-reached k c) y
+        where
+          rest : (b : World) → Reached p F b → Among (number r) (returns p b cs) → FirstViolation p F
+          rest b g y = ih (g .calls) (g .accepted) (rw (g .same) at y)
+
+  pub list-violates : ViolatingList p F → FirstViolation p F
+  list-violates x = violates-in (x .calls) no-call (x .refusal) (x .violating) (rw fresh-is at (x .hit))

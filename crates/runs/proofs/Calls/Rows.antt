@@ -1,0 +1,158 @@
+-- The rows of the table: a call is accepted exactly if it is enabled and violates nothing; 21 or 22 is its first refusal exactly if it is enabled and
+-- violates something.
+use mathlib.Core.Path.{_≡_, refl, sym}
+use mathlib.Core.Logic.{_⊎_, inl, inr, _↔_, Iff·trans}
+use mathlib.Core.Bool.{Bool, decide}
+use mathlib.Core.Option.{Option, none, some}
+use mathlib.Core.List.{List, [], _∷_, _++_}
+use Prim.Native.Nat.{ℕ}
+use lib.Dec.{T}
+use Rattle.runs.specs.Tests.{either}
+use Rattle.runs.specs.Plan.{Plan, WellFormed}
+use Rattle.runs.specs.Execution.{waiting, running, Event, start, finish, nodeOf, Ready, Enabled, can-start, can-finish}
+use Rattle.runs.specs.Calls.{Call, one, World, Refusal, no-task, wrong-status, branch-begun, order-open, pre-unmet, inc-broken, Task}
+use Rattle.runs.specs.Calls.{BranchBegun, OrderOpen, Applies, checks, First, None}
+use Rattle.runs.specs.Model.Monitor.{refusalOf}
+use Rattle.runs.proofs.Reflect.{clash, decided}
+use Rattle.runs.proofs.Plan.Trees.{under-node, child-parent, under-root}
+use Rattle.runs.proofs.Calls.Reflect.{r-status, r-task, r-complete}
+use Rattle.runs.proofs.Calls.Accepted.{EnabledCall, ViolatesCall}
+use Rattle.runs.proofs.Calls.First.{memberB, first-member, none-append, first-append, first-not-none, refused-first, refused-none}
+
+force : {X : Type 0} → Dec X → ¬ ¬ X → X
+force (yes x) k = x
+force (no n) k = absurd (k n)
+
+-- the checks of a call in two parts: those of being enabled, those of a violation
+abbrev enabledChecks : Call → List Refusal
+enabledChecks (one (start t)) = no-task ∷ wrong-status ∷ branch-begun ∷ order-open ∷ []
+enabledChecks (one (finish t)) = no-task ∷ wrong-status ∷ []
+
+abbrev violationChecks : Call → List Refusal
+violationChecks (one (start t)) = pre-unmet ∷ inc-broken ∷ []
+violationChecks (one (finish t)) = inc-broken ∷ []
+
+two-parts : (c : Call) → checks c ≡ enabledChecks c ++ violationChecks c
+two-parts (one (start t)) = refl
+two-parts (one (finish t)) = refl
+
+abbrev pub Violating : Refusal → Type 0
+Violating r = (r ≡ pre-unmet) ⊎ (r ≡ inc-broken)
+
+not-enabling : (c : Call) (r : Refusal) → Violating r → ¬ T (memberB r (enabledChecks c))
+unfolding memberB either decide
+not-enabling (one (start t)) r (inl q) x = rw q at x
+not-enabling (one (start t)) r (inr q) x = rw q at x
+not-enabling (one (finish t)) r (inl q) x = rw q at x
+not-enabling (one (finish t)) r (inr q) x = rw q at x
+
+first-violating : (A : Refusal → Type 0) (c : Call) (r : Refusal) → First A r (violationChecks c) → Violating r × A r
+first-violating A (one (start t)) r (inl (q, a)) = (inl (sym q), a)
+first-violating A (one (start t)) r (inr (k, inl (q, a))) = (inr (sym q), a)
+first-violating A (one (start t)) r (inr (k, inr (k′, x))) = absurd x
+first-violating A (one (finish t)) r (inl (q, a)) = (inr (sym q), a)
+first-violating A (one (finish t)) r (inr (k, x)) = absurd x
+
+module _ (p : Plan) (w : WellFormed p) (a : World) where
+  -- 17 to 20 do not apply to what is enabled, and what they do not apply to is enabled
+  enabled-task : {e : Event} → Enabled p 0 (a .status) e → Task p (nodeOf e)
+  enabled-task (can-start m) = record { node = under-node p (w .root-node) (m .beneath); is-task = m .is-task }
+  enabled-task (can-finish m) = record { node = under-node p (w .root-node) (m .beneath); is-task = m .is-task }
+
+  ready-choice : {t : ℕ} → Ready p 0 (a .status) t → ¬ BranchBegun p (a .status) t
+  ready-choice m x = m .choice (x .group) (x .own) (x .picks) (under-root p w (x .group) (child-parent p w (x .own-child))) (x .own-child) (x .above) (x .rival)
+
+  ready-order : {t : ℕ} → Ready p 0 (a .status) t → ¬ OrderOpen p (a .status) t
+  ready-order m x = let o = w .order-group (x .earlier) (x .later) (x .ordered) in
+      x .incomplete (m .ordered (o .0) (x .earlier) (x .later) (under-root p w (o .0) (child-parent p w (o .2))) (o .2) (o .3) (x .ordered) (x .above))
+
+  is-ready : (t : ℕ) → ¬ BranchBegun p (a .status) t → ¬ OrderOpen p (a .status) t → Ready p 0 (a .status) t
+  is-ready t k₁ k₂ = record {
+    choice = λ g b k u hb ub r. k₁ (record { group = g; own = b; picks = k; own-child = hb; above = ub; rival = r });
+    ordered = λ g x y u hx hy o uy. force (decided (r-complete p w (a .status) x (hx .node)))
+        (λ n. k₂ (record { earlier = x; later = y; ordered = o; above = uy; incomplete = n }));
+  }
+
+  enabled-is : (c : Call) → None (Applies p a c) (enabledChecks c) ↔ EnabledCall p (a .status) c
+  enabled-is (one (start t)) = (to, from)
+    where
+      to : None (Applies p a (one (start t))) (enabledChecks (one (start t))) → Enabled p 0 (a .status) (start t)
+      to (k₁, (k₂, (k₃, (k₄, u)))) = let x = force (decided (r-task p w t)) k₁ in can-start record {
+        is-task = x .is-task;
+        beneath = under-root p w t (x .node);
+        waits = force (decided (r-status (a .status t) waiting)) k₂;
+        ready = is-ready t k₃ k₄;
+      }
+
+      from : Enabled p 0 (a .status) (start t) → None (Applies p a (one (start t))) (enabledChecks (one (start t)))
+      from (can-start m) = (λ k. k (enabled-task (can-start m)), (λ k. k (m .waits), (ready-choice (m .ready), (ready-order (m .ready), tt))))
+  enabled-is (one (finish t)) = (to, from)
+    where
+      to : None (Applies p a (one (finish t))) (enabledChecks (one (finish t))) → Enabled p 0 (a .status) (finish t)
+      to (k₁, (k₂, u)) = let x = force (decided (r-task p w t)) k₁ in
+          can-finish record { is-task = x .is-task; beneath = under-root p w t (x .node); runs = force (decided (r-status (a .status t) running)) k₂ }
+
+      from : Enabled p 0 (a .status) (finish t) → None (Applies p a (one (finish t))) (enabledChecks (one (finish t)))
+      from (can-finish m) = (λ k. k (enabled-task (can-finish m)), (λ k. k (m .runs), tt))
+
+  -- 21 and 22, the one or the other; a finish has no precondition
+  violates-not : (c : Call) → None (Applies p a c) (violationChecks c) ↔ (¬ ViolatesCall p a c)
+  violates-not (one (start t)) = (to, λ k. (λ x. k (inl x), (λ x. k (inr x), tt)))
+    where
+      to : None (Applies p a (one (start t))) (violationChecks (one (start t))) → ¬ ViolatesCall p a (one (start t))
+      to (k₁, (k₂, u)) (inl x) = k₁ x
+      to (k₁, (k₂, u)) (inr x) = k₂ x
+  violates-not (one (finish t)) = (to, λ k. (λ x. k (inr x), tt))
+    where
+      no-sign : {v : Bool} → none ≡ some v → ⊥
+      no-sign q = clash cc
+
+      to : None (Applies p a (one (finish t))) (violationChecks (one (finish t))) → ¬ ViolatesCall p a (one (finish t))
+      to (k, u) (inl x) = no-sign (x .needs)
+      to (k, u) (inr x) = k x
+
+  violates-of : (c : Call) (r : Refusal) → Violating r → Applies p a c r → ViolatesCall p a c
+  violates-of (one e) r (inl q) x = inl (rw q at x)
+  violates-of (one e) r (inr q) x = inr (rw q at x)
+
+  -- a call is accepted exactly if it is enabled and neither 21 nor 22 applies
+  pub accepted-is : (c : Call) → (refusalOf p a c ≡ none) ↔ (EnabledCall p (a .status) c × (¬ ViolatesCall p a c))
+  accepted-is c = Iff·trans (refused-none p w a c) (
+    λ n. let (x, y) = (none-append (Applies p a c) (enabledChecks c) (violationChecks c)) .0 (rw (two-parts c) at n) in
+        ((enabled-is c) .0 x, (violates-not c) .0 y),
+    λ x. rw (two-parts c) ((none-append (Applies p a c) (enabledChecks c) (violationChecks c)) .1 ((enabled-is c) .1 (x .0), (violates-not c) .1 (x .1))),
+  )
+
+  -- a refused call is not enabled, or it is and is refused for 21 or 22
+  Refused : Call → Refusal → Type 0
+  Refused c r = First (Applies p a c) r (enabledChecks c) ⊎ (EnabledCall p (a .status) c × (Violating r × Applies p a c r))
+
+  refused-is : (c : Call) (r : Refusal) → refusalOf p a c ≡ some r → Refused c r
+  unfolding Refused
+  refused-is c r q = at (first-append (Applies p a c) r (enabledChecks c) (violationChecks c) (rw (two-parts c) at ((refused-first p w a c r) .0 q)))
+    where
+      at : First (Applies p a c) r (enabledChecks c) ⊎ (None (Applies p a c) (enabledChecks c) × First (Applies p a c) r (violationChecks c))
+          → First (Applies p a c) r (enabledChecks c) ⊎ (EnabledCall p (a .status) c × (Violating r × Applies p a c r))
+      at (inl x) = inl x
+      at (inr (n, x)) = inr ((enabled-is c) .0 n, first-violating (Applies p a c) c r x)
+
+  -- its refusal is 21 or 22 exactly if it is enabled and one of them applies
+  pub violates-to : (c : Call) (r : Refusal) → Violating r → refusalOf p a c ≡ some r → EnabledCall p (a .status) c × ViolatesCall p a c
+  unfolding Refused
+  violates-to c r v q = at (refused-is c r q)
+    where
+      at : Refused c r → EnabledCall p (a .status) c × ViolatesCall p a c
+      at (inl x) = absurd (not-enabling c r v (first-member (Applies p a c) r (enabledChecks c) x))
+      at (inr (m, (y, x))) = (m, violates-of c r y x)
+
+  pub violates-from : (c : Call) → EnabledCall p (a .status) c → ViolatesCall p a c → (r : Refusal) × Violating r × (refusalOf p a c ≡ some r)
+  unfolding Refused
+  violates-from c m b = at (refusalOf p a c) refl
+    where
+      found : (r : Refusal) → refusalOf p a c ≡ some r → Refused c r → (r : Refusal) × Violating r × (refusalOf p a c ≡ some r)
+      found r q (inl x) = absurd (first-not-none (Applies p a c) r (enabledChecks c) x ((enabled-is c) .1 m))
+      found r q (inr (n, (v, x))) = (r, v, q)
+
+      at : (o : Option Refusal) → refusalOf p a c ≡ o → (r : Refusal) × Violating r × (refusalOf p a c ≡ some r)
+      at none q = absurd (((accepted-is c) .0 q) .1 b)
+      at (some r) q = found r q (refused-is c r q)
