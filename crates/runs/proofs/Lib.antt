@@ -4,3 +4,4 @@ pub mod Execution
 pub mod Summary
 pub mod Verdict
 pub mod Calls
+pub mod Trials

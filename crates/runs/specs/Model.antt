@@ -4,3 +4,4 @@ pub mod Trees
 pub mod Marks
 pub mod Verdicts
 pub mod Monitor
+pub mod Computing

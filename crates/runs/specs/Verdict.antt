@@ -7,6 +7,7 @@ use Rattle.runs.specs.Summary.{May, Must, ExternalPre, MayClobber, MustC
 
 pub data Verdict : Type 0 where
   CLEAR DOOMED OPEN : Verdict
+  deriving Discrete as Verdict-discrete
 
 module _ (p : Plan) (F : ℕ → Bool) where
   -- at the root no literal may clash, and no literal false at the start may be needed
