@@ -12,5 +12,6 @@ pub mod PairsSound
 pub mod Clobber
 pub mod MustClobber
 pub mod ReflectConditions
+pub mod ByChildren
 pub mod ReflectClobber
 pub mod Exact

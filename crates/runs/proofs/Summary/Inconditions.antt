@@ -17,17 +17,17 @@ use Rattle.runs.proofs.Summary.Quiet.{MayQuiet}
 
 module _ (p : Plan) (f : ℕ) (v : Bool) where
   -- an event of the history begins the incondition
-  record Begun (h : History) : Type 0 where
-    event : Event
-    before : History
-    at : Earlier (event ∷ before) h
-    begins : BeginsInc p f v event
+  pub record Begun (h : History) : Type 0 where
+    pub event : Event
+    pub before : History
+    pub at : Earlier (event ∷ before) h
+    pub begins : BeginsInc p f v event
 
-  incondition-begun : {h : History} → Incondition p f v h → Begun h
+  pub incondition-begun : {h : History} → Incondition p f v h → Begun h
   incondition-begun x = let (r, q) = running-started (x .until) (x .who) (x .runs) in
       record { event = start (x .who); before = r; at = earlier-trans q (x .at); begins = x .holds }
 
-  begun-incondition : {h : History} → Begun h → Incondition p f v h
+  pub begun-incondition : {h : History} → Begun h → Incondition p f v h
   begun-incondition {h} x = go (x .event) (x .before) (x .at) (x .begins)
     where
       go : (e : Event) (r : History) → Earlier (e ∷ r) h → BeginsInc p f v e → Incondition p f v h

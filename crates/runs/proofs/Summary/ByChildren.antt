@@ -1,0 +1,157 @@
+-- The rules by children for the marks of the conditions, each exact. A task has one completed execution, and a choice those of its branches, so there a
+-- mark is read off whatever property it is about; at an all-of group each has its rule. (Clobber and ReflectClobber have marks 6 and 7.)
+use mathlib.Core.Path.{_≡_, refl, _∙_}
+use mathlib.Core.Logic.{_⊎_, inl, inr, _↔_, Iff·trans}
+use mathlib.Core.Bool.{Bool, not}
+use mathlib.Core.Option.{Option, none, some}
+use mathlib.Core.List.{[], _∷_}
+use Prim.Native.Nat.{ℕ}
+use Rattle.runs.specs.Tests.{negate}
+use Rattle.runs.specs.Plan.{task, all-of, any-of, pre, inc, post, Plan, Node, Child, Before, WellFormed}
+use Rattle.runs.specs.Execution.{Event, start, finish, History, lastAssertedOf, lastAsserted, Earlier, now, then}
+use Rattle.runs.specs.Summary.{May, Must, ExternalPre, ExternalPost, Incondition}
+use Rattle.runs.specs.Model.Marks.{quietB, beginsIncB}
+use Rattle.runs.proofs.Reflect.{clash, Reflects, decided, r-negate}
+use Rattle.runs.proofs.Plan.Chains.{before-child}
+use Rattle.runs.proofs.Plan.Reflect.{r-some-child}
+use Rattle.runs.proofs.Execution.Histories.{Anything, earlier-inv, earlier-nil}
+use Rattle.runs.proofs.Execution.AnyOf.{any-completed, completed-pick}
+use Rattle.runs.proofs.Execution.Task.{task-ended, task-completed}
+use Rattle.runs.proofs.Execution.Completeness.{picks-any}
+use Rattle.runs.proofs.Summary.Events.{Unasserted, PreOn, BeginsInc, Neutral, Covers, Asserts, r-begins-inc}
+use Rattle.runs.proofs.Summary.Inconditions.{incondition-begun, begun-incondition, may-inc-is-meet, must-inc-is}
+use Rattle.runs.proofs.Summary.Last.{last-all}
+use Rattle.runs.proofs.Summary.Meet.{MayMeet, meet-all}
+use Rattle.runs.proofs.Summary.Postconditions.{avoid-is-quiet, may-post-is-last, must-post-is}
+use Rattle.runs.proofs.Summary.Preconditions.{may-pre-is-meet, must-pre-is}
+use Rattle.runs.proofs.Summary.Quiet.{MayQuiet, quiet-all, quiet-anything}
+use Rattle.runs.proofs.Summary.ReflectConditions.{r-quiet}
+
+module _ (p : Plan) (w : WellFormed p) where
+  -- a task: its one completed execution has the property
+  abbrev pub whole : ℕ → History
+  whole n = finish n ∷ start n ∷ []
+
+  module _ (P : History → Type 0) where
+    pub may-task : {n : ℕ} → p .tree .kind n ≡ task → May p n P ↔ P (whole n)
+    may-task {n} k = (λ m. rw (task-completed p w k (m .completed)) at (m .holds), λ x. record { history = whole n; completed = task-ended p w k; holds = x })
+
+    pub must-task : {n : ℕ} → p .tree .kind n ≡ task → Must p n P ↔ P (whole n)
+    must-task {n} k = (λ m. m (whole n) (task-ended p w k), λ x h y. rw (task-completed p w k y) x)
+
+    -- any-of: in some branch, in every branch
+    pub may-any : {n : ℕ} → p .tree .kind n ≡ any-of → May p n P ↔ ((c : ℕ) × Child p n c × May p c P)
+    may-any k = (
+      λ m. let (c, hc, x) = any-completed p w k (m .completed) in (c, hc, record { history = m .history; completed = x; holds = m .holds }),
+      λ x. record { history = x .2 .history; completed = completed-pick p w (picks-any k) (x .1) (x .2 .completed); holds = x .2 .holds },
+    )
+
+    pub must-any : {n : ℕ} → p .tree .kind n ≡ any-of → Must p n P ↔ ((c : ℕ) → Child p n c → Must p c P)
+    must-any k = (
+      λ m c hc h x. m h (completed-pick p w (picks-any k) hc x),
+      λ g h x. let (c, hc, y) = any-completed p w k x in g c hc h y,
+    )
+
+  -- the events of a task's one completed execution
+  one-of : (n : ℕ) {e : Event} {r : History} → Earlier (e ∷ r) (whole n) → (e ≡ finish n) ⊎ (e ≡ start n)
+  one-of n {e} {r} q = at (earlier-inv q)
+    where
+      at : (e ∷ r ≡ whole n) ⊎ Earlier (e ∷ r) (start n ∷ []) → (e ≡ finish n) ⊎ (e ≡ start n)
+      at (inl z) = inl cc
+      at (inr y) = first (earlier-inv y)
+        where
+          first : (e ∷ r ≡ start n ∷ []) ⊎ Earlier (e ∷ r) [] → (e ≡ finish n) ⊎ (e ≡ start n)
+          first (inl z) = inr cc
+          first (inr z) = absurd (earlier-nil z refl)
+
+  module _ (f : ℕ) where
+    -- some completed execution does not assert the flag; all-of: every child has one
+    abbrev pub Avoids : ℕ → Type 0
+    Avoids n = May p n (λ h. lastAsserted p h f ≡ none)
+
+    pub avoids-all : {n : ℕ} → p .tree .kind n ≡ all-of → Avoids n ↔ ((c : ℕ) → Child p n c → Avoids c)
+    avoids-all k = Iff·trans (avoid-is-quiet p f) (Iff·trans (quiet-all p w (Unasserted p f) k)
+        (λ g c hc. (avoid-is-quiet p f) .1 (g c hc), λ g c hc. (avoid-is-quiet p f) .0 (g c hc)))
+
+    module _ (v : Bool) where
+      -- at a task: it has the condition
+      pub pre-task : (n : ℕ) → ExternalPre p f v (whole n) ↔ (p .cond .sign pre n f ≡ some v)
+      unfolding lastAssertedOf
+      pre-task n = (λ x. at (x .needs) (one-of n (x .at)), λ q. record { event = start n; before = []; at = then now; needs = q; unasserted = refl })
+        where
+          at : {e : Event} → PreOn p f v e → (e ≡ finish n) ⊎ (e ≡ start n) → p .cond .sign pre n f ≡ some v
+          at q (inl z) = let y : PreOn p f v (finish n) = rw z at q in clash cc
+          at q (inr z) = rw z at q
+
+      pub post-task : (n : ℕ) → ExternalPost p f v (whole n) ↔ (p .cond .sign post n f ≡ some v)
+      unfolding lastAssertedOf
+      post-task n = (to (p .cond .sign post n f) refl (p .cond .sign inc n f) refl, λ q. rw q)
+        where
+          to : (o : Option Bool) → p .cond .sign post n f ≡ o → (i : Option Bool) → p .cond .sign inc n f ≡ i → lastAsserted p (whole n) f ≡ some v
+              → p .cond .sign post n f ≡ some v
+          to none q none r x = let y : none ≡ some v = rw (q, r) at x in clash cc
+          to none q (some u) r x = let (z, y) = w .inc-post n f u r in clash cc
+          to (some u) q i r x = q ∙ (rw q at x)
+
+      pub inc-task : (n : ℕ) → Incondition p f v (whole n) ↔ (p .cond .sign inc n f ≡ some v)
+      inc-task n = (
+        λ x. let b = incondition-begun p f v x in at (b .begins) (one-of n (b .at)),
+        λ q. begun-incondition p f v (record { event = start n; before = []; at = then now; begins = q }),
+      )
+        where
+          at : {e : Event} → BeginsInc p f v e → (e ≡ finish n) ⊎ (e ≡ start n) → p .cond .sign inc n f ≡ some v
+          at b (inl z) = absurd (rw z at b)
+          at b (inr z) = rw z at b
+
+      -- may need, all-of: some child may need it, and all that stands before that child can avoid the flag
+      pub may-pre-all : {n : ℕ} → Node p n → p .tree .kind n ≡ all-of
+          → May p n (ExternalPre p f v) ↔ ((c : ℕ) × Child p n c × May p c (ExternalPre p f v) × ((a : ℕ) → Before p a c → Avoids a))
+      may-pre-all l k = Iff·trans (may-pre-is-meet p w f v l) (Iff·trans (meet-all p w (Unasserted p f) (PreOn p f v) k) (
+        λ x. (x .0, x .1, (may-pre-is-meet p w f v (x .1 .node)) .1 (x .2), λ a q. (avoid-is-quiet p f) .1 (x .3 a q)),
+        λ x. (x .0, x .1, (may-pre-is-meet p w f v (x .1 .node)) .0 (x .2), λ a q. (avoid-is-quiet p f) .0 (x .3 a q)),
+      ))
+
+      -- must need, at any node: neither quiet nor covered; all-of: every child is quiet; some child is covered and all that stands before it is quiet
+      pub must-pre-node : {n : ℕ} → Node p n
+          → Must p n (ExternalPre p f v) ↔ ((¬ MayQuiet p (Neutral p f v) n) × (¬ MayMeet p (Neutral p f v) (Covers p f v) n))
+      must-pre-node l = must-pre-is p w f v l
+
+      -- may leave, all-of: some child may leave it, and all that stands after that child can avoid the flag
+      pub may-post-all : {n : ℕ} → p .tree .kind n ≡ all-of
+          → May p n (ExternalPost p f v) ↔ ((c : ℕ) × Child p n c × May p c (ExternalPost p f v) × ((b : ℕ) → Child p n b → Before p c b → Avoids b))
+      may-post-all k = Iff·trans (may-post-is-last p f v) (Iff·trans (last-all p w (Unasserted p f) (Asserts p f v) k) (
+        λ x. (x .0, x .1, (may-post-is-last p f v) .1 (x .2), λ b hb q. (avoid-is-quiet p f) .1 (x .3 b hb q)),
+        λ x. (x .0, x .1, (may-post-is-last p f v) .0 (x .2), λ b hb q. (avoid-is-quiet p f) .0 (x .3 b hb q)),
+      ))
+
+      -- must leave, at any node: no completed execution avoids the flag, and the opposite may not be left
+      pub must-post-node : {n : ℕ} → Must p n (ExternalPost p f v) ↔ ((¬ Avoids n) × (¬ May p n (ExternalPost p f (not v))))
+      must-post-node = must-post-is p f v
+
+      abbrev Without : Event → Type 0
+      Without e = ¬ BeginsInc p f v e
+
+      -- may hold, must hold, all-of: some child
+      pub may-inc-all : {n : ℕ} → Node p n → p .tree .kind n ≡ all-of → May p n (Incondition p f v) ↔ ((c : ℕ) × Child p n c × May p c (Incondition p f v))
+      may-inc-all l k = Iff·trans (may-inc-is-meet p f v w l) (Iff·trans (meet-all p w Anything (BeginsInc p f v) k) (
+        λ x. (x .0, x .1, (may-inc-is-meet p f v w (x .1 .node)) .1 (x .2)),
+        λ x. (x .0, x .1, (may-inc-is-meet p f v w (x .1 .node)) .0 (x .2), λ a q. quiet-anything p w a ((before-child p w (x .1) q) .node)),
+      ))
+
+      pub must-inc-all : {n : ℕ} → p .tree .kind n ≡ all-of → Must p n (Incondition p f v) ↔ ((c : ℕ) × Child p n c × Must p c (Incondition p f v))
+      must-inc-all {n} k = (
+        λ m. find (λ g. (must-inc-is p f v w) .0 m ((quiet-all p w Without k) .1 g)) (decided (r-some-child p w (λ c. ¬ MayQuiet p Without c) _ r-loud)),
+        λ x. (must-inc-is p f v w) .1 (λ q. (must-inc-is p f v w) .0 (x .2) ((quiet-all p w Without k) .0 q (x .0) (x .1))),
+      )
+        where
+          r-loud : (c : ℕ) → Child p n c → Reflects (negate (quietB p (λ e. negate (beginsIncB p f v e)) c)) (¬ MayQuiet p Without c)
+          r-loud c hc = r-negate _ (r-quiet p w Without _ (λ e. r-negate _ (r-begins-inc p f v e)) c (hc .node))
+
+          find : ¬ ((c : ℕ) → Child p n c → MayQuiet p Without c) → Dec ((c : ℕ) × Child p n c × (¬ MayQuiet p Without c))
+              → (c : ℕ) × Child p n c × Must p c (Incondition p f v)
+          find g (yes (c, hc, k)) = (c, hc, (must-inc-is p f v w) .1 k)
+          find g (no none-loud) = absurd (g (λ c hc. still c hc (decided (r-quiet p w Without _ (λ e. r-negate _ (r-begins-inc p f v e)) c (hc .node)))))
+            where
+              still : (c : ℕ) → Child p n c → Dec (MayQuiet p Without c) → MayQuiet p Without c
+              still c hc (yes q) = q
+              still c hc (no k) = absurd (none-loud (c, hc, k))
