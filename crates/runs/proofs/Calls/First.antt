@@ -85,8 +85,8 @@ first-member A r (q ∷ l) x = (r-either _ _ (r-decide (Refusal-discrete q r)) (
 
 -- the number tells the refusal
 ofNumber : ℕ → Option Refusal
-ofNumber n = orElse (eqb n 17) no-task (λ u. orElse (eqb n 18) wrong-status (λ u. orElse (eqb n 19) branch-begun
-    (λ u. orElse (eqb n 20) order-open (λ u. orElse (eqb n 21) pre-unmet (λ u. orElse (eqb n 22) inc-broken (λ u. none))))))
+unfolding firstOf
+ofNumber n = firstOf (λ r. eqb (number r) n) (no-task ∷ wrong-status ∷ branch-begun ∷ order-open ∷ pre-unmet ∷ inc-broken ∷ [])
 
 number-tells : (o : Option Refusal) → ofNumber (code o) ≡ o
 unfolding ofNumber
