@@ -12,3 +12,16 @@ pub mod Final
 pub mod Task
 pub mod Running
 pub mod Forward
+pub use Histories.*
+pub use Locality.*
+pub use Completeness.*
+pub use Parts.*
+pub use AllOf.*
+pub use AnyOf.*
+pub use Extension.*
+pub use Stages.*
+pub use Completion.*
+pub use Final.*
+pub use Task.*
+pub use Running.*
+pub use Forward.*

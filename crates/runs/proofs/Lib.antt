@@ -1,3 +1,4 @@
+pub mod Base
 pub mod Reflect
 pub mod Plan
 pub mod Execution

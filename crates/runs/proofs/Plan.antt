@@ -3,3 +3,7 @@ pub mod Trees
 pub mod Chains
 pub mod Reflect
 pub mod Accepted
+pub use Trees.*
+pub use Chains.*
+pub use Reflect.*
+unfoldable pub use Accepted.*

@@ -1,12 +1,6 @@
 -- Tests reflect what they test. `Reflects b A`: the test b is true exactly if A holds. The laws named `r-x` are gathered in the ruleset `reflection`.
-use mathlib.Core.Path.{_≡_, refl, ap}
-use mathlib.Core.Logic.{_⊎_, inl, inr, _↔_}
-use mathlib.Core.Bool.{Bool, true, false, decide}
-use mathlib.Core.Option.{Option, none, some}
-use Prim.Native.Nat.{ℕ, zero, suc, _<_}
-use native.Mathlib.Omega.{arith}
-use native.Mathlib.Decide.{ℕ-discrete}
-use lib.Dec.{T, eqb, ltb, eqb→eq, eqb-refl, ltb→lt, lt→ltb}
+use Rattle.runs.proofs.Base.{_≡_, refl, ap, _⊎_, inl, inr, _↔_, Bool, true, false, decide, Option, none, some, ℕ, zero, suc, _<_, arith}
+use Rattle.runs.proofs.Base.{ℕ-discrete, T, eqb, ltb, eqb→eq, eqb-refl, ltb→lt, lt→ltb}
 use Rattle.runs.specs.Tests.{both, either, implies, negate, anyBelow, allBelow, sameB, isNone, isSome}
 
 -- two constructors are equal: `clash cc`
@@ -29,9 +23,6 @@ module _ {b : Bool} {A : Type 0} where
       at true to from = yes (to tt)
       at false to from = no from
 
-  pub reflects-iff : Reflects b A → T b ↔ A
-  reflects-iff r = (r .to, r .from)
-
 pub dec-or : {A B : Type 0} → Dec A → Dec B → Dec (A ⊎ B)
 dec-or (yes a) d = yes (inl a)
 dec-or (no k) (yes b) = yes (inr b)
@@ -40,16 +31,6 @@ dec-or {A} {B} (no k) (no l) = no neither
     neither : A ⊎ B → ⊥
     neither (inl a) = k a
     neither (inr b) = l b
-
--- two tests of one thing are equal
-pub same-test : {b c : Bool} {A : Type 0} → Reflects b A → Reflects c A → b ≡ c
-same-test {b} {c} r s = at b c (λ t. s .from (r .to t)) (λ t. r .from (s .to t))
-  where
-    at : (b c : Bool) → (T b → T c) → (T c → T b) → b ≡ c
-    at true true to from = refl
-    at true false to from = absurd (to tt)
-    at false true to from = absurd (from tt)
-    at false false to from = refl
 
 pub r-T : (b : Bool) → Reflects b (T b)
 r-T b = record { to = λ t. t; from = λ t. t }

@@ -1,18 +1,12 @@
 -- Lists of calls that are all accepted, the last call first: they are executions of the root. A plan that is not CLEAR has one that comes to
 -- a violation; no such list completes a DOOMED root.
-use mathlib.Core.Path.{_≡_, refl, ap, _∙_}
-use mathlib.Core.Logic.{_⊎_, inl, inr}
-use mathlib.Core.Bool.{Bool, not}
-use mathlib.Core.Option.{some}
-use mathlib.Core.List.{List, [], _∷_, _++_}
-use Prim.Native.Nat.{ℕ}
+use Rattle.runs.proofs.Base.{_≡_, refl, ap, _∙_, _⊎_, inl, inr, Bool, not, some, List, [], _∷_, _++_, ℕ}
 use Rattle.runs.specs.Plan.{Plan, WellFormed}
 use Rattle.runs.specs.Execution.{State, Event, History, statusAfter, Complete, Enabled, Execution, none-yet, one-more, preOf, Earlier}
 use Rattle.runs.specs.Verdict.{Clear, Doomed, by-clobber, by-start}
 use Rattle.runs.specs.Calls.{Call, one, events, World}
-use Rattle.runs.proofs.Execution.Histories.{earlier-nil, earlier-inv}
-use Rattle.runs.proofs.Execution.Parts.{execution-tail, execution-last}
-use Rattle.runs.proofs.Summary.MustClobber.{must-clobber-fails}
+use Rattle.runs.proofs.Execution.{earlier-nil, earlier-inv, execution-tail, execution-last}
+use Rattle.runs.proofs.Summary.{must-clobber-fails}
 use Rattle.runs.proofs.Verdict.Exact.{MayFail, clear-or-may-fail}
 use Rattle.runs.proofs.Calls.Violation.{flagAfter, worldAfter, Violates, Violation, flag-last, flag-none, clear-no-violation}
 use Rattle.runs.proofs.Calls.Violation.{may-fail-violates, decViolates}

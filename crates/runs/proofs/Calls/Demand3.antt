@@ -1,11 +1,5 @@
 -- Demand 3 holds of every well-formed plan, whatever flags are set at the start; and the same for what computes.
-use mathlib.Core.Path.{_≡_, refl, sym, ap, _∙_}
-use mathlib.Core.Logic.{_≢_, _⊎_, inl, inr, _↔_}
-use mathlib.Core.Bool.{Bool}
-use mathlib.Core.Option.{Option, none, some}
-use mathlib.Core.List.{List, [], _∷_}
-use Prim.Native.Nat.{ℕ, _≤_}
-use native.Mathlib.Omega.{arith}
+use Rattle.runs.proofs.Base.{_≡_, refl, sym, ap, _∙_, _≢_, _⊎_, inl, inr, _↔_, Bool, Option, none, some, List, [], _∷_, ℕ, _≤_, arith}
 use Rattle.runs.specs.Plan.{Place, inc, post, Plan, WellFormed}
 use Rattle.runs.specs.Execution.{waiting, Status-discrete, Event, start, finish, History, statusAfter, Complete, lastAssertedOf, asserts}
 use Rattle.runs.specs.Execution.{lastAsserted}
@@ -14,8 +8,8 @@ use Rattle.runs.specs.Calls.{Call, World, fresh, Refusal, pre-unmet, inc
 use Rattle.runs.specs.Demand3.{Demand3}
 use Rattle.runs.specs.Model.Monitor.{returns, states}
 use Rattle.runs.specs.Model.Verdicts.{verdict}
-use Rattle.runs.proofs.Plan.Trees.{under-node}
-use Rattle.runs.proofs.Execution.Running.{moved-task, moved-under}
+use Rattle.runs.proofs.Plan.{under-node}
+use Rattle.runs.proofs.Execution.{moved-task, moved-under}
 use Rattle.runs.proofs.Verdict.Exact.{verdict-exact}
 use Rattle.runs.proofs.Calls.Accepted.{flat, FirstViolation, accepted-execution, clear-no-first-violation, clear-or-first-violation}
 use Rattle.runs.proofs.Calls.Accepted.{doomed-incomplete}

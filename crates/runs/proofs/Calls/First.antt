@@ -1,11 +1,6 @@
 -- The first check that applies: its computation reflects 01's words, and one call has one return and one state after it.
-use mathlib.Core.Path.{_≡_, refl, sym, ap, _∙_}
-use mathlib.Core.Logic.{inl, inr, _⊎_, _↔_, Iff·trans}
-use mathlib.Core.Bool.{Bool, true, false, decide}
-use mathlib.Core.Option.{Option, none, some}
-use mathlib.Core.List.{List, [], _∷_, _++_}
-use Prim.Native.Nat.{ℕ}
-use lib.Dec.{T, eqb}
+use Rattle.runs.proofs.Base.{_≡_, refl, sym, ap, _∙_, inl, inr, _⊎_, _↔_, Iff·trans, Bool, true, false, decide, Option, none, some, List, []}
+use Rattle.runs.proofs.Base.{_∷_, _++_, ℕ, T, eqb}
 use Rattle.runs.specs.Tests.{either}
 use Rattle.runs.specs.Plan.{Plan, WellFormed}
 use Rattle.runs.specs.Calls.{Call, events, World, happenAll, Refusal, no-task, wrong-status, branch-begun, order-open, pre-unmet, inc-broken}

@@ -1,11 +1,7 @@
 -- Lists of calls, the first call first, refused calls anywhere among them: the states that they leave are those after the accepted ones, and a return
 -- is 21 or 22 in some list exactly if some accepted list comes to a violation.
-use mathlib.Core.Path.{_≡_, refl, sym, ap, _∙_, fun-ext}
-use mathlib.Core.Logic.{_⊎_, inl, inr}
-use mathlib.Core.Bool.{Bool}
-use mathlib.Core.Option.{Option, none, some, Option·getD}
-use mathlib.Core.List.{List, [], _∷_, _++_, reverseAux}
-use Prim.Native.Nat.{ℕ}
+use Rattle.runs.proofs.Base.{_≡_, refl, sym, ap, _∙_, fun-ext, _⊎_, inl, inr, Bool, Option, none, some, Option·getD, List, [], _∷_, _++_}
+use Rattle.runs.proofs.Base.{reverseAux, ℕ}
 use Rattle.runs.specs.Plan.{Plan, WellFormed}
 use Rattle.runs.specs.Execution.{Event, History, statusAfter, latest, lastAssertedOf, asserts, lastAsserted}
 use Rattle.runs.specs.Calls.{Call, events, World, fresh, happen, happenAll, Refusal, number, Among, here, there}

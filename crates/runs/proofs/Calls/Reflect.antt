@@ -1,11 +1,5 @@
 -- The tests for the refusals reflect the rows of 01's table, on any states.
-use mathlib.Core.Path.{_≡_, refl, sym, ap, _∙_}
-use mathlib.Core.Logic.{_≢_}
-use mathlib.Core.Bool.{Bool, true, false, not}
-use mathlib.Core.Option.{Option, none, some}
-use Prim.Native.Nat.{ℕ, zero, suc, _+_, _<_, _≤_}
-use native.Mathlib.Omega.{arith}
-use lib.Dec.{T}
+use Rattle.runs.proofs.Base.{_≡_, refl, sym, ap, _∙_, _≢_, Bool, true, false, not, Option, none, some, ℕ, zero, suc, _+_, _<_, _≤_, arith, T}
 use Rattle.runs.specs.Plan.{Picks, inc, Plan, Node, Child, Under, WellFormed}
 use Rattle.runs.specs.Execution.{Status, waiting, running, State, Event, nodeOf, task-done, all-done, any-done, Complete, Begun, Rival}
 use Rattle.runs.specs.Execution.{by-branch, preOf, asserts}
@@ -14,10 +8,9 @@ use Rattle.runs.specs.Calls.{BranchBegun, OrderOpen, PreUnmet, IncBroken
 use Rattle.runs.specs.Model.Monitor.{statusB, oppositeB, taskB, completeIn, completeB, begunB, rivalB, branchBegunB, orderOpenB, preUnmetB}
 use Rattle.runs.specs.Model.Monitor.{incBrokenB, appliesB}
 use Rattle.runs.proofs.Reflect.{clash, Reflects, r-map, r-both, r-guarded, r-negate, r-any, r-T, r-decide, r-eq, r-some}
-use Rattle.runs.proofs.Plan.Trees.{child-lt}
-use Rattle.runs.proofs.Plan.Reflect.{r-kind, r-picks, r-by-kind, r-some-child, r-every-child, r-some-task, r-under}
-use Rattle.runs.proofs.Execution.Completeness.{picks-any, complete-task, complete-all, PickDone, branch-done, complete-pick}
-use Rattle.runs.proofs.Summary.Events.{pre-flag}
+use Rattle.runs.proofs.Plan.{child-lt, r-kind, r-picks, r-by-kind, r-some-child, r-every-child, r-some-task, r-under}
+use Rattle.runs.proofs.Execution.{picks-any, complete-task, complete-all, PickDone, branch-done, complete-pick}
+use Rattle.runs.proofs.Summary.{pre-flag}
 
 pub r-status : (s r : Status) → Reflects (statusB s r) (s ≡ r)
 unfolding statusB

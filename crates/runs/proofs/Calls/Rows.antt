@@ -1,12 +1,6 @@
 -- The rows of the table: a call is accepted exactly if it is enabled and violates nothing; 21 or 22 is its first refusal exactly if it is enabled and
 -- violates something.
-use mathlib.Core.Path.{_≡_, refl, sym}
-use mathlib.Core.Logic.{_⊎_, inl, inr, _↔_, Iff·trans}
-use mathlib.Core.Bool.{Bool, decide}
-use mathlib.Core.Option.{Option, none, some}
-use mathlib.Core.List.{List, [], _∷_, _++_}
-use Prim.Native.Nat.{ℕ}
-use lib.Dec.{T}
+use Rattle.runs.proofs.Base.{_≡_, refl, sym, _⊎_, inl, inr, _↔_, Iff·trans, Bool, decide, Option, none, some, List, [], _∷_, _++_, ℕ, T}
 use Rattle.runs.specs.Tests.{either}
 use Rattle.runs.specs.Plan.{Plan, WellFormed}
 use Rattle.runs.specs.Execution.{waiting, running, Event, start, finish, nodeOf, Ready, Enabled, can-start, can-finish}
@@ -14,7 +8,7 @@ use Rattle.runs.specs.Calls.{Call, one, World, Refusal, no-task, wrong-s
 use Rattle.runs.specs.Calls.{BranchBegun, OrderOpen, Applies, checks, First, None}
 use Rattle.runs.specs.Model.Monitor.{refusalOf}
 use Rattle.runs.proofs.Reflect.{clash, decided}
-use Rattle.runs.proofs.Plan.Trees.{under-node, child-parent, under-root}
+use Rattle.runs.proofs.Plan.{under-node, child-parent, under-root}
 use Rattle.runs.proofs.Calls.Reflect.{r-status, r-task, r-complete}
 use Rattle.runs.proofs.Calls.Accepted.{EnabledCall, ViolatesCall}
 use Rattle.runs.proofs.Calls.First.{memberB, first-member, none-append, first-append, first-not-none, refused-first, refused-none}

@@ -1,19 +1,13 @@
 -- Refusals 21 and 22 after an execution of the root: a CLEAR plan has none, and what makes a plan not CLEAR is one.
-use mathlib.Core.Path.{_≡_, refl, sym, ap, _∙_}
-use mathlib.Core.Logic.{_⊎_, inl, inr}
-use mathlib.Core.Bool.{Bool, not}
-use mathlib.Core.Option.{Option, none, some, Option·getD}
-use mathlib.Core.List.{_∷_}
-use Prim.Native.Nat.{ℕ}
+use Rattle.runs.proofs.Base.{_≡_, refl, sym, ap, _∙_, _⊎_, inl, inr, Bool, not, Option, none, some, Option·getD, _∷_, ℕ}
 use Rattle.runs.specs.Plan.{Plan, WellFormed}
 use Rattle.runs.specs.Execution.{Event, History, statusAfter, Execution, lastAsserted}
 use Rattle.runs.specs.Summary.{Clobbers, precondition, incondition}
 use Rattle.runs.specs.Verdict.{Clear}
 use Rattle.runs.specs.Calls.{World, PreUnmet, IncBroken}
 use Rattle.runs.proofs.Reflect.{decided, dec-or}
-use Rattle.runs.proofs.Execution.Parts.{earlier-execution}
-use Rattle.runs.proofs.Summary.Events.{unasserted-all}
-use Rattle.runs.proofs.Summary.Preconditions.{may-pre-is-meet}
+use Rattle.runs.proofs.Execution.{earlier-execution}
+use Rattle.runs.proofs.Summary.{unasserted-all, may-pre-is-meet}
 use Rattle.runs.proofs.Verdict.Exact.{MayFail}
 use Rattle.runs.proofs.Calls.Reflect.{r-inc-broken, r-pre-unmet}
 

@@ -1,13 +1,9 @@
 -- Decomposition, all-of: an execution of the group is one of each child, with every start after what is ordered before its child.
-use mathlib.Core.Path.{_≡_}
-use mathlib.Core.Logic.{_↔_}
-use mathlib.Core.List.{[], _∷_}
-use Prim.Native.Nat.{ℕ}
-use lib.Dec.{T}
+use Rattle.runs.proofs.Base.{_≡_, _↔_, [], _∷_, ℕ, T}
 use Rattle.runs.specs.Plan.{all-of, Plan, Child, Under, WellFormed}
 use Rattle.runs.specs.Execution.{State, Event, History, nodeOf, Begins, statusAfter, all-done, Complete, Enabled, Execution, none-yet, one-more}
 use Rattle.runs.specs.Execution.{Completed, Earlier, now, then}
-use Rattle.runs.proofs.Plan.Trees.{child-under, Branch}
+use Rattle.runs.proofs.Plan.{child-under, Branch}
 use Rattle.runs.proofs.Execution.Locality.{enabled-local, Admits, AdmitsEvent, admits-of, enabled-up, branch-of}
 use Rattle.runs.proofs.Execution.Parts.{part, part-in, after-part, part-execution, part-complete, execution-tail, execution-last}
 use Rattle.runs.proofs.Execution.Parts.{earlier-execution, part-tail}

@@ -1,15 +1,10 @@
 -- Decomposition, any-of: an execution of the group is empty or one of a single branch.
-use mathlib.Core.Path.{_≡_, refl, sym, _∙_}
-use mathlib.Core.Logic.{_≢_, _⊎_, inl, inr, _↔_}
-use mathlib.Core.List.{[], _∷_}
-use Prim.Native.Nat.{ℕ}
-use native.Mathlib.Decide.{ℕ-discrete}
-use lib.Dec.{T}
+use Rattle.runs.proofs.Base.{_≡_, refl, sym, _∙_, _≢_, _⊎_, inl, inr, _↔_, [], _∷_, ℕ, ℕ-discrete, T}
 use Rattle.runs.specs.Plan.{any-of, Picks, Plan, itself, Child, Under, WellFormed}
 use Rattle.runs.specs.Execution.{waiting, running, State, Event, start, finish, History, nodeOf, statusOf, Begins, statusAfter, any-done}
 use Rattle.runs.specs.Execution.{Complete, Begun, Rival, by-branch, Enabled, can-start, can-finish, Execution, none-yet, one-more, Completed}
 use Rattle.runs.proofs.Reflect.{clash}
-use Rattle.runs.proofs.Plan.Trees.{child-under, Branch, branch, one-branch}
+use Rattle.runs.proofs.Plan.{child-under, Branch, branch, one-branch}
 use Rattle.runs.proofs.Execution.Histories.{after-same, after-other}
 use Rattle.runs.proofs.Execution.Locality.{enabled-under, enabled-of-task, enabled-down, enabled-ready, enabled-up, choice-rests}
 use Rattle.runs.proofs.Execution.Completeness.{PickDone, picks-any, branch-done, complete-begun, complete-pick}

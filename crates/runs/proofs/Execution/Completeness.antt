@@ -1,10 +1,9 @@
 -- Complete nodes: what completes a node of each kind; what is complete has begun; what is done stays done.
-use mathlib.Core.Path.{_≡_}
-use Prim.Native.Nat.{ℕ, _<_}
+use Rattle.runs.proofs.Base.{_≡_, ℕ, _<_}
 use Rattle.runs.specs.Plan.{Kind, task, all-of, any-of, Picks, Plan, itself, Node, Child, Under, WellFormed}
 use Rattle.runs.specs.Execution.{done, State, task-done, all-done, any-done, Complete, Begun}
 use Rattle.runs.proofs.Reflect.{clash}
-use Rattle.runs.proofs.Plan.Trees.{under-trans, child-under}
+use Rattle.runs.proofs.Plan.{under-trans, child-under}
 
 pub picks-any : {k : Kind} → k ≡ any-of → Picks k
 picks-any k = rw k tt

@@ -1,12 +1,9 @@
 -- Every execution extends to a completed one, so every node has one.
-use mathlib.Core.Path.{_≡_, refl}
-use mathlib.Core.Logic.{_⊎_, inl, inr}
-use mathlib.Core.List.{[], _∷_, _++_}
-use Prim.Native.Nat.{ℕ}
+use Rattle.runs.proofs.Base.{_≡_, refl, _⊎_, inl, inr, [], _∷_, _++_, ℕ}
 use Rattle.runs.specs.Plan.{Kind, task, all-of, any-of, Picks, Plan, itself, Node, Child, WellFormed}
 use Rattle.runs.specs.Execution.{Status, waiting, running, done, start, finish, History, statusAfter, task-done, all-done, any-done, can-start}
 use Rattle.runs.specs.Execution.{can-finish, Execution, none-yet, one-more, Completed}
-use Rattle.runs.proofs.Plan.Trees.{child-under, from-leaves}
+use Rattle.runs.proofs.Plan.{child-under, from-leaves}
 use Rattle.runs.proofs.Execution.Histories.{after-same, Anything, all-anything}
 use Rattle.runs.proofs.Execution.Locality.{own-ready}
 use Rattle.runs.proofs.Execution.Parts.{part, part-execution}
@@ -26,8 +23,7 @@ module _ (p : Plan) (w : WellFormed p) where
   pub task-finish : {n : ℕ} {h : History} → p .tree .kind n ≡ task → statusAfter h n ≡ running → Execution p n h → Completed p n (finish n ∷ h)
   task-finish {n} {h} k q f = record {
     execution = one-more f (can-finish record { is-task = k; beneath = itself; runs = q });
-    complete = task-done k
-        (after-same (finish n) h);
+    complete = task-done k (after-same (finish n) h);
   }
 
   grow-task : {n : ℕ} (h : History) → p .tree .kind n ≡ task → Execution p n h → Extended n h
@@ -42,8 +38,7 @@ module _ (p : Plan) (w : WellFormed p) where
   lift-grown {c = c} k hc g = record {
     more = g .more;
     completed = record {
-      execution = pick-join p w k hc
-          (g .completed .execution);
+      execution = pick-join p w k hc (g .completed .execution);
       complete = any-done c k hc (g .completed .complete);
     };
   }

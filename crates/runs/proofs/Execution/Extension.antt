@@ -1,9 +1,5 @@
 -- What is done stays done; and what a child can do next by itself, its all-of group can do next.
-use mathlib.Core.Path.{_≡_, sym, ap, _∙_}
-use mathlib.Core.List.{[], _∷_, _++_}
-use Prim.Native.Nat.{ℕ}
-use native.Mathlib.Decide.{ℕ-discrete}
-use lib.Dec.{T}
+use Rattle.runs.proofs.Base.{_≡_, sym, ap, _∙_, [], _∷_, _++_, ℕ, ℕ-discrete, T}
 use Rattle.runs.specs.Plan.{all-of, Plan, Child, WellFormed}
 use Rattle.runs.specs.Execution.{waiting, running, done, Event, History, nodeOf, statusAfter, Complete, Enabled, can-start, can-finish}
 use Rattle.runs.specs.Execution.{Execution, one-more, Completed}

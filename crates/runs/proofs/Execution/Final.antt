@@ -1,17 +1,10 @@
 -- A completed execution cannot be extended; what stands before a child is completed before the child begins.
-use mathlib.Core.Path.{_≡_, refl, ap, _∙_}
-use mathlib.Core.Logic.{_≢_, _⊎_, inl, inr}
-use mathlib.Core.List.{[], _∷_}
-use Prim.Native.Nat.{ℕ}
-use native.Mathlib.Omega.{arith}
-use native.Mathlib.Decide.{ℕ-discrete}
-use lib.Dec.{T}
+use Rattle.runs.proofs.Base.{_≡_, refl, ap, _∙_, _≢_, _⊎_, inl, inr, [], _∷_, ℕ, arith, ℕ-discrete, T}
 use Rattle.runs.specs.Plan.{Kind, task, all-of, any-of, Picks, Plan, itself, Node, Child, Under, Before, direct, chain, WellFormed}
 use Rattle.runs.specs.Execution.{waiting, running, done, Event, History, nodeOf, Begins, statusAfter, Complete, Begun, Enabled, can-start}
 use Rattle.runs.specs.Execution.{can-finish, Execution, none-yet, one-more, Completed}
 use Rattle.runs.proofs.Reflect.{clash}
-use Rattle.runs.proofs.Plan.Trees.{child-under, Branch, branch, one-branch, from-leaves}
-use Rattle.runs.proofs.Plan.Chains.{order-child, before-child, before-rank}
+use Rattle.runs.proofs.Plan.{child-under, Branch, branch, one-branch, from-leaves, order-child, before-child, before-rank}
 use Rattle.runs.proofs.Execution.Histories.{after-nil, after-other}
 use Rattle.runs.proofs.Execution.Locality.{begun-local, enabled-ready, branch-of}
 use Rattle.runs.proofs.Execution.Parts.{part, part-in, part-out, after-part, part-execution, part-complete, execution-tail, execution-last}

@@ -1,8 +1,5 @@
 -- The same executions read forwards, the first event first; and `Earlier` as a split of the list.
-use mathlib.Core.Path.{_≡_, refl, ap}
-use mathlib.Core.Logic.{_↔_}
-use mathlib.Core.List.{[], _∷_, _++_, reverse, reverseAux}
-use Prim.Native.Nat.{ℕ}
+use Rattle.runs.proofs.Base.{_≡_, refl, ap, _↔_, [], _∷_, _++_, reverse, reverseAux, ℕ}
 use Rattle.runs.specs.Plan.{Plan}
 use Rattle.runs.specs.Execution.{State, Event, History, moved, statusAfter, Enabled, Execution, none-yet, one-more, Earlier, now, then}
 use Rattle.runs.proofs.Execution.Histories.{earlier-append}
@@ -37,9 +34,10 @@ module _ (p : Plan) (n : ℕ) where
   pub forwards : (es : History) → Forward p n (statusAfter []) es ↔ Execution p n (reverse es)
   forwards es = (forward-free es [] none-yet, free-forward es [])
 
-pub earlier-split : {r h : History} → Earlier r h → (g : History) × (h ≡ g ++ r)
-earlier-split now = ([], refl)
-earlier-split (then {e = e} q) = let (g, z) = earlier-split q in (e ∷ g, ap (λ l. e ∷ l) z)
+split-of : {r h : History} → Earlier r h → (g : History) × (h ≡ g ++ r)
+split-of now = ([], refl)
+split-of (then {e = e} q) = let (g, z) = split-of q in (e ∷ g, ap (λ l. e ∷ l) z)
 
-pub split-earlier : (r g : History) → Earlier r (g ++ r)
-split-earlier r g = earlier-append g r
+-- r is an earlier stage of h exactly if h is r and then some more events
+pub earlier-is-split : {r h : History} → Earlier r h ↔ ((g : History) × (h ≡ g ++ r))
+earlier-is-split {r} {h} = (split-of, λ x. rw (x .1) (earlier-append (x .0) r))

@@ -1,10 +1,5 @@
 -- Histories: the states that they leave, what holds of all their events, and what they were earlier.
-use mathlib.Core.Path.{_≡_, refl, ap}
-use mathlib.Core.Logic.{_≢_, _⊎_, inl, inr}
-use mathlib.Core.Bool.{Bool, true, false, cond}
-use mathlib.Core.List.{[], _∷_, _++_}
-use Prim.Native.Nat.{ℕ}
-use lib.Dec.{T, eqb, eqb→eq, eqb-refl}
+use Rattle.runs.proofs.Base.{_≡_, refl, ap, _≢_, _⊎_, inl, inr, Bool, true, false, cond, [], _∷_, _++_, ℕ, T, eqb, eqb→eq, eqb-refl}
 use Rattle.runs.specs.Execution.{waiting, Event, History, nodeOf, statusOf, statusAfter, Earlier, now, then}
 use Rattle.runs.proofs.Reflect.{clash}
 

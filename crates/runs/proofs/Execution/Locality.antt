@@ -1,14 +1,10 @@
 -- Locality: what is enabled at a node, and whether it is complete, depends on what is under it alone; and it splits along the children.
-use mathlib.Core.Path.{_≡_, sym, _∙_}
-use mathlib.Core.Logic.{_↔_, _⊎_, inl, inr}
-use Prim.Native.Nat.{ℕ}
-use native.Mathlib.Omega.{arith}
-use lib.Dec.{T}
+use Rattle.runs.proofs.Base.{_≡_, sym, _∙_, _↔_, _⊎_, inl, inr, ℕ, arith, T}
 use Rattle.runs.specs.Plan.{task, all-of, Picks, Plan, itself, Child, Under, WellFormed}
 use Rattle.runs.specs.Execution.{State, Event, nodeOf, Begins, task-done, all-done, any-done, Complete, Begun, Rival, by-branch, Ready, Enabled}
 use Rattle.runs.specs.Execution.{can-start, can-finish}
 use Rattle.runs.proofs.Reflect.{clash}
-use Rattle.runs.proofs.Plan.Trees.{under-trans, child-under, Branch, branch, under-le, child-lt, one-branch}
+use Rattle.runs.proofs.Plan.{under-trans, child-under, Branch, branch, under-le, child-lt, one-branch}
 
 module _ (p : Plan) where
   -- s and r agree under n
@@ -44,8 +40,7 @@ module _ (p : Plan) where
   enabled-local s r {n} a (can-start {t = t} m) = can-start record {
     is-task = m .is-task;
     beneath = m .beneath;
-    waits = sym (a t (m .beneath))
-        ∙ m .waits;
+    waits = sym (a t (m .beneath)) ∙ m .waits;
     ready = ready-local s r a (m .ready);
   }
   enabled-local s r {n} a (can-finish {t = t} m) = can-finish record { is-task = m .is-task; beneath = m .beneath; runs = sym (a t (m .beneath)) ∙ m .runs }

@@ -1,12 +1,8 @@
 -- The part of a history that falls under a node: it has the states there, and is an execution of that node.
-use mathlib.Core.Path.{_≡_, refl, sym, ap, _∙_}
-use mathlib.Core.Logic.{_≢_, _↔_}
-use mathlib.Core.List.{[], _∷_, _++_}
-use Prim.Native.Nat.{ℕ}
+use Rattle.runs.proofs.Base.{_≡_, refl, sym, ap, _∙_, _≢_, _↔_, [], _∷_, _++_, ℕ}
 use Rattle.runs.specs.Plan.{Plan, Child, Under, WellFormed}
 use Rattle.runs.specs.Execution.{Event, History, nodeOf, statusAfter, Complete, Enabled, Execution, none-yet, one-more, Earlier, now, then}
-use Rattle.runs.proofs.Plan.Trees.{one-branch}
-use Rattle.runs.proofs.Plan.Reflect.{decUnder}
+use Rattle.runs.proofs.Plan.{one-branch, decUnder}
 use Rattle.runs.proofs.Execution.Histories.{after-other, after-cong, All, all-nil, all-cons}
 use Rattle.runs.proofs.Execution.Locality.{Agree, agree-sym, complete-local, enabled-local, enabled-under, enabled-down}
 

@@ -1,14 +1,10 @@
 -- What has moved is a task under the node; nothing runs under a complete node; what runs has started.
-use mathlib.Core.Path.{_≡_, ap, sym, _∙_}
-use mathlib.Core.Logic.{_≢_}
-use mathlib.Core.List.{[], _∷_}
-use Prim.Native.Nat.{ℕ}
-use native.Mathlib.Decide.{ℕ-discrete}
+use Rattle.runs.proofs.Base.{_≡_, ap, sym, _∙_, _≢_, [], _∷_, ℕ, ℕ-discrete}
 use Rattle.runs.specs.Plan.{task, Plan, Node, Under, WellFormed}
 use Rattle.runs.specs.Execution.{Status, waiting, running, done, Event, start, finish, History, nodeOf, statusAfter, Complete, can-finish}
 use Rattle.runs.specs.Execution.{Execution, none-yet, one-more, Earlier, now, then}
 use Rattle.runs.proofs.Reflect.{clash}
-use Rattle.runs.proofs.Plan.Reflect.{decUnder}
+use Rattle.runs.proofs.Plan.{decUnder}
 use Rattle.runs.proofs.Execution.Histories.{after-nil, after-same, after-other}
 use Rattle.runs.proofs.Execution.Locality.{enabled-of-task}
 use Rattle.runs.proofs.Execution.AnyOf.{execution-outside}

@@ -1,14 +1,8 @@
 -- Executions of an all-of group, built stage by stage: a set of children is run to its end, each child by an execution of our choice.
-use mathlib.Core.Path.{_≡_, refl, sym, _∙_}
-use mathlib.Core.Logic.{_⊎_, inl, inr}
-use mathlib.Core.List.{[], _++_, append-assoc}
-use Prim.Native.Nat.{ℕ, zero, suc, _<_}
-use native.Mathlib.Omega.{arith}
-use native.Mathlib.Decide.{ℕ-discrete}
-use lib.Dec.{T}
+use Rattle.runs.proofs.Base.{_≡_, refl, sym, _∙_, _⊎_, inl, inr, [], _++_, append-assoc, ℕ, zero, suc, _<_, arith, ℕ-discrete, T}
 use Rattle.runs.specs.Plan.{all-of, Plan, Child, WellFormed}
 use Rattle.runs.specs.Execution.{Event, History, statusAfter, Complete, Execution, Completed}
-use Rattle.runs.proofs.Plan.Reflect.{decChild}
+use Rattle.runs.proofs.Plan.{decChild}
 use Rattle.runs.proofs.Execution.Histories.{All, all-nil, all-append, all-left}
 use Rattle.runs.proofs.Execution.Locality.{complete-local}
 use Rattle.runs.proofs.Execution.Parts.{part, after-part, execution-under, part-append, part-other}
@@ -29,8 +23,7 @@ module _ (p : Plan) (w : WellFormed p) where
       more = s .more;
       execution = s .execution;
       got = λ c hc e. s .got c hc (f c hc e);
-      kept = λ c hc ne. s .kept c hc
-          (λ d. ne (g c hc d));
+      kept = λ c hc ne. s .kept c hc (λ d. ne (g c hc d));
       good = s .good;
     }
 
@@ -89,9 +82,6 @@ module _ (p : Plan) (w : WellFormed p) where
           join : D i → w .rank i ≡ r → (c : ℕ) → Upto r i c ⊎ (c ≡ i) → Upto r (suc i) c
           join di q c (inl u) = wider c u
           join di q c (inr e) = rw e (di, inr (q, omega arith))
-
-          not-yet : ¬ Upto r i i → ¬ Upto r i i
-          not-yet x = x
 
           new : Child p n i → D i → w .rank i ≡ r → Staged Q n h (Upto r (suc i))
           new hi di q = let (g, wh, al) = history i hi di in

@@ -1,7 +1,5 @@
 -- The executions of a task: nothing, its start, its start and its finish.
-use mathlib.Core.Path.{_≡_, refl}
-use mathlib.Core.List.{[], _∷_}
-use Prim.Native.Nat.{ℕ}
+use Rattle.runs.proofs.Base.{_≡_, refl, [], _∷_, ℕ}
 use Rattle.runs.specs.Plan.{task, Plan, WellFormed}
 use Rattle.runs.specs.Execution.{waiting, running, done, Event, start, finish, History, statusAfter, Enabled, can-start, can-finish, Execution}
 use Rattle.runs.specs.Execution.{none-yet, one-more, Completed}

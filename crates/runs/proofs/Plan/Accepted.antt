@@ -1,11 +1,5 @@
 -- What 01's refusals leave is well formed; the rank of a node is its number. And a test for it, for plans given as tables.
-use mathlib.Core.Path.{_≡_, refl, sym, _∙_}
-use mathlib.Core.Logic.{_≢_}
-use mathlib.Core.Bool.{Bool}
-use mathlib.Core.Option.{Option, none, some}
-use Prim.Native.Nat.{ℕ, _<_}
-use native.Mathlib.Omega.{arith}
-use lib.Dec.{T, ltb}
+use Rattle.runs.proofs.Base.{_≡_, refl, sym, _∙_, _≢_, Bool, Option, none, some, ℕ, _<_, arith, T, ltb}
 use Rattle.runs.specs.Tests.{both, implies, negate, anyBelow, allBelow, isNone}
 use Rattle.runs.specs.Plan.{task, all-of, any-of, Place, inc, post, Plan, Node, Child, WellFormed, Accepted}
 use Rattle.runs.specs.Model.Trees.{kindB, childB}

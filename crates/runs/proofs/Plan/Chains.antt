@@ -1,8 +1,5 @@
 -- Chains of orders: they stay among the children of one group, and their rank rises.
-use mathlib.Core.Path.{sym, _∙_}
-use Prim.Native.Nat.{ℕ, _<_}
-use native.Mathlib.Omega.{arith}
-use lib.Dec.{T}
+use Rattle.runs.proofs.Base.{sym, _∙_, ℕ, _<_, arith, T}
 use Rattle.runs.specs.Plan.{Plan, Node, Child, Before, direct, chain, WellFormed}
 
 module _ (p : Plan) where

@@ -1,10 +1,5 @@
 -- The tests of tree and orders reflect them, so all of it can be decided.
-use mathlib.Core.Path.{_≡_, refl}
-use mathlib.Core.Logic.{_⊎_, inl, inr}
-use mathlib.Core.Bool.{Bool}
-use Prim.Native.Nat.{ℕ, zero, suc, _+_, _<_, _≤_}
-use native.Mathlib.Omega.{arith}
-use lib.Dec.{T}
+use Rattle.runs.proofs.Base.{_≡_, refl, _⊎_, inl, inr, Bool, ℕ, zero, suc, _+_, _<_, _≤_, arith, T}
 use Rattle.runs.specs.Plan.{Kind, task, all-of, any-of, Picks, Plan, itself, below, Node, Child, Under, Before, direct, chain, Unordered}
 use Rattle.runs.specs.Plan.{WellFormed}
 use Rattle.runs.specs.Model.Trees.{kindB, picksB, byKind, childB, someChildB, everyChildB, underIn, underB, someTaskB, beforeIn, beforeB}
@@ -96,8 +91,10 @@ module _ (p : Plan) where
     pub r-some-task : {c : ℕ} (P : ℕ → Type 0) (q : ℕ → Bool) → Node p c → ((t : ℕ) → Reflects (q t) (P t))
         → Reflects (someTaskB p c q) ((t : ℕ) × Under p c t × (p .tree .kind t ≡ task) × P t)
     unfolding someTaskB
-    r-some-task {c} P q l r = r-map (λ x. (x .0, x .2 .0, x .2 .1 .0, x .2 .1 .1),
-        λ x. (x .0, w .node-below (x .0) (under-node p l (x .1)), (x .1, (x .2, x .3))))
+    r-some-task {c} P q l r = r-map (
+      λ x. (x .0, x .2 .0, x .2 .1 .0, x .2 .1 .1),
+      λ x. (x .0, w .node-below (x .0) (under-node p l (x .1)), (x .1, (x .2, x .3))),
+    )
         (r-any (λ t. Under p c t × ((p .tree .kind t ≡ task) × P t)) _ _ (λ t. r-both _ _ (r-under c t) (r-both _ _ (r-kind _ _) (r t))))
 
     -- chains of orders
@@ -132,6 +129,8 @@ module _ (p : Plan) where
 
     pub r-unordered : (a b : ℕ) → Reflects (unorderedB p a b) (Unordered p a b)
     unfolding unorderedB
-    r-unordered a b = r-map (λ x. record { distinct = x .0; not-before = x .1 .0; not-after = x .1 .1 },
-        λ u. (u .distinct, (u .not-before, u .not-after)))
+    r-unordered a b = r-map (
+      λ x. record { distinct = x .0; not-before = x .1 .0; not-after = x .1 .1 },
+      λ u. (u .distinct, (u .not-before, u .not-after)),
+    )
         (r-both _ _ (r-negate _ (r-eq a b)) (r-both _ _ (r-negate _ (r-before a b)) (r-negate _ (r-before b a))))

@@ -1,8 +1,5 @@
 -- The tree: a node is under one child of a group at most; every node is under the root; induction from the leaves up.
-use mathlib.Core.Path.{_≡_, refl, sym}
-use mathlib.Core.Logic.{_⊎_, inl, inr}
-use Prim.Native.Nat.{ℕ, zero, suc, _+_, _<_, _≤_}
-use native.Mathlib.Omega.{arith}
+use Rattle.runs.proofs.Base.{_≡_, refl, sym, _⊎_, inl, inr, ℕ, zero, suc, _+_, _<_, _≤_, arith}
 use Rattle.runs.specs.Plan.{Plan, itself, below, Node, Child, Under, WellFormed}
 
 module _ (p : Plan) where

@@ -1,23 +1,14 @@
 -- The rules by children for the marks of the conditions, each exact. A task has one completed execution, and a choice those of its branches, so there a
 -- mark is read off whatever property it is about; at an all-of group each has its rule. (Clobber and ReflectClobber have marks 6 and 7.)
-use mathlib.Core.Path.{_≡_, refl, _∙_}
-use mathlib.Core.Logic.{_⊎_, inl, inr, _↔_, Iff·trans}
-use mathlib.Core.Bool.{Bool, not}
-use mathlib.Core.Option.{Option, none, some}
-use mathlib.Core.List.{[], _∷_}
-use Prim.Native.Nat.{ℕ}
+use Rattle.runs.proofs.Base.{_≡_, refl, _∙_, _⊎_, inl, inr, _↔_, Iff·trans, Bool, not, Option, none, some, [], _∷_, ℕ}
 use Rattle.runs.specs.Tests.{negate}
 use Rattle.runs.specs.Plan.{task, all-of, any-of, pre, inc, post, Plan, Node, Child, Before, WellFormed}
 use Rattle.runs.specs.Execution.{Event, start, finish, History, lastAssertedOf, lastAsserted, Earlier, now, then}
 use Rattle.runs.specs.Summary.{May, Must, ExternalPre, ExternalPost, Incondition}
 use Rattle.runs.specs.Model.Marks.{quietB, beginsIncB}
 use Rattle.runs.proofs.Reflect.{clash, Reflects, decided, r-negate}
-use Rattle.runs.proofs.Plan.Chains.{before-child}
-use Rattle.runs.proofs.Plan.Reflect.{r-some-child}
-use Rattle.runs.proofs.Execution.Histories.{Anything, earlier-inv, earlier-nil}
-use Rattle.runs.proofs.Execution.AnyOf.{any-completed, completed-pick}
-use Rattle.runs.proofs.Execution.Task.{task-ended, task-completed}
-use Rattle.runs.proofs.Execution.Completeness.{picks-any}
+use Rattle.runs.proofs.Plan.{before-child, r-some-child}
+use Rattle.runs.proofs.Execution.{Anything, earlier-inv, earlier-nil, any-completed, completed-pick, task-ended, task-completed, picks-any}
 use Rattle.runs.proofs.Summary.Events.{Unasserted, PreOn, BeginsInc, Neutral, Covers, Asserts, r-begins-inc}
 use Rattle.runs.proofs.Summary.Inconditions.{incondition-begun, begun-incondition, may-inc-is-meet, must-inc-is}
 use Rattle.runs.proofs.Summary.Last.{last-all}

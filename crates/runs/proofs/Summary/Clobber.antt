@@ -1,21 +1,11 @@
 -- May clobber, by children: the pair rule for all-of, some branch for any-of, never for a task.
-use mathlib.Core.Path.{_≡_, sym, _∙_}
-use mathlib.Core.Logic.{_↔_}
-use mathlib.Core.Bool.{Bool, not}
-use mathlib.Core.Option.{some}
-use mathlib.Core.List.{_∷_}
-use Prim.Native.Nat.{ℕ}
+use Rattle.runs.proofs.Base.{_≡_, sym, _∙_, _↔_, Bool, not, some, _∷_, ℕ}
 use Rattle.runs.specs.Plan.{task, all-of, any-of, Plan, Child, WellFormed}
 use Rattle.runs.specs.Execution.{Event, History, Execution, preOf, lastAssertedOf, lastAsserted}
 use Rattle.runs.specs.Summary.{Clobbers, precondition, incondition, Clobbered, ClobberByPairs, in-child, unordered-pair, passed-on, MayClobber}
 use Rattle.runs.proofs.Reflect.{clash}
-use Rattle.runs.proofs.Execution.Locality.{enabled-under}
-use Rattle.runs.proofs.Execution.Parts.{execution-tail, execution-last}
-use Rattle.runs.proofs.Execution.AnyOf.{pick-join, any-split}
-use Rattle.runs.proofs.Execution.Final.{under-task}
-use Rattle.runs.proofs.Execution.Task.{TaskExecution, begun, ended, task-execution}
-use Rattle.runs.proofs.Execution.Completeness.{picks-any}
-use Rattle.runs.proofs.Execution.Running.{running-moved, moved-under}
+use Rattle.runs.proofs.Execution.{enabled-under, execution-tail, execution-last, pick-join, any-split, under-task, TaskExecution, begun, ended}
+use Rattle.runs.proofs.Execution.{task-execution, picks-any, running-moved, moved-under}
 use Rattle.runs.proofs.Summary.PairsComplete.{clobber-to-pairs}
 use Rattle.runs.proofs.Summary.PairsSound.{passed-on-clobbers, in-child-clobbers, unordered-clobbers}
 

@@ -1,14 +1,10 @@
 -- What an event does to a flag f or a literal (f, v), as classes of events; and what a history last asserted, by its events.
-use mathlib.Core.Path.{_≡_, refl}
-use mathlib.Core.Bool.{Bool}
-use mathlib.Core.Option.{Option, none, some}
-use mathlib.Core.List.{[], _∷_}
-use Prim.Native.Nat.{ℕ, _<_}
+use Rattle.runs.proofs.Base.{_≡_, refl, Bool, Option, none, some, [], _∷_, ℕ, _<_}
 use Rattle.runs.specs.Plan.{pre, inc, Plan, WellFormed}
 use Rattle.runs.specs.Execution.{Event, start, finish, History, preOf, lastAssertedOf, asserts, lastAsserted}
 use Rattle.runs.specs.Model.Marks.{unassertedB, preB, assertsB, beginsIncB, neutralB, coversB}
 use Rattle.runs.proofs.Reflect.{clash, Reflects, r-none, r-some, r-both, r-negate}
-use Rattle.runs.proofs.Execution.Histories.{All, all-nil, all-cons}
+use Rattle.runs.proofs.Execution.{All, all-nil, all-cons}
 
 module _ (p : Plan) (f : ℕ) where
   -- it says nothing of the flag

@@ -1,16 +1,11 @@
 -- May and must incondition, through quiet and meet: a task with it runs at some time exactly if an event of the history begins it.
-use mathlib.Core.Logic.{_⊎_, inl, inr, _↔_}
-use mathlib.Core.Bool.{Bool}
-use mathlib.Core.List.{[], _∷_, _++_}
-use Prim.Native.Nat.{ℕ}
+use Rattle.runs.proofs.Base.{_⊎_, inl, inr, _↔_, Bool, [], _∷_, _++_, ℕ}
 use Rattle.runs.specs.Plan.{Plan, Node, WellFormed}
 use Rattle.runs.specs.Execution.{Event, start, finish, History, Completed, Earlier, now, then}
 use Rattle.runs.specs.Summary.{May, Must, Incondition}
 use Rattle.runs.proofs.Reflect.{decided}
-use Rattle.runs.proofs.Execution.Histories.{after-same, All, all-nil, all-cons, Anything, all-anything, earlier-append, earlier-trans, all-at}
-use Rattle.runs.proofs.Execution.Parts.{earlier-execution}
-use Rattle.runs.proofs.Execution.Completion.{Extended, extends}
-use Rattle.runs.proofs.Execution.Running.{running-started}
+use Rattle.runs.proofs.Execution.{after-same, All, all-nil, all-cons, Anything, all-anything, earlier-append, earlier-trans, all-at}
+use Rattle.runs.proofs.Execution.{earlier-execution, Extended, extends, running-started}
 use Rattle.runs.proofs.Summary.Events.{BeginsInc, r-begins-inc}
 use Rattle.runs.proofs.Summary.Meet.{MayMeet}
 use Rattle.runs.proofs.Summary.Quiet.{MayQuiet}

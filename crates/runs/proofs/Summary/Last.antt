@@ -1,27 +1,12 @@
 -- Last Q H: some completed execution has an event in H with only Q after it. Its rules by children.
-use mathlib.Core.Path.{_≡_, refl, ap, _∙_, sym}
-use mathlib.Core.Logic.{_⊎_, inl, inr, _↔_, _≢_}
-use mathlib.Core.List.{[], _∷_, _++_, append-nil}
-use Prim.Native.Nat.{ℕ}
-use native.Mathlib.Omega.{arith}
-use native.Mathlib.Decide.{ℕ-discrete}
-use lib.Dec.{T}
+use Rattle.runs.proofs.Base.{_≡_, refl, ap, _∙_, sym, _⊎_, inl, inr, _↔_, _≢_, [], _∷_, _++_, append-nil, ℕ, arith, ℕ-discrete, T}
 use Rattle.runs.specs.Plan.{task, all-of, any-of, Plan, Child, Under, Before, direct, WellFormed}
 use Rattle.runs.specs.Execution.{Event, start, finish, History, nodeOf, statusAfter, all-done, Complete, Execution, Completed}
-use Rattle.runs.proofs.Plan.Trees.{Branch, one-branch}
-use Rattle.runs.proofs.Plan.Chains.{before-rank, before-trans, before-irrefl}
-use Rattle.runs.proofs.Plan.Reflect.{decBefore}
-use Rattle.runs.proofs.Execution.Histories.{All, all-nil, all-cons, earlier-append, Anything}
-use Rattle.runs.proofs.Execution.Locality.{branch-of}
-use Rattle.runs.proofs.Execution.Parts.{part, part-nil, part-in, part-out, execution-last, earlier-execution, execution-under, part-append}
-use Rattle.runs.proofs.Execution.Parts.{part-other, part-all}
-use Rattle.runs.proofs.Execution.AllOf.{part-completed}
-use Rattle.runs.proofs.Execution.AnyOf.{any-completed, completed-pick}
-use Rattle.runs.proofs.Execution.Extension.{complete-stays, extend-completed}
-use Rattle.runs.proofs.Execution.Stages.{Staged, stage}
-use Rattle.runs.proofs.Execution.Final.{apart}
-use Rattle.runs.proofs.Execution.Task.{task-ended, task-completed}
-use Rattle.runs.proofs.Execution.Completeness.{picks-any}
+use Rattle.runs.proofs.Plan.{Branch, one-branch, before-rank, before-trans, before-irrefl, decBefore}
+use Rattle.runs.proofs.Execution.{All, all-nil, all-cons, earlier-append, Anything, branch-of, part, part-nil, part-in, part-out}
+use Rattle.runs.proofs.Execution.{execution-last, earlier-execution, execution-under, part-append, part-other, part-all, part-completed}
+use Rattle.runs.proofs.Execution.{any-completed, completed-pick, complete-stays, extend-completed, Staged, stage, apart, task-ended}
+use Rattle.runs.proofs.Execution.{task-completed, picks-any}
 use Rattle.runs.proofs.Summary.Quiet.{MayQuiet, quiet-stage, quiet-anything}
 
 pub data LastIs (Q H : Event → Type 0) : History → Type 0 where

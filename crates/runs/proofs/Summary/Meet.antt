@@ -1,24 +1,11 @@
 -- Meet Q H: some execution comes to an event in H with only Q before it. Its rules by children.
-use mathlib.Core.Path.{_≡_, ap, _∙_}
-use mathlib.Core.Logic.{_⊎_, inl, inr, _↔_}
-use mathlib.Core.List.{[], _∷_, _++_, append-nil}
-use Prim.Native.Nat.{ℕ}
-use native.Mathlib.Omega.{arith}
+use Rattle.runs.proofs.Base.{_≡_, ap, _∙_, _⊎_, inl, inr, _↔_, [], _∷_, _++_, append-nil, ℕ, arith}
 use Rattle.runs.specs.Plan.{task, all-of, any-of, Plan, Child, Under, Before, direct, chain, WellFormed}
 use Rattle.runs.specs.Execution.{Event, start, finish, History, nodeOf, statusAfter, Complete, Begun, Execution}
-use Rattle.runs.proofs.Plan.Trees.{child-under, Branch, one-branch}
-use Rattle.runs.proofs.Plan.Chains.{before-child, before-rank}
-use Rattle.runs.proofs.Plan.Reflect.{decBefore}
-use Rattle.runs.proofs.Execution.Histories.{All, all-nil, all-cons, all-append}
-use Rattle.runs.proofs.Execution.Locality.{branch-of}
-use Rattle.runs.proofs.Execution.Parts.{part, part-nil, part-in, part-out, part-execution, part-complete, execution-tail, execution-last}
-use Rattle.runs.proofs.Execution.Parts.{part-all}
-use Rattle.runs.proofs.Execution.AnyOf.{pick-join, any-split}
-use Rattle.runs.proofs.Execution.Extension.{extend}
-use Rattle.runs.proofs.Execution.Stages.{Staged}
-use Rattle.runs.proofs.Execution.Final.{before-complete, part-begun}
-use Rattle.runs.proofs.Execution.Task.{TaskExecution, begun, ended, task-execution, task-begun, task-ended}
-use Rattle.runs.proofs.Execution.Completeness.{picks-any}
+use Rattle.runs.proofs.Plan.{child-under, Branch, one-branch, before-child, before-rank, decBefore}
+use Rattle.runs.proofs.Execution.{All, all-nil, all-cons, all-append, branch-of, part, part-nil, part-in, part-out, part-execution}
+use Rattle.runs.proofs.Execution.{part-complete, execution-tail, execution-last, part-all, pick-join, any-split, extend, Staged}
+use Rattle.runs.proofs.Execution.{before-complete, part-begun, TaskExecution, begun, ended, task-execution, task-begun, task-ended, picks-any}
 use Rattle.runs.proofs.Summary.Quiet.{MayQuiet, quiet-stage}
 
 module _ (p : Plan) (Q H : Event → Type 0) where
@@ -53,8 +40,7 @@ module _ (p : Plan) (w : WellFormed p) (Q H : Event → Type 0) where
     λ x. record {
       event = x .2 .event;
       before = x .2 .before;
-      execution = pick-join p w (picks-any k) (x .1)
-          (x .2 .execution);
+      execution = pick-join p w (picks-any k) (x .1) (x .2 .execution);
       hit = x .2 .hit;
       quiet = x .2 .quiet;
     },

@@ -1,25 +1,14 @@
 -- The rule for must clobber is sound: every completed execution of such a node starts a task whose precondition was last asserted false.
-use mathlib.Core.Path.{_≡_, refl, sym}
-use mathlib.Core.Logic.{_≢_, _⊎_, inl, inr}
-use mathlib.Core.Bool.{Bool, not}
-use mathlib.Core.Option.{Option, none, some}
-use mathlib.Core.List.{[], _∷_}
-use Prim.Native.Nat.{ℕ}
-use native.Mathlib.Decide.{ℕ-discrete}
+use Rattle.runs.proofs.Base.{_≡_, refl, sym, _≢_, _⊎_, inl, inr, Bool, not, Option, none, some, [], _∷_, ℕ, ℕ-discrete}
 use Rattle.runs.specs.Plan.{all-of, Plan, Child, Under, Before, Unordered, WellFormed, Node}
 use Rattle.runs.specs.Execution.{Event, History, nodeOf, statusAfter, Execution, Completed, preOf, lastAssertedOf, asserts, lastAsserted}
 use Rattle.runs.specs.Execution.{Earlier, now, then}
 use Rattle.runs.specs.Summary.{Must, ExternalPre, ExternalPost, Silent, MustClobber, by-any-of, by-child, by-pair, MayClobber, precondition}
 use Rattle.runs.proofs.Reflect.{clash}
-use Rattle.runs.proofs.Plan.Trees.{Branch}
-use Rattle.runs.proofs.Plan.Reflect.{decUnder, decBefore}
-use Rattle.runs.proofs.Execution.Histories.{all-at, earlier-nil, earlier-inv}
-use Rattle.runs.proofs.Execution.Locality.{branch-of, enabled-of-task}
-use Rattle.runs.proofs.Execution.Parts.{part, part-nil, part-in, part-out, execution-tail, execution-last, earlier-execution}
-use Rattle.runs.proofs.Execution.AllOf.{part-completed}
-use Rattle.runs.proofs.Execution.AnyOf.{any-completed}
-use Rattle.runs.proofs.Execution.Completion.{completed-execution}
-use Rattle.runs.proofs.Execution.Final.{apart, completed-before}
+use Rattle.runs.proofs.Plan.{Branch, decUnder, decBefore}
+use Rattle.runs.proofs.Execution.{all-at, earlier-nil, earlier-inv, branch-of, enabled-of-task, part, part-nil, part-in, part-out}
+use Rattle.runs.proofs.Execution.{execution-tail, execution-last, earlier-execution, part-completed, any-completed, completed-execution, apart}
+use Rattle.runs.proofs.Execution.{completed-before}
 use Rattle.runs.proofs.Summary.Events.{Unasserted, unasserted-all}
 
 -- in the history h a task with the precondition starts after a last assertion of its opposite

@@ -1,25 +1,14 @@
 -- An all-of group that may clobber has a pair: the children are read off the execution by projection.
-use mathlib.Core.Path.{_≡_, sym, _∙_}
-use mathlib.Core.Logic.{_≢_, _⊎_, inl, inr}
-use mathlib.Core.Bool.{Bool, not}
-use mathlib.Core.Option.{some}
-use mathlib.Core.List.{[], _∷_, _++_, append-nil}
-use Prim.Native.Nat.{ℕ}
-use native.Mathlib.Decide.{ℕ-discrete}
+use Rattle.runs.proofs.Base.{_≡_, sym, _∙_, _≢_, _⊎_, inl, inr, Bool, not, some, [], _∷_, _++_, append-nil, ℕ, ℕ-discrete}
 use Rattle.runs.specs.Plan.{task, all-of, inc, Plan, Child, Under, Before, WellFormed, pre, post}
 use Rattle.runs.specs.Execution.{running, Event, start, finish, History, nodeOf, statusAfter, Execution, Completed, preOf, asserts}
 use Rattle.runs.specs.Execution.{lastAsserted}
 use Rattle.runs.specs.Summary.{Clobbers, precondition, incondition, TaskWith, ClobberByPairs, in-child, unordered-pair, passed-on, MayClobber}
 use Rattle.runs.proofs.Reflect.{clash}
-use Rattle.runs.proofs.Plan.Trees.{child-under, Branch, branch, one-branch}
-use Rattle.runs.proofs.Plan.Chains.{before-irrefl}
-use Rattle.runs.proofs.Plan.Reflect.{decBefore}
-use Rattle.runs.proofs.Execution.Histories.{after-nil, All, earlier-append}
-use Rattle.runs.proofs.Execution.Locality.{OfTask, enabled-of-task, all-of-rests, branch-of}
-use Rattle.runs.proofs.Execution.Parts.{part, part-in, part-out, after-part, part-execution, execution-tail, execution-last, earlier-execution}
-use Rattle.runs.proofs.Execution.Parts.{part-append, part-all}
-use Rattle.runs.proofs.Execution.Final.{apart, completed-before}
-use Rattle.runs.proofs.Execution.Running.{running-moved, running-task, moved-under, none-runs}
+use Rattle.runs.proofs.Plan.{child-under, Branch, branch, one-branch, before-irrefl, decBefore}
+use Rattle.runs.proofs.Execution.{after-nil, All, earlier-append, OfTask, enabled-of-task, all-of-rests, branch-of, part, part-in, part-out}
+use Rattle.runs.proofs.Execution.{after-part, part-execution, execution-tail, execution-last, earlier-execution, part-append, part-all, apart}
+use Rattle.runs.proofs.Execution.{completed-before, running-moved, running-task, moved-under, none-runs}
 use Rattle.runs.proofs.Summary.Events.{Unasserted, all-unasserted}
 use Rattle.runs.proofs.Summary.Last.{here, last-at, last-past}
 use Rattle.runs.proofs.Summary.Postconditions.{last-some, some-last}

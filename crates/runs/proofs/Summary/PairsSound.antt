@@ -1,25 +1,13 @@
 -- A pair clobbers: prefixes of the two children, one after the other, after what stands before them.
-use mathlib.Core.Path.{_≡_, sym, _∙_}
-use mathlib.Core.Logic.{_⊎_, inl, inr}
-use mathlib.Core.Bool.{Bool, not}
-use mathlib.Core.Option.{some, none}
-use mathlib.Core.List.{[], _∷_, _++_, append-nil}
-use Prim.Native.Nat.{ℕ}
-use lib.Dec.{T}
+use Rattle.runs.proofs.Base.{_≡_, sym, _∙_, _⊎_, inl, inr, Bool, not, some, none, [], _∷_, _++_, append-nil, ℕ, T}
 use Rattle.runs.specs.Plan.{all-of, pre, inc, post, Plan, Child, Under, Before, direct, chain, Unordered, WellFormed}
 use Rattle.runs.specs.Execution.{running, Event, start, finish, History, nodeOf, statusAfter, Complete, Execution, asserts, lastAsserted}
 use Rattle.runs.specs.Summary.{Clobbers, precondition, incondition, Clobbered, TaskWith, May, ExternalPre, ExternalPost}
 use Rattle.runs.proofs.Reflect.{dec-or}
-use Rattle.runs.proofs.Plan.Trees.{one-branch}
-use Rattle.runs.proofs.Plan.Chains.{before-irrefl}
-use Rattle.runs.proofs.Plan.Reflect.{decBefore}
-use Rattle.runs.proofs.Execution.Histories.{after-same, earlier-append, Anything}
-use Rattle.runs.proofs.Execution.Locality.{enabled-under}
-use Rattle.runs.proofs.Execution.Parts.{part, part-nil, after-part, execution-tail, execution-last, earlier-execution, execution-under}
-use Rattle.runs.proofs.Execution.Parts.{part-append, part-own, part-other}
-use Rattle.runs.proofs.Execution.Extension.{complete-stays, agree-append, extend}
-use Rattle.runs.proofs.Execution.Stages.{Staged}
-use Rattle.runs.proofs.Execution.Running.{running-moved, moved-under}
+use Rattle.runs.proofs.Plan.{one-branch, before-irrefl, decBefore}
+use Rattle.runs.proofs.Execution.{after-same, earlier-append, Anything, enabled-under, part, part-nil, after-part, execution-tail}
+use Rattle.runs.proofs.Execution.{execution-last, earlier-execution, execution-under, part-append, part-own, part-other, complete-stays}
+use Rattle.runs.proofs.Execution.{agree-append, extend, Staged, running-moved, moved-under}
 use Rattle.runs.proofs.Summary.Events.{Unasserted, Asserts, PreOn}
 use Rattle.runs.proofs.Summary.Last.{ending, Ending, last-past, here, last-over}
 use Rattle.runs.proofs.Summary.Meet.{MayMeet}

@@ -1,10 +1,5 @@
 -- May and must external postcondition, through last and quiet.
-use mathlib.Core.Path.{_≡_, refl, ap, _∙_}
-use mathlib.Core.Logic.{_↔_, _≢_}
-use mathlib.Core.Bool.{Bool-discrete, Bool, true, false, not}
-use mathlib.Core.Option.{Option, none, some}
-use mathlib.Core.List.{[], _∷_}
-use Prim.Native.Nat.{ℕ}
+use Rattle.runs.proofs.Base.{_≡_, refl, ap, _∙_, _↔_, _≢_, Bool-discrete, Bool, true, false, not, Option, none, some, [], _∷_, ℕ}
 use Rattle.runs.specs.Plan.{Plan}
 use Rattle.runs.specs.Execution.{History, Completed, lastAssertedOf, asserts, lastAsserted}
 use Rattle.runs.specs.Summary.{May, Must, ExternalPost}

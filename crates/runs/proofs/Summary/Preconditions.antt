@@ -1,17 +1,10 @@
 -- May and must external precondition, through quiet and meet.
-use mathlib.Core.Path.{_≡_}
-use mathlib.Core.Logic.{_⊎_, inl, inr, _↔_}
-use mathlib.Core.Bool.{Bool}
-use mathlib.Core.Option.{none}
-use mathlib.Core.List.{[], _∷_, _++_}
-use Prim.Native.Nat.{ℕ}
+use Rattle.runs.proofs.Base.{_≡_, _⊎_, inl, inr, _↔_, Bool, none, [], _∷_, _++_, ℕ}
 use Rattle.runs.specs.Plan.{Plan, Node, WellFormed}
 use Rattle.runs.specs.Execution.{Event, History, Execution, Completed, asserts, Earlier, now, then}
 use Rattle.runs.specs.Summary.{May, Must, ExternalPre}
 use Rattle.runs.proofs.Reflect.{decided}
-use Rattle.runs.proofs.Execution.Histories.{All, all-nil, all-cons, earlier-append, earlier-compare, all-at}
-use Rattle.runs.proofs.Execution.Parts.{earlier-execution}
-use Rattle.runs.proofs.Execution.Completion.{Extended, extends}
+use Rattle.runs.proofs.Execution.{All, all-nil, all-cons, earlier-append, earlier-compare, all-at, earlier-execution, Extended, extends}
 use Rattle.runs.proofs.Summary.Events.{r-pre, r-unasserted, Unasserted, PreOn, Neutral, Covers, unasserted-all, all-unasserted}
 use Rattle.runs.proofs.Summary.Meet.{MayMeet}
 use Rattle.runs.proofs.Summary.Quiet.{MayQuiet}

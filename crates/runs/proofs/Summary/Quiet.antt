@@ -1,19 +1,9 @@
 -- Quiet Q: some completed execution has all its events in Q. Its rules by children.
-use mathlib.Core.Path.{_≡_}
-use mathlib.Core.Logic.{inl, _↔_}
-use mathlib.Core.List.{[], _∷_, _++_, append-nil}
-use Prim.Native.Nat.{ℕ}
-use lib.Dec.{T}
+use Rattle.runs.proofs.Base.{_≡_, inl, _↔_, [], _∷_, _++_, append-nil, ℕ, T}
 use Rattle.runs.specs.Plan.{task, all-of, any-of, Plan, Child, WellFormed, Node}
 use Rattle.runs.specs.Execution.{Event, start, finish, History, all-done, none-yet, Completed}
-use Rattle.runs.proofs.Execution.Histories.{All, all-nil, all-cons, all-append, Anything, all-anything}
-use Rattle.runs.proofs.Execution.Parts.{part, part-nil, part-all}
-use Rattle.runs.proofs.Execution.AllOf.{part-completed}
-use Rattle.runs.proofs.Execution.AnyOf.{any-completed, completed-pick}
-use Rattle.runs.proofs.Execution.Stages.{Staged, stage}
-use Rattle.runs.proofs.Execution.Completion.{completed-execution}
-use Rattle.runs.proofs.Execution.Task.{task-ended, task-completed}
-use Rattle.runs.proofs.Execution.Completeness.{picks-any}
+use Rattle.runs.proofs.Execution.{All, all-nil, all-cons, all-append, Anything, all-anything, part, part-nil, part-all, part-completed}
+use Rattle.runs.proofs.Execution.{any-completed, completed-pick, Staged, stage, completed-execution, task-ended, task-completed, picks-any}
 
 module _ (p : Plan) (Q : Event → Type 0) where
   pub record MayQuiet (n : ℕ) : Type 0 where

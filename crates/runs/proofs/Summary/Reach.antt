@@ -1,16 +1,9 @@
 -- Each event of a task under a node can be met in an execution of the node.
-use mathlib.Core.Path.{_≡_, refl, ap}
-use mathlib.Core.Logic.{_⊎_, inl, inr}
-use mathlib.Core.List.{_∷_}
-use Prim.Native.Nat.{ℕ}
+use Rattle.runs.proofs.Base.{_≡_, refl, ap, _⊎_, inl, inr, _∷_, ℕ}
 use Rattle.runs.specs.Plan.{Kind, task, all-of, any-of, Plan, Node, Child, Under, WellFormed}
 use Rattle.runs.specs.Execution.{Event, start, finish, History, nodeOf, Execution}
-use Rattle.runs.proofs.Plan.Trees.{Branch, branch, from-leaves}
-use Rattle.runs.proofs.Plan.Chains.{before-child}
-use Rattle.runs.proofs.Execution.Histories.{Anything}
-use Rattle.runs.proofs.Execution.Locality.{OfTask, all-of-rests, choice-rests}
-use Rattle.runs.proofs.Execution.Final.{under-task}
-use Rattle.runs.proofs.Execution.Completeness.{picks-any}
+use Rattle.runs.proofs.Plan.{Branch, branch, from-leaves, before-child}
+use Rattle.runs.proofs.Execution.{Anything, OfTask, all-of-rests, choice-rests, under-task, picks-any}
 use Rattle.runs.proofs.Summary.Meet.{MayMeet, meet-task, meet-any, meet-all}
 use Rattle.runs.proofs.Summary.Quiet.{quiet-anything}
 

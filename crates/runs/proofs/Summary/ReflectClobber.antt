@@ -1,10 +1,5 @@
 -- The test by pairs reflects may clobber; the test by the rule reflects must clobber.
-use mathlib.Core.Path.{_≡_}
-use mathlib.Core.Logic.{_≢_, _⊎_, inl, inr, _↔_, Iff·symm}
-use mathlib.Core.Bool.{Bool, false, not}
-use mathlib.Core.Option.{Option, none, some}
-use Prim.Native.Nat.{ℕ, zero, suc, _+_, _≤_}
-use native.Mathlib.Omega.{arith}
+use Rattle.runs.proofs.Base.{_≡_, _≢_, _⊎_, inl, inr, _↔_, Iff·symm, Bool, false, not, Option, none, some, ℕ, zero, suc, _+_, _≤_, arith}
 use Rattle.runs.specs.Plan.{task, all-of, any-of, Place, pre, inc, post, Plan, Node, Child, Under, Before, Unordered, WellFormed}
 use Rattle.runs.specs.Execution.{start, finish, lastAsserted}
 use Rattle.runs.specs.Summary.{May, Must, ExternalPre, ExternalPost, MayClobber, TaskWith, ClobberByPairs, in-child, unordered-pair, passed-on}
@@ -12,8 +7,7 @@ use Rattle.runs.specs.Summary.{Silent, MustClobber, by-any-of, by-child,
 use Rattle.runs.specs.Model.Marks.{conditionB, silentB, avoidedB, pairB, mayClobberIn, mayClobberB, aloneB, undisturbedB, mustClobberIn}
 use Rattle.runs.specs.Model.Marks.{mustClobberB}
 use Rattle.runs.proofs.Reflect.{clash, Reflects, r-map, decided, r-both, r-either, r-implies, r-negate, r-eq, r-none, r-some}
-use Rattle.runs.proofs.Plan.Trees.{child-lt}
-use Rattle.runs.proofs.Plan.Reflect.{r-by-kind, r-some-child, r-every-child, r-some-task, r-before, r-unordered}
+use Rattle.runs.proofs.Plan.{child-lt, r-by-kind, r-some-child, r-every-child, r-some-task, r-before, r-unordered}
 use Rattle.runs.proofs.Summary.Clobber.{clobber-all, clobber-any, clobber-task}
 use Rattle.runs.proofs.Summary.ReflectConditions.{r-avoid, r-may-pre, r-must-pre, r-may-post, r-must-post}
 
@@ -120,21 +114,21 @@ module _ (p : Plan) (w : WellFormed p) where
     MustAll n = ((c : ℕ) × Child p n c × (MustClobber p f v c × Alone n c)) ⊎ ((c : ℕ) × Child p n c × ((d : ℕ) × Child p n d × MustPair n c d))
 
     -- the rule read backwards, at each kind of node
-    pub must-task : {n : ℕ} → p .tree .kind n ≡ task → ¬ MustClobber p f v n
-    must-task k (by-any-of k′ a) = clash cc
-    must-task k (by-child k′ c hc d l) = clash cc
-    must-task k (by-pair k′ c d hc hd q ml mn g) = clash cc
+    pub must-clobber-task : {n : ℕ} → p .tree .kind n ≡ task → ¬ MustClobber p f v n
+    must-clobber-task k (by-any-of k′ a) = clash cc
+    must-clobber-task k (by-child k′ c hc d l) = clash cc
+    must-clobber-task k (by-pair k′ c d hc hd q ml mn g) = clash cc
 
-    pub must-any : {n : ℕ} → p .tree .kind n ≡ any-of → MustClobber p f v n ↔ ((c : ℕ) → Child p n c → MustClobber p f v c)
-    must-any {n} k = (to, by-any-of k)
+    pub must-clobber-any : {n : ℕ} → p .tree .kind n ≡ any-of → MustClobber p f v n ↔ ((c : ℕ) → Child p n c → MustClobber p f v c)
+    must-clobber-any {n} k = (to, by-any-of k)
       where
         to : MustClobber p f v n → (c : ℕ) → Child p n c → MustClobber p f v c
         to (by-any-of k′ a) = a
         to (by-child k′ c hc d l) = clash cc
         to (by-pair k′ c d hc hd q ml mn g) = clash cc
 
-    pub must-all : {n : ℕ} → p .tree .kind n ≡ all-of → MustClobber p f v n ↔ MustAll n
-    must-all {n} kn = (to, from)
+    pub must-clobber-all : {n : ℕ} → p .tree .kind n ≡ all-of → MustClobber p f v n ↔ MustAll n
+    must-clobber-all {n} kn = (to, from)
       where
         to : MustClobber p f v n → MustAll n
         to (by-any-of k a) = clash cc
@@ -148,13 +142,13 @@ module _ (p : Plan) (w : WellFormed p) where
     r-must-clobber-in : (k n : ℕ) → Node p n → p .tree .size ≤ n + k → Reflects (mustClobberIn p f v k n) (MustClobber p f v n)
     unfolding mustClobberIn
     r-must-clobber-in zero n l b = absurd (omega (arith, w .node-below n l))
-    r-must-clobber-in (suc k) n l b = r-by-kind (p .tree .kind n) _ _ _ (λ kn. r-false (must-task kn))
-        (λ kn. r-map (Iff·symm (must-all kn)) (r-either _ _
+    r-must-clobber-in (suc k) n l b = r-by-kind (p .tree .kind n) _ _ _ (λ kn. r-false (must-clobber-task kn))
+        (λ kn. r-map (Iff·symm (must-clobber-all kn)) (r-either _ _
         (r-some-child p w (λ c. MustClobber p f v c × Alone n c) _
         (λ c hc. r-both _ _ (r-must-clobber-in k c (hc .node) (omega (arith, child-lt p w hc))) (r-alone n c)))
         (r-some-child p w (λ c. (d : ℕ) × Child p n d × MustPair n c d) _ (λ c hc. r-some-child p w (MustPair n c) _
         (λ d hd. r-both _ _ (r-before p w d c) (r-both _ _ (r-must-post p w d f (hd .node) (not v)) (r-both _ _ (r-must-pre p w c f (hc .node) v) (r-undisturbed n c d))))))))
-        (λ kn. r-map (Iff·symm (must-any kn)) (r-every-child p w (MustClobber p f v) _
+        (λ kn. r-map (Iff·symm (must-clobber-any kn)) (r-every-child p w (MustClobber p f v) _
         (λ c hc. r-must-clobber-in k c (hc .node) (omega (arith, child-lt p w hc)))))
 
     pub r-must-clobber : (n : ℕ) → Node p n → Reflects (mustClobberB p n f v) (MustClobber p f v n)

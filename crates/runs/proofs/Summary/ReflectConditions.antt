@@ -1,10 +1,5 @@
 -- The tests for quiet, meet and last reflect them; and so the tests for the conditions reflect the six marks.
-use mathlib.Core.Path.{_≡_}
-use mathlib.Core.Logic.{Iff·symm}
-use mathlib.Core.Bool.{Bool, not}
-use mathlib.Core.Option.{none}
-use Prim.Native.Nat.{ℕ, zero, suc, _+_, _≤_}
-use native.Mathlib.Omega.{arith}
+use Rattle.runs.proofs.Base.{_≡_, Iff·symm, Bool, not, none, ℕ, zero, suc, _+_, _≤_, arith}
 use Rattle.runs.specs.Tests.{implies}
 use Rattle.runs.specs.Plan.{Plan, Node, Child, Before, WellFormed}
 use Rattle.runs.specs.Execution.{Event, lastAsserted}
@@ -13,10 +8,8 @@ use Rattle.runs.specs.Model.Marks.{quietIn, meetIn, lastIn, quietB, meet
 use Rattle.runs.specs.Model.Marks.{mustIncB}
 use Rattle.runs.specs.Model.Trees.{everyChildB}
 use Rattle.runs.proofs.Reflect.{Reflects, r-map, r-both, r-either, r-implies, r-negate, r-true}
-use Rattle.runs.proofs.Plan.Trees.{child-lt}
-use Rattle.runs.proofs.Plan.Chains.{before-child}
-use Rattle.runs.proofs.Plan.Reflect.{r-by-kind, r-some-child, r-every-child, r-before}
-use Rattle.runs.proofs.Execution.Histories.{Anything}
+use Rattle.runs.proofs.Plan.{child-lt, before-child, r-by-kind, r-some-child, r-every-child, r-before}
+use Rattle.runs.proofs.Execution.{Anything}
 use Rattle.runs.proofs.Summary.Events.{r-unasserted, r-asserts, r-pre, r-begins-inc, r-neutral, r-covers}
 use Rattle.runs.proofs.Summary.Inconditions.{may-inc-is-meet, must-inc-is}
 use Rattle.runs.proofs.Summary.Last.{MayLast, last-task, last-any, last-all}

@@ -1,15 +1,12 @@
 -- The trial books and calls of 01 that are marked *, as one table under one theorem.
-use mathlib.Core.Bool.{Bool, true, false}
-use mathlib.Core.List.{List, _∷_, []}
-use Prim.Native.Nat.{ℕ}
-use lib.Dec.{eqb}
+use Rattle.runs.proofs.Base.{Bool, true, false, List, _∷_, [], ℕ, eqb}
 use Rattle.runs.specs.Plan.{pre, inc, post, task, all-of, any-of}
 use Rattle.runs.specs.Execution.{start, finish}
 use Rattle.runs.specs.Summary.{must-pre}
 use Rattle.runs.specs.Verdict.{Verdict, CLEAR, OPEN, DOOMED}
 use Rattle.runs.specs.Calls.{Call, one}
 use Rattle.runs.specs.Model.Computing.{computing}
-use Rattle.runs.proofs.Plan.Accepted.{formB}
+use Rattle.runs.proofs.Plan.{formB}
 use Rattle.runs.proofs.Trials.Tables.{Condition, on, Row, Table, row, Order, Trial, signIn, then, Shown, has, countsB, orderedB, sameList}
 use Rattle.runs.proofs.Trials.Tables.{shown, showsB, holdsB, allHoldB, AllHold, all-hold}
 

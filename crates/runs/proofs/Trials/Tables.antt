@@ -1,11 +1,5 @@
 -- Plans written as tables, what they mean, and what a trial says of one.
-use mathlib.Core.Path.{refl, _≡_}
-use mathlib.Core.Bool.{Bool, true, false, decide}
-use mathlib.Core.Option.{Option, none, some}
-use mathlib.Core.List.{List, [], _∷_}
-use Prim.Native.Nat.{ℕ, _<_}
-use lib.Dec.{T, eqb, ltb}
-use lib.ListN.{getD, length}
+use Rattle.runs.proofs.Base.{refl, _≡_, Bool, true, false, decide, Option, none, some, List, [], _∷_, ℕ, _<_, T, eqb, ltb, getD, length}
 use Rattle.runs.specs.Tests.{both, either}
 use Rattle.runs.specs.Plan.{Kind, task, Place, Place-discrete, Plan, WellFormed}
 use Rattle.runs.specs.Summary.{Mark, Marked}
@@ -16,9 +10,8 @@ use Rattle.runs.specs.Model.Monitor.{returns, states}
 use Rattle.runs.specs.Model.Trees.{kindB}
 use Rattle.runs.specs.Model.Verdicts.{verdict}
 use Rattle.runs.proofs.Reflect.{clash, Reflects, r-both, r-T, r-lt, r-eq, r-decide}
-use Rattle.runs.proofs.Plan.Reflect.{r-kind}
-use Rattle.runs.proofs.Plan.Accepted.{accepted-well-formed, formB, form-accepted}
-use Rattle.runs.proofs.Summary.Exact.{marks-exact}
+use Rattle.runs.proofs.Plan.{r-kind, accepted-well-formed, formB, form-accepted}
+use Rattle.runs.proofs.Summary.{marks-exact}
 use Rattle.runs.proofs.Verdict.Exact.{verdict-exact}
 use Rattle.runs.proofs.Calls.First.{worked}
 

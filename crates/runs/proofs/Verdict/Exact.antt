@@ -1,18 +1,13 @@
 -- The computed verdict is the verdict; CLEAR and DOOMED exclude each other.
-use mathlib.Core.Path.{_≡_, refl}
-use mathlib.Core.Logic.{_⊎_, inl, inr, _↔_}
-use mathlib.Core.Bool.{Bool, true, false, not}
-use Prim.Native.Nat.{ℕ, _<_}
+use Rattle.runs.proofs.Base.{_≡_, refl, _⊎_, inl, inr, _↔_, Bool, true, false, not, ℕ, _<_}
 use Rattle.runs.specs.Plan.{inc, Plan, WellFormed}
 use Rattle.runs.specs.Execution.{Event, History}
 use Rattle.runs.specs.Summary.{Clobbers, precondition, incondition, MayClobber, Mark, may-pre, must-pre, may-clobber, must-clobber, Marked}
 use Rattle.runs.specs.Verdict.{Verdict, CLEAR, DOOMED, OPEN, Clear, Doomed, by-clobber, by-start, Judged}
 use Rattle.runs.specs.Model.Verdicts.{failsB, someLiteralB, mayFailB, mustFailB, judge, verdict}
 use Rattle.runs.proofs.Reflect.{clash, Reflects, r-map, decided, r-both, r-either, r-any, r-same}
-use Rattle.runs.proofs.Execution.Completion.{completed-execution}
-use Rattle.runs.proofs.Summary.Events.{pre-flag}
-use Rattle.runs.proofs.Summary.Exact.{marks-exact}
-use Rattle.runs.proofs.Summary.MustClobber.{must-clobber-may}
+use Rattle.runs.proofs.Execution.{completed-execution}
+use Rattle.runs.proofs.Summary.{pre-flag, marks-exact, must-clobber-may}
 
 -- at the root the literal has the mark m, or is false at the start and has the mark k
 abbrev pub Fails : Plan → (ℕ → Bool) → Mark → Mark → ℕ → Bool → Type 0
