@@ -9,7 +9,7 @@ use Rattle.runs.proofs.Execution.Parts.{part, after-part, execution-und
 use Rattle.runs.proofs.Execution.Extension.{complete-stays, agree-append, extend}
 
 module _ (p : Plan) (w : WellFormed p) where
-  -- g runs the children of n in D to their end, after h, and nothing else; its events are in Q
+  -- after h, `more` runs the children of n in D to their end and nothing else; its events are in Q
   pub record Staged (Q : Event → Type 0) (n : ℕ) (h : History) (D : ℕ → Type 0) : Type 0 where
     pub more : History
     pub execution : Execution p n (more ++ h)

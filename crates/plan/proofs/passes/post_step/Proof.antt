@@ -1,0 +1,45 @@
+-- `plan::passes::post_step` meets its contract. Assumes nothing.
+use native.Mathlib.Omega.{arith}
+use Prim.Native.Nat.{_≤_}
+use denote.Ref.{now}
+use Rattle.plan.proofs.Causes.{usable}
+use Rattle.codes.specs.Values.{flagOf}
+use Rattle.plan.specs.Passes.{postStep}
+use borrow.Author.Needs.{needs}
+use Rattle.plan.proofs.passes.post_step.Statement.{statement}
+use Rattle.plan.proofs.passes.post_step.Tie as tie
+
+-- the value that was read is not refused
+small : (c : tie.After-condition-value) → c .condition-value .result ≤ 383
+small c = omega (arith, usable (now (c .before .before .args .plan)) (c .before .before .pre .1 .0) (c .before .before .pre .1 .1) .value (c .before .before .args .i) (c .before .before .pre .0))
+
+place-of-requires : tie.Need-place-of-requires
+place-of-requires c κs = small c
+
+flag-of-requires : tie.Need-flag-of-requires
+flag-of-requires c κs = small (c .before)
+
+cast-flag : tie.Need-cast-flag
+unfolding flagOf
+cast-flag c = omega (arith, small (c .before .before))
+
+add-t10 : tie.Need-add-t10
+add-t10 c =
+    let s = c .before .before .before .before .before in
+    omega (arith, usable (now (s .args .plan)) (s .pre .1 .0) (s .pre .1 .1) .node (s .args .i) (s .pre .0))
+
+returns : tie.Need-returns
+unfolding postStep
+returns c = cc
+
+pub post-step-spec : {M : Type 1} → statement M
+post-step-spec =
+    tie.close
+    (tie.spec
+    (λ c κs. search needs)
+    place-of-requires
+    flag-of-requires
+    cast-flag
+    (λ c κs. search needs)
+    add-t10
+    returns)

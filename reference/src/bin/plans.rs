@@ -1,0 +1,56 @@
+//! Makes a plan file from its text, and shows the text of a plan file.
+
+use std::env::args;
+use std::io::{self, Read, Write};
+use std::process::ExitCode;
+
+use reference::generate::{plan, Shape, LIMITS};
+use reference::random::Random;
+use reference::text::{make, show};
+
+const USAGE: &str = "\
+plans make < TEXT > PLAN    the bytes of a text
+plans show < PLAN > TEXT    the text of an accepted plan
+plans draw SEED > PLAN      a random accepted plan of 128 nodes, as large as its tree permits";
+
+fn main() -> ExitCode {
+    let arguments: Vec<String> = args().skip(1).collect();
+    let words: Vec<&str> = arguments.iter().map(String::as_str).collect();
+    let done = match words[..] {
+        ["make"] => made(),
+        ["show"] => shown(),
+        ["draw", seed] => drawn(seed),
+        _ => Err(USAGE.to_string()),
+    };
+    let written = done.and_then(|out| io::stdout().write_all(&out).map_err(|e| e.to_string()));
+    match written {
+        Ok(()) => ExitCode::SUCCESS,
+        Err(message) => {
+            eprintln!("{message}");
+            ExitCode::FAILURE
+        }
+    }
+}
+
+fn made() -> Result<Vec<u8>, String> {
+    let text = String::from_utf8(input()?).map_err(|e| e.to_string())?;
+    make(&text).map_err(|e| e.to_string())
+}
+
+fn shown() -> Result<Vec<u8>, String> {
+    let text = show(&input()?).map_err(|e| e.to_string())?;
+    Ok(text.into_bytes())
+}
+
+fn drawn(seed: &str) -> Result<Vec<u8>, String> {
+    let seed = seed.parse().map_err(|_| USAGE.to_string())?;
+    Ok(plan(&mut Random::new(seed), LIMITS, Shape::Bushy).bytes())
+}
+
+fn input() -> Result<Vec<u8>, String> {
+    let mut bytes = Vec::new();
+    match io::stdin().read_to_end(&mut bytes) {
+        Ok(_) => Ok(bytes),
+        Err(e) => Err(e.to_string()),
+    }
+}

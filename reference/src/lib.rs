@@ -1,0 +1,14 @@
+//! An independent Rust program to document 01, and what its tests need.
+//!
+//! It shares no table and no algorithm with the proved crates; `archive` is the only module that
+//! calls them. So `rt staticlib capi` at the root of the repository comes before
+//! `cargo test --offline` here.
+
+pub mod archive;
+pub mod builder;
+pub mod edit;
+pub mod format;
+pub mod generate;
+pub mod random;
+pub mod rules;
+pub mod text;

@@ -1,0 +1,43 @@
+//! The program `plans`, run as a program.
+
+use std::io::Write;
+use std::process::{Command, Stdio};
+
+const TEXT: &[u8] = include_bytes!("../../samples/b.txt");
+const PLAN: &[u8] = include_bytes!("../../samples/b.plan");
+
+/// Whether it succeeds, what it prints, and what it says on standard error.
+fn run(arguments: &[&str], input: &[u8]) -> (bool, Vec<u8>, String) {
+    let mut program = Command::new(env!("CARGO_BIN_EXE_plans"))
+        .args(arguments)
+        .stdin(Stdio::piped())
+        .stdout(Stdio::piped())
+        .stderr(Stdio::piped())
+        .spawn()
+        .unwrap();
+    program.stdin.take().unwrap().write_all(input).unwrap();
+    let end = program.wait_with_output().unwrap();
+    let said = String::from_utf8(end.stderr).unwrap();
+    (end.status.success(), end.stdout, said)
+}
+
+#[test]
+fn makes_and_shows() {
+    assert_eq!(run(&["make"], TEXT), (true, PLAN.to_vec(), String::new()));
+    assert_eq!(run(&["show"], PLAN), (true, TEXT.to_vec(), String::new()));
+}
+
+#[test]
+fn refuses_with_the_number() {
+    let refused = |number| (false, Vec::new(), format!("REFUSED {number}\n"));
+    assert_eq!(run(&["show"], &PLAN[..81]), refused(3));
+    assert_eq!(run(&["make"], b"flags 1\n0 TASK task 10081\n"), refused(6));
+}
+
+#[test]
+fn draws_what_it_shows() {
+    let (drawn, plan, _) = run(&["draw", "7"], b"");
+    let (shown, text, _) = run(&["show"], &plan);
+    assert!(drawn && shown);
+    assert_eq!(run(&["make"], &text), (true, plan, String::new()));
+}
