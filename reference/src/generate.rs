@@ -66,6 +66,21 @@ pub fn plan(random: &mut Random, sizes: Sizes, shape: Shape) -> Plan {
     plan
 }
 
+/// A valid plan of so many nodes for exhaustive search: choices, chains of orders, and one or two
+/// flags that many conditions speak of.
+pub fn dense_plan(random: &mut Random, nodes: usize) -> Plan {
+    let sizes = Sizes {
+        nodes,
+        conditions: 0,
+        orders: random.within(0, nodes / 2),
+        flags: random.within(1, 2),
+    };
+    let shape = random.pick(&[Shape::Flat, Shape::Deep, Shape::Even, Shape::Bushy]);
+    let mut plan = plan(random, sizes, shape);
+    plan.conditions = dense_conditions(random, &plan);
+    plan
+}
+
 /// Nodes whose kinds follow from the parents: with children a group, without a task.
 fn tree(random: &mut Random, mut plan: Plan, nodes: usize, shape: Shape) -> Plan {
     let parents: Vec<usize> = (1..nodes).map(|node| parent(random, node, shape)).collect();
@@ -134,6 +149,31 @@ fn conditions(random: &mut Random, plan: &Plan, wanted: usize) -> Vec<Condition>
     kept.into_iter().map(condition).collect()
 }
 
+/// Conditions drawn for each task and flag; in some plans nearly all have some, in others few.
+fn dense_conditions(random: &mut Random, plan: &Plan) -> Vec<Condition> {
+    let rarity = random.within(1, 4);
+    let mut drawn = Vec::new();
+    for task in plan.tasks() {
+        for flag in 0..plan.flags {
+            let mut draw = |place, random: &mut Random| {
+                let sign = random.below(2) as u16;
+                drawn.push(Condition::new(task as u8, place, flag, sign));
+            };
+            if random.below(rarity + 1) == 0 {
+                draw(PRECONDITION, random);
+            }
+            if random.below(rarity) == 0 {
+                draw(POSTCONDITION, random);
+                if random.below(2) == 0 {
+                    draw(INCONDITION, random);
+                }
+            }
+        }
+    }
+    drawn.sort_by_key(|condition| (condition.node, condition.value));
+    drawn
+}
+
 /// Some of the pairs of children of one all-of group.
 fn orders(random: &mut Random, plan: &Plan, wanted: usize) -> Vec<Order> {
     let mut pairs = Vec::new();
@@ -180,6 +220,9 @@ mod tests {
                 assert_eq!(plan.nodes.len(), nodes);
                 assert_eq!(refusal(&plan.bytes()), 0, "{plan:?}");
             }
+            let dense = dense_plan(&mut random, nodes);
+            assert_eq!(dense.nodes.len(), nodes);
+            assert_eq!(refusal(&dense.bytes()), 0, "{dense:?}");
         }
     }
 }

@@ -28,6 +28,14 @@ pub fn refusal(bytes: &[u8]) -> u32 {
     0
 }
 
+/// The fields of an accepted plan, or the first of refusals 1 to 14 that applies.
+pub fn accept(bytes: &[u8]) -> Result<Plan, u32> {
+    match refusal(bytes) {
+        0 => Ok(Plan::read(bytes)),
+        number => Err(number),
+    }
+}
+
 /// All of refusals 4 to 14 whose cause is in the plan.
 pub fn causes(plan: &Plan) -> Vec<u32> {
     let found = RULES.iter().filter(|(_, applies)| applies(plan));

@@ -35,6 +35,15 @@ fn refuses_with_the_number() {
 }
 
 #[test]
+fn lists_as_the_checker_prints() {
+    let printed = |text: &str| (true, text.as_bytes().to_vec(), String::new());
+    let b = "CLEAR 17\nRADI 12\nSATL 12\nCAST 0\n";
+    assert_eq!(run(&["list"], PLAN), printed(b));
+    assert_eq!(run(&["list"], &PLAN[..81]), printed("REFUSED 3\n"));
+    assert_eq!(run(&["list"], b""), printed("REFUSED 1\n"));
+}
+
+#[test]
 fn draws_what_it_shows() {
     let (drawn, plan, _) = run(&["draw", "7"], b"");
     let (shown, text, _) = run(&["show"], &plan);

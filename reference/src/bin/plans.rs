@@ -1,16 +1,19 @@
-//! Makes a plan file from its text, and shows the text of a plan file.
+//! Makes a plan file from its text, shows the text of a plan file, and lists it as the checker
+//! does.
 
 use std::env::args;
 use std::io::{self, Read, Write};
 use std::process::ExitCode;
 
 use reference::generate::{plan, Shape, LIMITS};
+use reference::listing::printed;
 use reference::random::Random;
 use reference::text::{make, show};
 
 const USAGE: &str = "\
 plans make < TEXT > PLAN    the bytes of a text
 plans show < PLAN > TEXT    the text of an accepted plan
+plans list < PLAN           what the checker prints for any bytes
 plans draw SEED > PLAN      a random accepted plan of 128 nodes, as large as its tree permits";
 
 fn main() -> ExitCode {
@@ -19,6 +22,7 @@ fn main() -> ExitCode {
     let done = match words[..] {
         ["make"] => made(),
         ["show"] => shown(),
+        ["list"] => input().map(|plan| printed(&plan).into_bytes()),
         ["draw", seed] => drawn(seed),
         _ => Err(USAGE.to_string()),
     };

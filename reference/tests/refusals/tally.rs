@@ -2,6 +2,7 @@
 
 use std::fmt;
 
+use reference::scenario::memory::{hex, Lent};
 use reference::{archive, rules};
 
 pub struct Tally {
@@ -52,19 +53,13 @@ impl Tally {
         );
     }
 
-    /// The archive's answer. The bytes are lent from the middle of a larger piece of memory, of
-    /// which no byte changes; alignment and surroundings differ from call to call.
+    /// The archive's answer, for which it may change no byte.
     #[track_caller]
     fn lend(&self, bytes: &[u8]) -> u32 {
-        let before = 8 + self.total % 8;
-        let around = (self.total % 251) as u8;
-        let mut memory = vec![around; before + bytes.len() + 16];
-        let plan = before..before + bytes.len();
-        memory[plan.clone()].copy_from_slice(bytes);
-        let copy = memory.clone();
-        let found = archive::refusal(&mut memory[plan]);
+        let mut plan = Lent::new(bytes);
+        let found = archive::refusal(plan.bytes());
         assert!(
-            memory == copy,
+            plan.back() == bytes,
             "{}: the archive changed memory, for {}",
             self.topic,
             hex(bytes)
@@ -77,9 +72,4 @@ impl fmt::Display for Tally {
     fn fmt(&self, f: &mut fmt::Formatter) -> fmt::Result {
         write!(f, "{:30}{:8} comparisons", self.topic, self.total)
     }
-}
-
-fn hex(bytes: &[u8]) -> String {
-    let digits: String = bytes.iter().map(|byte| format!("{byte:02x}")).collect();
-    format!("{} bytes {digits}", bytes.len())
 }

@@ -1,0 +1,47 @@
+//! The listing of a plan, and what the program prints.
+
+use std::cmp::Reverse;
+use std::fmt::Write;
+
+use crate::format::Plan;
+use crate::rules::accept;
+use crate::verdict::verdict;
+use crate::waits::Waits;
+
+/// The bytes that the call must be lent, however short the text is.
+pub const LISTING_LEN: usize = 2048;
+
+/// The text for an accepted plan.
+pub fn text(plan: &Plan) -> String {
+    let waits = Waits::new(plan);
+    let mut lines: Vec<(u32, usize)> = plan
+        .tasks()
+        .map(|task| (waits.longest(plan, task), task))
+        .collect();
+    lines.sort_by_key(|&(wait, task)| (Reverse(wait), task));
+    let mut text = format!("{} {}\n", verdict(plan).word(), waits.length(0));
+    for (wait, task) in lines {
+        let name = String::from_utf8_lossy(&plan.nodes[task].name);
+        writeln!(text, "{name} {wait}").expect("a text takes in any line");
+    }
+    text
+}
+
+/// The call: writes the text and answers its length, or meets the first of refusals 1 to 15.
+pub fn listing(plan: &[u8], out: &mut [u8]) -> Result<usize, u32> {
+    let plan = accept(plan)?;
+    if out.len() < LISTING_LEN {
+        return Err(15);
+    }
+    let text = text(&plan);
+    out[..text.len()].copy_from_slice(text.as_bytes());
+    Ok(text.len())
+}
+
+/// What the program prints for these bytes of standard input.
+pub fn printed(input: &[u8]) -> String {
+    match accept(input) {
+        Ok(plan) => text(&plan),
+        Err(number) => format!("REFUSED {number}\n"),
+    }
+}

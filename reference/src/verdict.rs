@@ -1,0 +1,39 @@
+//! The answer for a plan.
+
+use crate::format::{Plan, SET};
+use crate::marks::marks;
+
+#[derive(Clone, Copy, Debug, PartialEq, Eq)]
+pub enum Verdict {
+    Clear,
+    Doomed,
+    Open,
+}
+
+impl Verdict {
+    pub fn word(self) -> &'static str {
+        match self {
+            Verdict::Clear => "CLEAR",
+            Verdict::Doomed => "DOOMED",
+            Verdict::Open => "OPEN",
+        }
+    }
+}
+
+/// The verdict on an accepted plan, from the marks at its root.
+pub fn verdict(plan: &Plan) -> Verdict {
+    let root = marks(plan).swap_remove(0);
+    let (mut may_fail, mut doomed) = (false, false);
+    for (literal, marks) in plan.literals().zip(&root) {
+        let set_at_start = plan.starts_set(usize::from(literal.flag));
+        let false_at_start = set_at_start != (literal.sign == SET);
+        may_fail |= marks.may_clobber || false_at_start && marks.may_pre;
+        doomed |= marks.must_clobber || false_at_start && marks.must_pre;
+    }
+    match (may_fail, doomed) {
+        (false, false) => Verdict::Clear,
+        (true, true) => Verdict::Doomed,
+        (true, false) => Verdict::Open,
+        (false, true) => unreachable!("CLEAR and DOOMED exclude each other"),
+    }
+}

@@ -1,0 +1,224 @@
+//! Random lists of calls, against returns and states worked out anew from the plan and the calls
+//! accepted so far, never from a state's bytes.
+
+use reference::calls::{make, Call};
+use reference::events::Event::{self, Finish, Start};
+use reference::format::{
+    Condition, Plan, Sizes, ALL_OF, ANY_OF, INCONDITION, POSTCONDITION, PRECONDITION, TASK,
+};
+use reference::generate::{any_plan, dense_plan, LIMITS};
+use reference::random::Random;
+use reference::scenario::lists::{list, replay};
+use reference::scenario::reference;
+
+use crate::shown;
+
+/// A plan and the calls that were accepted, the latest last.
+struct Past<'a> {
+    plan: &'a Plan,
+    accepted: Vec<Event>,
+}
+
+impl Past<'_> {
+    /// Where a comparison failed.
+    fn at(&self, event: Event) -> String {
+        format!(
+            "{event:?} with {:?} on\n{}",
+            self.accepted,
+            shown(self.plan)
+        )
+    }
+
+    /// 0, or the refusal that applies first.
+    fn returns(&self, event: Event) -> u32 {
+        let task = event.task();
+        if task >= self.plan.nodes.len() || self.plan.nodes[task].kind != TASK {
+            return 17;
+        }
+        match event {
+            Start(_) if self.has(Start(task)) => 18,
+            Start(_) if self.chosen_otherwise(task) => 19,
+            Start(_) if self.too_early(task) => 20,
+            Start(_) if !self.all_true(task) => 21,
+            Finish(_) if !self.running(task) => 18,
+            _ if self.breaks(event) => 22,
+            _ => 0,
+        }
+    }
+
+    /// The first 8 + N bytes of the state.
+    fn state(&self) -> Vec<u8> {
+        let mut bytes = vec![0; 8];
+        for flag in 0..self.plan.flags {
+            let bit = u8::try_from(self.value(flag)).unwrap() << (flag % 8);
+            bytes[usize::from(flag / 8)] |= bit;
+        }
+        let status = |node| u8::from(self.has(Start(node))) + u8::from(self.has(Finish(node)));
+        bytes.extend((0..self.plan.nodes.len()).map(status));
+        bytes
+    }
+
+    fn has(&self, event: Event) -> bool {
+        self.accepted.contains(&event)
+    }
+
+    fn running(&self, task: usize) -> bool {
+        self.has(Start(task)) && !self.has(Finish(task))
+    }
+
+    /// Some task was started that parts from this one at an any-of group.
+    fn chosen_otherwise(&self, task: usize) -> bool {
+        let path = self.path(task);
+        self.accepted.iter().any(|event| {
+            let other = self.path(event.task());
+            let parting = path.iter().find(|node| other.contains(node)).unwrap();
+            self.plan.nodes[*parting].kind == ANY_OF
+        })
+    }
+
+    /// The node and all nodes above it.
+    fn path(&self, mut node: usize) -> Vec<usize> {
+        let mut path = vec![node];
+        while node != 0 {
+            node = usize::from(self.plan.nodes[node].parent);
+            path.push(node);
+        }
+        path
+    }
+
+    /// Some order's later node is above the task, and its earlier node is not complete.
+    fn too_early(&self, task: usize) -> bool {
+        let complete = self.complete();
+        let path = self.path(task);
+        let orders = self.plan.orders.iter();
+        let mut into = orders.filter(|order| path.contains(&usize::from(order.later)));
+        into.any(|order| !complete[usize::from(order.earlier)])
+    }
+
+    /// For each node, the leaves first: how many children it has, how many are complete.
+    fn complete(&self) -> Vec<bool> {
+        let nodes = &self.plan.nodes;
+        let mut complete = vec![false; nodes.len()];
+        let mut children = vec![(0, 0); nodes.len()];
+        for (number, node) in nodes.iter().enumerate().rev() {
+            let (all, done) = children[number];
+            complete[number] = match node.kind {
+                TASK => self.has(Finish(number)),
+                ALL_OF => done == all,
+                _ => done > 0,
+            };
+            if number > 0 {
+                let (all, done) = &mut children[usize::from(node.parent)];
+                *all += 1;
+                *done += usize::from(complete[number]);
+            }
+        }
+        complete
+    }
+
+    fn conditions(&self, task: usize, place: u16) -> Vec<Condition> {
+        let of_task = |c: &&Condition| usize::from(c.node) == task && c.place() == place;
+        self.plan
+            .conditions
+            .iter()
+            .filter(of_task)
+            .copied()
+            .collect()
+    }
+
+    fn written(&self, event: Event) -> Vec<Condition> {
+        match event {
+            Start(task) => self.conditions(task, INCONDITION),
+            Finish(task) => self.conditions(task, POSTCONDITION),
+        }
+    }
+
+    /// What was last written, or the start bit.
+    fn value(&self, flag: u16) -> u16 {
+        let writes = self.accepted.iter().rev().flat_map(|&e| self.written(e));
+        let mut signs = writes.filter(|c| c.flag() == flag).map(|c| c.sign());
+        let start = u16::from(self.plan.starts_set(usize::from(flag)));
+        signs.next().unwrap_or(start)
+    }
+
+    fn all_true(&self, task: usize) -> bool {
+        let needs = self.conditions(task, PRECONDITION);
+        needs
+            .iter()
+            .all(|need| self.value(need.flag()) == need.sign())
+    }
+
+    fn breaks(&self, event: Event) -> bool {
+        let written = self.written(event);
+        let others = (0..self.plan.nodes.len()).filter(|&task| task != event.task());
+        others.filter(|&task| self.running(task)).any(|task| {
+            let held = self.conditions(task, INCONDITION);
+            held.iter().any(|hold| {
+                let opposite = |c: &Condition| c.flag() == hold.flag() && c.sign() != hold.sign();
+                written.iter().any(opposite)
+            })
+        })
+    }
+}
+
+/// Replays a random list and counts its returns. The bytes after the state must stay.
+fn check(random: &mut Random, plan: &Plan, calls: usize, counts: &mut [usize; 23]) {
+    let list = list(random, plan, calls);
+    let state_len = 8 + plan.nodes.len();
+    let extra = random.below(4);
+    let lent = random.bytes(state_len + extra);
+    let bytes = plan.bytes();
+    let afters = replay(&bytes, &list, lent.clone(), reference);
+    let mut past = Past {
+        plan,
+        accepted: Vec::new(),
+    };
+    assert_eq!(afters[0].returned, 0);
+    assert_eq!(afters[0].lent, [&past.state(), &lent[state_len..]].concat());
+    for (&event, after) in list.iter().zip(&afters[1..]) {
+        let want = past.returns(event);
+        assert_eq!(after.returned, want, "{}", past.at(event));
+        counts[want as usize] += 1;
+        if want == 0 {
+            past.accepted.push(event);
+        }
+        let state = past.state();
+        let left = [&state, &lent[state_len..]].concat();
+        assert_eq!(after.lent, left, "{}", past.at(event));
+        let status = if past.complete()[0] { 128 } else { 129 };
+        let found = make(Call::Status, &bytes, &mut after.lent.clone());
+        assert_eq!(found, status, "{}", past.at(event));
+    }
+}
+
+#[test]
+fn returns_and_states() {
+    let mut random = Random::new(41);
+    let mut counts = [0; 23];
+    for nodes in 1..=10 {
+        for _ in 0..400 {
+            let plan = dense_plan(&mut random, nodes);
+            check(&mut random, &plan, 4 * nodes, &mut counts);
+        }
+    }
+    let medium = Sizes {
+        nodes: 30,
+        conditions: 60,
+        orders: 30,
+        flags: 64,
+    };
+    for _ in 0..200 {
+        let plan = any_plan(&mut random, medium);
+        check(&mut random, &plan, 60, &mut counts);
+    }
+    for _ in 0..3 {
+        let plan = any_plan(&mut random, LIMITS);
+        check(&mut random, &plan, 200, &mut counts);
+    }
+    println!(
+        "returns from 17 to 22: {:?}, accepted: {}",
+        &counts[17..],
+        counts[0]
+    );
+    assert!(counts[0] > 10_000 && counts[17..].iter().all(|&count| count > 300));
+}

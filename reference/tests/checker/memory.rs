@@ -1,0 +1,161 @@
+//! Which lent bytes change, over cases of every call.
+
+use reference::calls::Call;
+use reference::edit::edit;
+use reference::events::Event;
+use reference::format::{Plan, Sizes, SET};
+use reference::generate::{any_plan, dense_plan, LIMITS};
+use reference::listing;
+use reference::marks::marks;
+use reference::monitor::State;
+use reference::random::Random;
+use reference::rules::{accept, refusal};
+use reference::scenario::cases::cases;
+use reference::scenario::states::{any_state, bytes, malformed, reached_state};
+use reference::scenario::{reference, After, Case};
+use reference::summary;
+
+use crate::sample;
+
+/// Makes the case, and checks what it returns and leaves as far as 01 says it at once.
+fn check(case: &Case) -> u32 {
+    let after = case.make(reference);
+    assert_eq!(after.plan, case.plan);
+    let refused = refusal(&case.plan);
+    if refused != 0 {
+        assert_eq!(after.returned, refused);
+    }
+    match after.returned {
+        1..=22 => assert_eq!(after.lent, case.lent, "{:?}", case.call),
+        _ => accepted(&accept(&case.plan).unwrap(), case, &after),
+    }
+    after.returned
+}
+
+/// An accepted call's lent bytes.
+fn accepted(plan: &Plan, case: &Case, after: &After) {
+    let mut want = case.lent.clone();
+    match case.call {
+        Call::Refusal | Call::Verdict | Call::Status => {}
+        Call::Summary(node) => {
+            let bytes = summary::bytes(&marks(plan)[node]);
+            assert_eq!(bytes.len(), 16 * usize::from(plan.flags));
+            want[..bytes.len()].copy_from_slice(&bytes);
+        }
+        Call::Fresh => {
+            want[..8].copy_from_slice(&plan.start);
+            want[8..8 + plan.nodes.len()].fill(0);
+        }
+        Call::Event(event) => {
+            want[8 + event.task()] += 1;
+            for literal in event.asserts(plan) {
+                let bit = 1 << (literal.flag % 8);
+                let byte = &mut want[usize::from(literal.flag / 8)];
+                *byte = match literal.sign {
+                    SET => *byte | bit,
+                    _ => *byte & !bit,
+                };
+            }
+        }
+        Call::Listing => {
+            let text = listing::text(plan);
+            assert_eq!(after.returned as usize, 256 + text.len());
+            want[..text.len()].copy_from_slice(text.as_bytes());
+        }
+    }
+    assert_eq!(after.lent, want, "{:?}", case.call);
+    if let Call::Event(_) = case.call {
+        assert!(State::read(plan, &after.lent).is_ok());
+    }
+}
+
+#[test]
+fn changed_bytes() {
+    let mut random = Random::new(51);
+    let mut counts = [0; 257];
+    let small = Sizes {
+        nodes: 20,
+        conditions: 40,
+        orders: 20,
+        flags: 64,
+    };
+    let mut plans: Vec<Plan> = Vec::new();
+    for nodes in 1..=10 {
+        plans.extend((0..20).map(|_| dense_plan(&mut random, nodes)));
+    }
+    plans.extend((0..100).map(|_| any_plan(&mut random, small)));
+    for at in 0..200 {
+        let mut plan = plans[at].clone();
+        edit(&mut plan, &mut random);
+        plans.push(plan);
+    }
+    plans.extend((0..2).map(|_| any_plan(&mut random, LIMITS)));
+    for plan in plans {
+        for case in cases(&mut random, &plan.bytes()) {
+            counts[check(&case).min(256) as usize] += 1;
+        }
+    }
+    for returned in (15..=22).chain([0, 128, 129, 130, 256]) {
+        assert!(counts[returned] > 50, "{returned}: {}", counts[returned]);
+    }
+}
+
+/// The states to lend are well formed or malformed as their names say.
+#[test]
+fn lent_states() {
+    let mut random = Random::new(52);
+    for _ in 0..50 {
+        let plan = any_plan(&mut random, LIMITS);
+        for state in [
+            any_state(&mut random, &plan),
+            reached_state(&mut random, &plan),
+        ] {
+            let bytes = bytes(&mut random, &plan, &state, 3);
+            assert_eq!(bytes.len(), 8 + plan.nodes.len() + 3);
+            for wrong in malformed(&mut random, &plan, &state) {
+                assert_eq!(State::read(&plan, &wrong), Err(16));
+            }
+            assert_eq!(State::read(&plan, &bytes), Ok(state));
+        }
+    }
+}
+
+/// A refused start on plan B.
+fn refused() -> Case {
+    Case {
+        call: Call::Event(Event::Start(2)),
+        plan: sample("b"),
+        lent: vec![0; 13],
+    }
+}
+
+#[test]
+fn equal_calls() {
+    assert_eq!(refused().compare(reference), 17);
+}
+
+#[test]
+#[should_panic(expected = "returns 18, not 17")]
+fn another_return() {
+    refused().compare(|call, plan, lent| reference(call, plan, lent) + 1);
+}
+
+#[test]
+#[should_panic(expected = "leaves 13 bytes 00000000000000000000010000")]
+fn a_byte_written() {
+    refused().compare(|call, plan, lent| {
+        let returned = reference(call, plan, lent);
+        lent[10] = 1;
+        returned
+    });
+}
+
+#[test]
+#[should_panic(expected = "leaves the plan")]
+fn a_byte_of_the_plan_written() {
+    refused().compare(|call, plan, lent| {
+        let returned = reference(call, plan, lent);
+        plan[16] = b'N';
+        returned
+    });
+}

@@ -1,0 +1,116 @@
+//! Refusals 15 to 22: with several causes at once the lowest number is returned.
+
+use reference::calls::{make, Call};
+use reference::events::Event::{self, Finish, Start};
+
+use crate::{plan, sample};
+
+/// A plan in which task 5 can meet every refusal of a start.
+const PLAN: &str = "flags 2\n0 ROOT all-of\n1 A--- task 0 under 0 holds 0-set leaves 0-clear\n\
+    2 B--- task 0 under 0\n3 PICK any-of under 0\n4 C--- task 0 under 3\n\
+    5 D--- task 0 under 3 needs 1-set holds 0-clear leaves 0-clear\norder 2 3\n";
+
+/// The call's return. A refused call must leave the state as it was.
+#[track_caller]
+fn returned(plan: &[u8], state: &[u8], call: Call) -> u32 {
+    let mut lent = state.to_vec();
+    let returned = make(call, plan, &mut lent);
+    assert!(returned == 0 || lent == state, "{call:?}");
+    returned
+}
+
+/// A state with this flag byte and these statuses.
+fn state(flags: u8, statuses: [u8; 6]) -> Vec<u8> {
+    let mut state = vec![flags, 0, 0, 0, 0, 0, 0, 0];
+    state.extend(statuses);
+    state
+}
+
+#[test]
+fn causes_taken_away_one_by_one() {
+    let plan = plan(PLAN);
+    // All causes at once; a number that is no task hides those after it.
+    let short_and_malformed = [255; 13];
+    for (state, number, want) in [
+        (short_and_malformed.to_vec(), 3, 15),
+        (state(255, [1, 1, 0, 0, 1, 0]), 3, 16),
+        (state(0, [1, 1, 0, 0, 1, 0]), 3, 16),
+        (state(0, [0, 1, 0, 0, 1, 3]), 3, 16),
+        (state(0, [0, 1, 0, 0, 1, 1]), 3, 17),
+        (state(0, [0, 1, 0, 0, 1, 1]), 6, 17),
+        (state(0, [0, 1, 0, 0, 1, 1]), usize::MAX, 17),
+        (state(0, [0, 1, 0, 0, 1, 1]), 5 + 256, 17),
+        (state(0, [0, 1, 0, 0, 1, 1]), 5, 18),
+        (state(0, [0, 1, 0, 0, 1, 2]), 5, 18),
+        (state(0, [0, 1, 0, 0, 1, 0]), 5, 19),
+        (state(0, [0, 1, 0, 0, 2, 0]), 5, 19),
+        (state(0, [0, 1, 0, 0, 0, 0]), 5, 20),
+        (state(0, [0, 1, 1, 0, 0, 0]), 5, 20),
+        (state(0, [0, 1, 2, 0, 0, 0]), 5, 21),
+        (state(1, [0, 1, 2, 0, 0, 0]), 5, 21),
+        (state(2, [0, 1, 2, 0, 0, 0]), 5, 22),
+        (state(2, [0, 2, 2, 0, 0, 0]), 5, 0),
+        (state(2, [0, 0, 2, 0, 0, 0]), 5, 0),
+    ] {
+        let call = Call::Event(Start(number));
+        assert_eq!(returned(&plan, &state, call), want, "{state:?}");
+    }
+}
+
+/// A finish knows no 19, 20 and 21.
+#[test]
+fn causes_for_a_finish() {
+    let plan = plan(PLAN);
+    for (state, number, want) in [
+        (state(255, [0; 6])[..13].to_vec(), 3, 15),
+        (state(4, [0; 6]), 3, 16),
+        (state(0, [0; 6]), 3, 17),
+        (state(0, [0; 6]), 5, 18),
+        (state(0, [0, 1, 0, 0, 1, 2]), 5, 18),
+        (state(0, [0, 1, 0, 0, 1, 1]), 5, 22),
+        (state(0, [0, 0, 0, 0, 1, 1]), 5, 0),
+    ] {
+        let call = Call::Event(Finish(number));
+        assert_eq!(returned(&plan, &state, call), want, "{state:?}");
+    }
+}
+
+#[test]
+fn plan_comes_first() {
+    for (name, want) in [("fifteen-bytes", 1), ("nodes-129", 2), ("minutes-10081", 6)] {
+        let plan = sample(name);
+        for call in calls(Start(9)).into_iter().chain(calls(Finish(9))) {
+            assert_eq!(returned(&plan, &[], call), want, "{name}, {call:?}");
+        }
+    }
+}
+
+/// With too little memory each call that needs some returns 15.
+#[test]
+fn memory_comes_next() {
+    let plan = sample("b");
+    for call in calls(Start(9)).into_iter().chain(calls(Finish(9))) {
+        assert_eq!(returned(&plan, &[255; 12], call), 15, "{call:?}");
+    }
+}
+
+fn calls(event: Event) -> [Call; 5] {
+    [
+        Call::Summary(9),
+        Call::Fresh,
+        Call::Event(event),
+        Call::Status,
+        Call::Listing,
+    ]
+}
+
+/// Fresh takes over memory of any content; what is malformed concerns the others.
+#[test]
+fn fresh_over_a_malformed_state() {
+    let plan = sample("b-flag-set");
+    let mut state = [255; 14];
+    assert_eq!(make(Call::Status, &plan, &mut state), 16);
+    assert_eq!(make(Call::Fresh, &plan, &mut state), 0);
+    assert_eq!(state, [1, 0, 0, 0, 0, 0, 0, 0, 0, 0, 0, 0, 0, 255]);
+    assert_eq!(make(Call::Status, &plan, &mut state), 129);
+}
