@@ -1,6 +1,6 @@
 -- The value of a condition: flag + 64 × sign + 128 × place.
 use Prim.Native.Nat.{ℕ, _+_, _*_, _/_, _%_}
-use mathlib.Core.Bool.{Bool, true, false, _||_}
+use mathlib.Core.Bool.{Bool, cond, _||_}
 use lib.Dec.{eqb, leb, ltb}
 use Rattle.codes.specs.declared.value.Place.{Place}
 use Rattle.codes.specs.declared.value.Place.the-variants.{Pre, Inc, Post}
@@ -34,28 +34,16 @@ abbrev pub valueNum : Condition → ℕ
 valueNum c = c .flag + 64 * signNum (c .sign) + 128 * placeNum (c .place)
 
 -- and the cases of these numbers
-abbrev pub pickPlace : Bool → Place → Place → Place
-pickPlace true a b = a
-pickPlace false a b = b
-
 abbrev pub placeAt : ℕ → Place
-placeAt p = pickPlace (eqb p 0) Pre (pickPlace (eqb p 1) Inc Post)
-
-abbrev pub pickSign : Bool → Sign → Sign → Sign
-pickSign true a b = a
-pickSign false a b = b
+placeAt p = cond (eqb p 0) Pre (cond (eqb p 1) Inc Post)
 
 abbrev pub signAt : ℕ → Sign
-signAt s = pickSign (eqb s 0) Clear Set
-
-abbrev pub pickParsed : Bool → Parsed → Parsed → Parsed
-pickParsed true a b = a
-pickParsed false a b = b
+signAt s = cond (eqb s 0) Clear Set
 
 -- what a value says; over 383 it is refused
 unfoldable pub parsedOf : ℕ → Parsed
 parsedOf v =
-    pickParsed (leb v 383) (parsed.Accepted (record { place = placeAt (placeOf v); sign = signAt (signOf v); flag = flagOf v })) parsed.Refused
+    cond (leb v 383) (parsed.Accepted (record { place = placeAt (placeOf v); sign = signAt (signOf v); flag = flagOf v })) parsed.Refused
 
 -- the value is over 383, or its flag is none of the first `flags`
 unfoldable pub valueBad : ℕ → ℕ → Bool
