@@ -1,0 +1,2 @@
+-- The bits of a word. Definitions only.
+pub mod Bits

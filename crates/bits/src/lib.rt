@@ -1,0 +1,1 @@
+// Laws only: the bits of a 64-bit word, by what they say.

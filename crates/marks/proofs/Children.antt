@@ -1,0 +1,167 @@
+-- The rows of a group's children, one after another, and then the group's own. Assumes nothing.
+use mathlib.Core.Path.{_≡_, refl, sym, _∙_}
+use mathlib.Core.Logic.{_≢_, _⊎_, inl, inr}
+use mathlib.Core.List.{List}
+use Prim.Native.Nat.{ℕ, _+_, _≤_, _<_}
+use native.Mathlib.Decide.{ℕ-discrete}
+use native.Mathlib.Omega.{arith}
+use lib.ListN.{length, getD}
+use Rattle.bits.proofs.Says.{says-eq}
+use Rattle.runs.specs.Plan.{Kind, task, all-of, any-of, Plan, Node, Child, Under, itself, WellFormed}
+use Rattle.runs.proofs.Plan.Trees.{Branch, branch, under-root}
+use Rattle.runs.proofs.Execution.Final.{under-task}
+use Rattle.words.specs.Tables.{kindCode, RepresentsKinds, RepresentsConditions, Represents}
+use Rattle.words.specs.Columns.{indexOf, Right, Row, Written}
+use Rattle.words.specs.Segments.{Every}
+use Rattle.words.specs.Tasks.{Task}
+use Rattle.words.specs.Groups.{Group}
+use Rattle.words.proofs.Rows.{index-small, written-right, written-keeps}
+use Rattle.words.proofs.Segments.{held, every-next, every-child}
+use Rattle.pairs.specs.Pairs.{Pairing}
+use Rattle.marks.specs.Filled.{Given, Filled, TasksFilled, AllFilled}
+
+-- a kind by its code
+is-task : (k : Kind) → kindCode k ≢ 1 → kindCode k ≢ 2 → k ≡ task
+is-task task a b = refl
+is-task all-of a b = absurd (a refl)
+is-task any-of a b = absurd (b refl)
+
+is-all : (k : Kind) → kindCode k ≡ 1 → k ≡ all-of
+is-all task e = absurd (omega arith)
+is-all all-of e = refl
+is-all any-of e = absurd (omega arith)
+
+is-any : (k : Kind) → kindCode k ≡ 2 → k ≡ any-of
+is-any task e = absurd (omega arith)
+is-any all-of e = absurd (omega arith)
+is-any any-of e = refl
+
+module _ (kind from kids order : List ℕ) (n node : ℕ) where
+  -- the children at the positions before i are worked out, with all under them
+  pub record ChildrenTo (rows₀ rows : List ℕ) (i : ℕ) : Type 0 where
+    pub long : length rows ≡ 2688
+    pub kept : (p : Plan) → Given kind from kids order rows₀ n node p → (m : ℕ) → Right p rows₀ m → Right p rows m
+    pub right : (p : Plan) → Given kind from kids order rows₀ n node p → Every kids (getD from node 0) i (λ c. (m : ℕ) → Under p c m → Right p rows m)
+
+  pub children-none : (rows : List ℕ) → length rows ≡ 2688 → ChildrenTo rows rows (getD from node 0)
+  children-none rows e = record { long = e; kept = λ p g m x. x; right = λ p g. record { each = λ j a b. absurd (omega arith) } }
+
+  module _ {rows₀ rows : List ℕ} {i : ℕ} (low : getD from node 0 ≤ i) (high : i < getD from (node + 1) 0) (h : ChildrenTo rows₀ rows i) where
+    child : (p : Plan) → Given kind from kids order rows₀ n node p → Child p node (getD kids i 0)
+    child p g = held (g .tree) (g .is-node) i low high
+
+    given-child : (p : Plan) → Given kind from kids order rows₀ n node p → Given kind from kids order rows n (getD kids i 0) p
+    given-child p g = record {
+      well-formed = g .well-formed;
+      kinds = g .kinds;
+      tree = g .tree;
+      orders = g .orders;
+      is-node = (child p g) .node;
+      tasks = λ t l k. h .kept p g t (g .tasks t l k);
+    }
+
+    -- a group
+    pub child-group : {rows' rows″ : List ℕ} → rows″ ≡ rows' → Filled kind from kids order rows rows' n (getD kids i 0) → ChildrenTo rows₀ rows″ (i + 1)
+    child-group e x = rw e (record {
+      long = x .long;
+      kept = λ p g m r. x .kept p (given-child p g) m (h .kept p g m r);
+      right = λ p g. (every-next low) .0 (
+        record { each = λ j a b m u. x .kept p (given-child p g) m (h .right p g .each j a b m u) },
+        x .right p (given-child p g),
+      );
+    })
+
+    -- a task, whose row stands
+    pub child-task : {rows″ : List ℕ} → rows″ ≡ rows → getD kind (getD kids i 0) 0 ≢ 1 → getD kind (getD kids i 0) 0 ≢ 2 → ChildrenTo rows₀ rows″ (i + 1)
+    child-task e a b = rw e (record {
+      long = h .long;
+      kept = h .kept;
+      right = λ p g. (every-next low) .0 (h .right p g, λ m u. at p g m u);
+    })
+      where
+        at : (p : Plan) → Given kind from kids order rows₀ n node p → (m : ℕ) → Under p (getD kids i 0) m → Right p rows m
+        at p g m u = let hc = child p g in
+            let q = g .kinds .is (getD kids i 0) (hc .node) in
+            let k = is-task (p .tree .kind (getD kids i 0)) (λ e. a (q ∙ e)) (λ e. b (q ∙ e)) in
+            rw (under-task p (g .well-formed) k u) at (h .kept p g (getD kids i 0) (g .tasks (getD kids i 0) (hc .node) k))
+
+  module _ {rows₀ rows rows' words : List ℕ} (h : ChildrenTo rows₀ rows (getD from (node + 1) 0)) (x : Written rows rows' node words) where
+    -- all children are right
+    group : (p : Plan) → Given kind from kids order rows₀ n node p → Group from kids rows n node p
+    group p g = record {
+      well-formed = g .well-formed;
+      tree = g .tree;
+      node = g .is-node;
+      children = λ c hc. (every-child (g .tree) (g .is-node) (λ b hb. (λ y. y, λ y. y))) .0 (h .right p g) c hc c itself;
+    }
+
+    filled : ((p : Plan) → Given kind from kids order rows₀ n node p → Row p node words) → Filled kind from kids order rows₀ rows' n node
+    filled r = record {
+      long = x .long;
+      kept = λ p g m y. written-keeps x (r p g) m (h .kept p g m y);
+      right = λ p g m u. at p g m (branch p u);
+    }
+      where
+        at : (p : Plan) → Given kind from kids order rows₀ n node p → (m : ℕ) → (node ≡ m) ⊎ Branch p node m → Right p rows' m
+        at p g m (inl e) = rw e at (written-right x (r p g))
+        at p g m (inr b) = written-keeps x (r p g) m
+            ((every-child (g .tree) (g .is-node) (λ c hc. (λ y. y, λ y. y))) .0 (h .right p g) (b .via) (b .child) m (b .beneath))
+
+    pub all-filled : getD kind node 0 ≡ 1 → ((p : Plan) → Pairing from kids order rows n node p → p .tree .kind node ≡ all-of → Row p node words)
+        → Filled kind from kids order rows₀ rows' n node
+    all-filled e r = filled (λ p g. r p (record { group = group p g; orders = g .orders }) (is-all _ (sym (g .kinds .is node (g .is-node)) ∙ e)))
+
+    pub any-filled : getD kind node 0 ≡ 2 → ((p : Plan) → Group from kids rows n node p → p .tree .kind node ≡ any-of → Row p node words)
+        → Filled kind from kids order rows₀ rows' n node
+    any-filled e r = filled (λ p g. r p (group p g) (is-any _ (sym (g .kinds .is node (g .is-node)) ∙ e)))
+
+-- the tasks below i
+module _ {kind conds rows : List ℕ} where
+  pub tasks-none : length rows ≡ 2688 → TasksFilled kind conds rows 0
+  tasks-none e = record { long = e; right = λ p w k c t l. absurd (omega arith) }
+
+  pub task-more : {i : ℕ} {rows' rows″ words : List ℕ} → rows″ ≡ rows' → TasksFilled kind conds rows i → Written rows rows' i words
+      → ((p : Plan) → Task conds i p → Row p i words) → TasksFilled kind conds rows″ (i + 1)
+  task-more {i} {rows'} e h x r = rw e (record { long = x .long; right = λ p w k c t l n q. at p w k c t l n q (ℕ-discrete t i) })
+    where
+      at : (p : Plan) → WellFormed p → RepresentsKinds kind p → RepresentsConditions conds p → (t : ℕ) → t < i + 1 → Node p t → p .tree .kind t ≡ task
+          → Dec (t ≡ i) → Right p rows' t
+      at p w k c t l n q (yes e) = rw e (written-right x (r p (record { well-formed = w; conditions = c; node = rw e at n; is-task = rw e at q })))
+      at p w k c t l n q (no ne) = record { says = λ col f m. says-eq (x .there t (indexOf col) (index-small col) ne) (h .right p w k c t (omega arith) n q .says col f m) }
+
+  pub task-skip : {i : ℕ} {rows″ : List ℕ} → rows″ ≡ rows → TasksFilled kind conds rows i → getD kind i 0 ≢ 0 → TasksFilled kind conds rows″ (i + 1)
+  task-skip {i} e h z = rw e (record { long = h .long; right = λ p w k c t l n q. at p w k c t l n q (ℕ-discrete t i) })
+    where
+      at : (p : Plan) → WellFormed p → RepresentsKinds kind p → RepresentsConditions conds p → (t : ℕ) → t < i + 1 → Node p t → p .tree .kind t ≡ task
+          → Dec (t ≡ i) → Right p rows t
+      at p w k c t l n q (yes e) = let y : getD kind i 0 ≡ kindCode task = rw (q, e) at (k .is t n) in absurd (z y)
+      at p w k c t l n q (no ne) = h .right p w k c t (omega arith) n q
+
+-- all nodes, once the root is worked out
+pub all-nodes : {kind from kids order conds rows rows' rows″ : List ℕ} {n : ℕ} → rows″ ≡ rows' → TasksFilled kind conds rows n → Filled kind from kids order rows rows' n 0
+    → AllFilled kind from kids order conds rows″ n
+all-nodes {kind} {from} {kids} {order} {conds} {rows} {n = n} e t x = rw e (record {
+  long = x .long;
+  right = λ p w r m l. x .right p (given p w r) m (under-root p w m l);
+})
+  where
+    given : (p : Plan) → WellFormed p → Represents kind from kids order conds n p → Given kind from kids order rows n 0 p
+    given p w r = record {
+      well-formed = w;
+      kinds = r .kinds;
+      tree = r .tree;
+      orders = r .orders;
+      is-node = w .root-node;
+      tasks = λ u l k. t .right p w (r .kinds) (r .conditions) u (rw (r .tree .size) at (w .node-below u l)) l k;
+    }
+
+-- the root is a task, and so the only node
+pub one-node : {kind from kids order conds rows rows″ : List ℕ} {n : ℕ} → rows″ ≡ rows → TasksFilled kind conds rows n → getD kind 0 0 ≢ 1 → getD kind 0 0 ≢ 2
+    → AllFilled kind from kids order conds rows″ n
+one-node {kind} {from} {kids} {order} {conds} {rows} {n = n} e t a b = rw e (record { long = t .long; right = at })
+  where
+    at : (p : Plan) → WellFormed p → Represents kind from kids order conds n p → (m : ℕ) → Node p m → Right p rows m
+    at p w r m l = let q = r .kinds .is 0 (w .root-node) in
+        let k = is-task (p .tree .kind 0) (λ e. a (q ∙ e)) (λ e. b (q ∙ e)) in
+        rw (under-task p w k (under-root p w m l)) at
+        (t .right p w (r .kinds) (r .conditions) 0 (rw (r .tree .size) at (w .node-below 0 (w .root-node))) (w .root-node) k)

@@ -1,0 +1,3 @@
+-- Laws of the rows of all nodes.
+pub mod AllRow
+pub mod Children

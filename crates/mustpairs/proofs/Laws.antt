@@ -1,0 +1,150 @@
+-- The words of a pair of children say what the pair must clobber. Assumes nothing.
+use mathlib.Core.Path.{_≡_, refl}
+use mathlib.Core.Logic.{_≢_, _⊎_, inl, inr, ⊎-elim, _↔_, Iff·trans, Iff·symm}
+use mathlib.Core.Bool.{Bool, true, false, not}
+use mathlib.Core.List.{List}
+use Prim.Native.Nat.{ℕ, _+_, _-_, _≤_, _<_}
+use native.Mathlib.Omega.{arith}
+use lib.Bits.{bitOr, bitXor}
+use lib.Dec.{T, eqb, eqb→eq, eqb-refl}
+use lib.ListN.{getD}
+use Rattle.bits.specs.Bits.{bit, ones, Says}
+use Rattle.bits.proofs.Says.{says-map, says-dec, says-self, says-or, says-not}
+use Rattle.runs.specs.Plan.{Plan, Node, Child, Before, WellFormed}
+use Rattle.runs.specs.Summary.{Must, ExternalPre, ExternalPost, Silent}
+use Rattle.runs.proofs.Summary.ByChildren.{must-pre-node, must-post-node}
+use Rattle.words.specs.Tables.{signNum}
+use Rattle.words.specs.Columns.{avoid, quiet, covered, may-post, wordAt, Right}
+use Rattle.words.specs.Segments.{Every, Some}
+use Rattle.words.specs.Siblings.{Narrows}
+use Rattle.words.proofs.Segments.{some-next, every-none, every-child, some-child}
+use Rattle.words.proofs.Sibling.{silent-cell, narrows-more, neither}
+use Rattle.pairs.specs.Pairs.{Undisturbed, MustPair, SomePair, Pairing}
+use Rattle.pairs.proofs.Laws.{opposite, read, kid}
+use Rattle.mustpairs.specs.Disturbs.{Disturbs}
+
+pub not-two : (x : ℕ) → T (not (eqb x 2)) ↔ (x ≢ 2)
+not-two x = (λ t e. no (eqb x 2) t (rw e (eqb-refl 2)), λ k. yes-not (eqb x 2) (λ t. k (eqb→eq x 2 t)))
+  where
+    no : (b : Bool) → T (not b) → ¬ T b
+    no true t u = t
+    no false t u = u
+
+    yes-not : (b : Bool) → ¬ T b → T (not b)
+    yes-not true k = absurd (k tt)
+    yes-not false k = tt
+
+-- the flags of neither word
+none-of : {A B : Type 0} {x y z f : ℕ} → f < 64 → z ≡ bitXor (bitOr x y) ones → Says x f A → Says y f B → Says z f ((¬ A) × (¬ B))
+none-of {x = x} {y = y} l e a b = says-map (λ k. (λ h. k (inl h), λ h. k (inr h)), λ k h. ⊎-elim (k .0) (k .1) h)
+    (says-not {x = bitOr x y} l e (says-or {x = x} {y = y} refl a b))
+
+-- the words of what must be required, and must be left
+module _ {p : Plan} (w : WellFormed p) {rows : List ℕ} {n : ℕ} (r : Right p rows n) (v : Bool) (s : ℕ) (e : s ≡ signNum v) {z : ℕ} (f : ℕ) (l : f < 64) where
+  pub must-pre-says : Node p n → z ≡ bitXor (bitOr (wordAt rows n (1 + s)) (wordAt rows n (3 + s))) ones → Says z f (Must p n (ExternalPre p f v))
+  must-pre-says m q = says-map (Iff·symm (must-pre-node p w f v m)) (none-of {x = wordAt rows n (1 + s)} {y = wordAt rows n (3 + s)} l q
+      (read r (quiet v) (1 + s) _ f (omega (arith, e)) refl l) (read r (covered v) (3 + s) _ f (omega (arith, e)) refl l))
+
+  pub must-post-says : z ≡ bitXor (bitOr (wordAt rows n 0) (wordAt rows n (7 + (1 - s)))) ones → Says z f (Must p n (ExternalPost p f v))
+  must-post-says q = says-map (Iff·symm (must-post-node p w f v)) (none-of {x = wordAt rows n 0} {y = wordAt rows n (7 + (1 - s))} l q
+      (r .says avoid f l) (read r (may-post (not v)) (7 + (1 - s)) _ f (omega (arith, opposite v s e)) refl l))
+
+-- an equivalent on the right
+right : {K A B : Type 0} → A ↔ B → (K ⊎ A) ↔ (K ⊎ B)
+right {K} {A} {B} e = (to, from)
+  where
+    to : K ⊎ A → K ⊎ B
+    to (inl k) = inl k
+    to (inr a) = inr (e .0 a)
+
+    from : K ⊎ B → K ⊎ A
+    from (inl k) = inl k
+    from (inr b) = inr (e .1 b)
+
+module _ {from kids order rows : List ℕ} {size n : ℕ} {p : Plan} (g : Pairing from kids order rows size n p) where
+  module _ {c d : ℕ} (hc : Child p n c) (hd : Child p n d) where
+    -- no child so far disturbs the pair
+    abbrev pub UndisturbedTo : ℕ → ℕ → Type 0
+    UndisturbedTo i f = Every kids (getD from n 0) i (λ b. b ≢ c → b ≢ d → ¬ Before p b d → ¬ Before p c b → Silent p f b)
+
+    pub undisturbed-more : {i w r x : ℕ} {C : Type 0} → getD from n 0 ≤ i → i < getD from (n + 1) 0 → C ↔ Disturbs order (getD kids i 0) c d
+        → x ≡ bitXor (bitOr (wordAt rows (getD kids i 0) 13) (wordAt rows (getD kids i 0) 14)) ones
+        → Narrows w r C (λ f. T (bit x f)) → ((f : ℕ) → f < 64 → Says w f (UndisturbedTo i f)) → (f : ℕ) → f < 64 → Says r f (UndisturbedTo (i + 1) f)
+    undisturbed-more {i} {C = C} a b e q m h = let hb = kid g i a b in
+        let before = g .orders .before (getD kids i 0) d (hb .node) (hd .node) in
+        let after = g .orders .after (getD kids i 0) c (hb .node) (hc .node) in
+        narrows-more a m (λ f l. let s = Iff·trans (rw q (neither _ _ f l)) (silent-cell (g .group .children _ hb) l) in (
+          λ y w₁ w₂ w₃ w₄. s .0 (y (e .1 (record { not-c = w₁; not-d = w₂; not-before = λ z. w₃ (before .0 z); not-after = λ z. w₄ (after .0 z) }))),
+          λ y z. let x = e .0 z in s .1 (y (x .not-c) (x .not-d) (λ u. x .not-before (before .1 u)) (λ u. x .not-after (after .1 u))),
+        )) h
+
+    pub undisturbed-none : {w f : ℕ} → f < 64 → w ≡ ones → Says w f (UndisturbedTo (getD from n 0) f)
+    undisturbed-none l e = every-none (omega arith) l e
+
+    pub undisturbed-all : {w f : ℕ} → Says w f (UndisturbedTo (getD from (n + 1) 0) f) → Says w f (Undisturbed p n f c d)
+    undisturbed-all s = says-map (every-child (g .group .tree) (g .group .node) (λ b hb. (λ x. x, λ x. x))) s
+
+    module _ {f : ℕ} {v : Bool} {W : Type 0} where
+      pub must-pair : Before p d c → ((W × (Must p d (ExternalPost p f (not v)) × Must p c (ExternalPre p f v))) × Undisturbed p n f c d) ↔ (W × MustPair p n f v c d)
+      must-pair q = (λ x. (x .0 .0, (q, (x .0 .1, x .1))), λ x. ((x .0, x .1 .1 .0), x .1 .1 .1))
+
+  -- one pair more, of those not yet known: `flags | pair`
+  pub pair-more : {flags word r f : ℕ} {K S Q S′ : Type 0} → (S ⊎ Q) ↔ S′ → f < 64 → r ≡ bitOr flags word → Says flags f (K ⊎ S)
+      → Says word f (T (bit (bitXor flags ones) f) × Q) → Says r f (K ⊎ S′)
+  pair-more {flags} {word} {f = f} {K} {S} {Q} {S′} e l q h m = says-map (to, λ x. back (says-dec h) x) (says-or q h m)
+    where
+      to : (K ⊎ S) ⊎ (T (bit (bitXor flags ones) f) × Q) → K ⊎ S′
+      to (inl (inl k)) = inl k
+      to (inl (inr s)) = inr (e .0 (inl s))
+      to (inr x) = inr (e .0 (inr (x .1)))
+
+      new : ¬ (K ⊎ S) → S ⊎ Q → T (bit (bitXor flags ones) f) × Q
+      new n (inl s) = absurd (n (inr s))
+      new n (inr x) = (says-not {x = flags} l refl h .from n, x)
+
+      back : Dec (K ⊎ S) → K ⊎ S′ → (K ⊎ S) ⊎ (T (bit (bitXor flags ones) f) × Q)
+      back (yes y) x = inl y
+      back (no n) (inl k) = absurd (n (inl k))
+      back (no n) (inr s) = inr (new n (e .1 s))
+
+  -- the pairs so far with the child c; the pairs of the children so far
+  abbrev pub WithTo : ℕ → ℕ → Bool → ℕ → Type 0
+  WithTo c f v j = Some kids (getD from n 0) j (MustPair p n f v c)
+
+  abbrev pub PairsTo : ℕ → Bool → ℕ → Type 0
+  PairsTo f v i = Some kids (getD from n 0) i (λ c. (d : ℕ) × Child p n d × MustPair p n f v c d)
+
+  -- at the beginning only what is known
+  pub none-more : {known f : ℕ} {Q : ℕ → Type 0} → Says known f (T (bit known f) ⊎ Some kids (getD from n 0) (getD from n 0) Q)
+  none-more {known} {f} {Q} = says-map (inl, at) (says-self known f)
+    where
+      at : T (bit known f) ⊎ Some kids (getD from n 0) (getD from n 0) Q → T (bit known f)
+      at (inl t) = t
+      at (inr x) = absurd (omega (arith, x .from-low, x .to-high))
+
+  pub with-all : {K : Type 0} {w c f : ℕ} {v : Bool} → Says w f (K ⊎ WithTo c f v (getD from (n + 1) 0)) → Says w f (K ⊎ ((d : ℕ) × Child p n d × MustPair p n f v c d))
+  with-all s = says-map (right (some-child (g .group .tree) (g .group .node) (λ d hd. (λ x. x, λ x. x)))) s
+
+  pub pairs-all : {K : Type 0} {w f : ℕ} {v : Bool} → Says w f (K ⊎ PairsTo f v (getD from (n + 1) 0)) → Says w f (K ⊎ SomePair p n f v (MustPair p n f v))
+  pairs-all s = says-map (right (some-child (g .group .tree) (g .group .node) (λ d hd. (λ x. x, λ x. x)))) s
+
+  -- one child more, whose pairs are added to the flags
+  pub child-more : {flags r f i : ℕ} {v : Bool} {K : Type 0} → getD from n 0 ≤ i → Says flags f (K ⊎ PairsTo f v i)
+      → Says r f (T (bit flags f) ⊎ ((d : ℕ) × Child p n d × MustPair p n f v (getD kids i 0) d)) → Says r f (K ⊎ PairsTo f v (i + 1))
+  child-more {flags} {r} {f} {i} {v} {K} a h m = says-map (to, back) m
+    where
+      to : T (bit flags f) ⊎ ((d : ℕ) × Child p n d × MustPair p n f v (getD kids i 0) d) → K ⊎ PairsTo f v (i + 1)
+      to (inl t) = old (h .to t)
+        where
+          old : K ⊎ PairsTo f v i → K ⊎ PairsTo f v (i + 1)
+          old (inl k) = inl k
+          old (inr s) = inr ((some-next a) .0 (inl s))
+      to (inr x) = inr ((some-next a) .0 (inr x))
+
+      back : K ⊎ PairsTo f v (i + 1) → T (bit flags f) ⊎ ((d : ℕ) × Child p n d × MustPair p n f v (getD kids i 0) d)
+      back (inl k) = inl (h .from (inl k))
+      back (inr s) = old ((some-next a) .1 s)
+        where
+          old : PairsTo f v i ⊎ ((d : ℕ) × Child p n d × MustPair p n f v (getD kids i 0) d) → T (bit flags f) ⊎ ((d : ℕ) × Child p n d × MustPair p n f v (getD kids i 0) d)
+          old (inl s) = inl (h .from (inr s))
+          old (inr x) = inr x

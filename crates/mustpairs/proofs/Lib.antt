@@ -1,0 +1,2 @@
+-- Laws of pairs that must clobber.
+pub mod Laws

@@ -1,0 +1,93 @@
+-- The search asked again for the literals still wanted, until it finds none. Assumes nothing.
+use mathlib.Core.Path.{_≡_, refl}
+use mathlib.Core.Logic.{_≢_, _⊎_, inl, inr, _↔_}
+use mathlib.Core.Bool.{Bool, true, false}
+use mathlib.Core.List.{List}
+use Prim.Native.Nat.{ℕ, _+_, _^_, _<_}
+use native.Mathlib.Decide.{ℕ-discrete}
+use native.Mathlib.Omega.{arith}
+use lib.Bits.{bitAnd, bitOr, bitXor}
+use lib.Dec.{T}
+use Rattle.bits.specs.Bits.{bit, Says}
+use Rattle.bits.proofs.Says.{says-dec, says-self, says-and, says-or, says-less}
+use Rattle.bits.proofs.Words.{no-bits, less-add}
+use Rattle.runs.specs.Plan.{Plan}
+use Rattle.pairs.specs.declared.Literals.{Literals}
+use Rattle.pairs.specs.Pairs.{Pair, SomePair, Pairing, wordOf, Search, AllPairs}
+use Rattle.pairs.proofs.Laws.{no-flag}
+
+-- one literal word more, one less
+abbrev pub gained : Literals → Literals → Literals
+gained a b = record { clear = bitOr (a .clear) (b .clear); set = bitOr (a .set) (b .set) }
+
+abbrev pub lost : Literals → Literals → Literals
+lost a b = record { clear = bitXor (a .clear) (bitAnd (a .clear) (b .clear)); set = bitXor (a .set) (bitAnd (a .set) (b .set)) }
+
+gained-says : (a b : Literals) (v : Bool) (f : ℕ) → Says (wordOf (gained a b) v) f (T (bit (wordOf a v) f) ⊎ T (bit (wordOf b v) f))
+gained-says a b false f = says-or {x = a .clear} {y = b .clear} refl (says-self _ f) (says-self _ f)
+gained-says a b true f = says-or {x = a .set} {y = b .set} refl (says-self _ f) (says-self _ f)
+
+lost-says : (a b : Literals) (v : Bool) (f : ℕ) → Says (wordOf (lost a b) v) f (T (bit (wordOf a v) f) × (¬ T (bit (wordOf b v) f)))
+lost-says a b false f = says-less {x = a .clear} {y = b .clear} refl (says-self _ f) (says-self _ f)
+lost-says a b true f = says-less {x = a .set} {y = b .set} refl (says-self _ f) (says-self _ f)
+
+module _ (from kids order rows : List ℕ) (size n : ℕ) (wanted : Literals) where
+  -- the literals still wanted, and those found
+  pub record Progress (left found : Literals) : Type 0 where
+    pub still : (v : Bool) (f : ℕ) → T (bit (wordOf left v) f) ↔ (T (bit (wordOf wanted v) f) × (¬ T (bit (wordOf found v) f)))
+    pub sound : (p : Plan) → Pairing from kids order rows size n p → (v : Bool) (f : ℕ) → f < 64 → T (bit (wordOf found v) f)
+        → T (bit (wordOf wanted v) f) × SomePair p n f v (Pair p n f v)
+
+  no-literal : (v : Bool) (f : ℕ) → ¬ T (bit (wordOf (record { clear = 0; set = 0 }) v) f)
+  no-literal false f t = no-flag 0 f refl t
+  no-literal true f t = no-flag 0 f refl t
+
+  pub at-first : Progress wanted (record { clear = 0; set = 0 })
+  at-first = record { still = λ v f. (λ t. (t, no-literal v f), λ x. x .0); sound = λ p g v f l t. absurd (no-literal v f t) }
+
+  module _ {left found : Literals} (pair : Literals) (h : Progress left found) (s : Search from kids order rows size n left pair) where
+    pub found-more : Progress (lost left pair) (gained found pair)
+    found-more = record {
+      still = λ v f. (
+        λ t. let x = lost-says left pair v f .to t in let y = (h .still v f) .0 (x .0) in (y .0, λ u. both v f (y .1) (x .1) (gained-says found pair v f .to u)),
+        λ x. lost-says left pair v f .from ((h .still v f) .1 (x .0, λ t. x .1 (gained-says found pair v f .from (inl t))), λ t. x .1 (gained-says found pair v f .from (inr t))),
+      );
+      sound = λ p g v f l t. at p g v f l (gained-says found pair v f .to t);
+    }
+      where
+        both : (v : Bool) (f : ℕ) → ¬ T (bit (wordOf found v) f) → ¬ T (bit (wordOf pair v) f) → ¬ (T (bit (wordOf found v) f) ⊎ T (bit (wordOf pair v) f))
+        both v f k l (inl t) = k t
+        both v f k l (inr t) = l t
+
+        at : (p : Plan) → Pairing from kids order rows size n p → (v : Bool) (f : ℕ) → f < 64 → T (bit (wordOf found v) f) ⊎ T (bit (wordOf pair v) f)
+            → T (bit (wordOf wanted v) f) × SomePair p n f v (Pair p n f v)
+        at p g v f l (inl t) = h .sound p g v f l t
+        at p g v f l (inr t) = (((h .still v f) .0 (s .among v f l t)) .0, s .sound p g v f l t)
+
+    pub all-found : bitOr (pair .clear) (pair .set) ≡ 0 → AllPairs from kids order rows size n wanted found
+    all-found e = record {
+      says = λ p g v f l. record {
+        to = h .sound p g v f l;
+        from = λ x. at p g v f l x (says-dec (says-self (wordOf found v) f));
+      };
+    }
+      where
+        at : (p : Plan) → Pairing from kids order rows size n p → (v : Bool) (f : ℕ) → f < 64 → T (bit (wordOf wanted v) f) × SomePair p n f v (Pair p n f v)
+            → Dec (T (bit (wordOf found v) f)) → T (bit (wordOf found v) f)
+        at p g v f l x (yes t) = t
+        at p g v f l x (no k) = absurd (s .complete e p g v f l ((h .still v f) .1 (x .0, k)) (x .1))
+
+-- what is found is taken away: one word less, the other not more
+common : (x y : ℕ) → y < 2 ^ 64 → ((f : ℕ) → f < 64 → T (bit y f) → T (bit x f)) → bitAnd x y ≡ 0 → y ≡ 0
+common x y l h e = no-bits y l (λ f m t. no-flag (bitAnd x y) f e (says-and {x = x} {y = y} refl (says-self x f) (says-self y f) .from (h f m t, t)))
+
+pub fewer : (from kids order rows : List ℕ) (size n : ℕ) (left pair : Literals) → Search from kids order rows size n left pair
+    → left .clear < 2 ^ 64 → left .set < 2 ^ 64 → pair .clear < 2 ^ 64 → pair .set < 2 ^ 64 → bitOr (pair .clear) (pair .set) ≢ 0
+    → bitXor (left .clear) (bitAnd (left .clear) (pair .clear)) + bitXor (left .set) (bitAnd (left .set) (pair .set)) < left .clear + left .set
+fewer from kids order rows size n left pair s a b c d ne = at (ℕ-discrete (bitAnd (left .clear) (pair .clear)) 0) (ℕ-discrete (bitAnd (left .set) (pair .set)) 0)
+  where
+    at : Dec (bitAnd (left .clear) (pair .clear) ≡ 0) → Dec (bitAnd (left .set) (pair .set) ≡ 0)
+        → bitXor (left .clear) (bitAnd (left .clear) (pair .clear)) + bitXor (left .set) (bitAnd (left .set) (pair .set)) < left .clear + left .set
+    at (yes e) (yes q) = absurd (ne (rw (common (left .clear) (pair .clear) c (s .among false) e, common (left .set) (pair .set) d (s .among true) q)))
+    at (no k) z = omega (arith, k, less-add (left .clear) (pair .clear) a, less-add (left .set) (pair .set) b)
+    at (yes e) (no k) = omega (arith, k, less-add (left .clear) (pair .clear) a, less-add (left .set) (pair .set) b)

@@ -1,0 +1,3 @@
+-- Laws of pairs.
+pub mod Laws
+pub mod Again

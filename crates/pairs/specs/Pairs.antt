@@ -1,0 +1,67 @@
+-- The pairs of children of an all-of group that may clobber, or must clobber, a literal (f, v). Definitions only.
+use mathlib.Core.Path.{_≡_}
+use mathlib.Core.Logic.{_≢_, _⊎_}
+use mathlib.Core.Bool.{Bool, true, false, not}
+use mathlib.Core.List.{List}
+use Prim.Native.Nat.{ℕ, _<_}
+use lib.Bits.{bitOr}
+use lib.Dec.{T}
+use Rattle.bits.specs.Bits.{bit, Says}
+use Rattle.runs.specs.Plan.{Plan, Child, Before, Unordered}
+use Rattle.runs.specs.Summary.{Must, ExternalPre, ExternalPost, Silent}
+use Rattle.words.specs.Tables.{RepresentsOrder}
+use Rattle.words.specs.Columns.{avoid, may-pre, may-post, requires, asserts}
+use Rattle.words.specs.Columns.{Fact}
+use Rattle.words.specs.Groups.{Group}
+use Rattle.pairs.specs.declared.Literals.{Literals}
+
+module _ (p : Plan) (n f : ℕ) where
+  -- each child that stands between d and c can avoid the flag
+  abbrev pub Between : ℕ → ℕ → Type 0
+  Between c d = (b : ℕ) → Child p n b → Before p d b → Before p b c → Fact p b f avoid
+
+  -- no task under a child other than c and d asserts the flag, unless that child stands before d or after c
+  abbrev pub Undisturbed : ℕ → ℕ → Type 0
+  Undisturbed c d = (b : ℕ) → Child p n b → b ≢ c → b ≢ d → ¬ Before p b d → ¬ Before p c b → Silent p f b
+
+  module _ (v : Bool) where
+    -- the two rules by pairs of 01's mark 6
+    abbrev pub Pair : ℕ → ℕ → Type 0
+    Pair c d = (Unordered p c d × (Fact p c f (requires v) × Fact p d f (asserts (not v))))
+        ⊎ (Before p d c × ((Fact p d f (may-post (not v)) × Fact p c f (may-pre v)) × Between c d))
+
+    -- rule (b) of 01's mark 7
+    abbrev pub MustPair : ℕ → ℕ → Type 0
+    MustPair c d = Before p d c × ((Must p d (ExternalPost p f (not v)) × Must p c (ExternalPre p f v)) × Undisturbed c d)
+
+    -- some pair of children of n
+    abbrev pub SomePair : (ℕ → ℕ → Type 0) → Type 0
+    SomePair P = (c : ℕ) × Child p n c × ((d : ℕ) × Child p n d × P c d)
+
+-- what is known of an all-of group whose pairs are looked at
+pub record Pairing (from kids order rows : List ℕ) (size n : ℕ) (p : Plan) : Type 0 where
+  pub group : Group from kids rows size n p
+  pub orders : RepresentsOrder order p
+
+-- the word of one sign
+abbrev pub wordOf : Literals → Bool → ℕ
+wordOf w false = w .clear
+wordOf w true = w .set
+
+-- the wanted literals that the pair c, d of children clobbers
+pub record PairWords (from kids order rows : List ℕ) (size n : ℕ) (wanted : Literals) (c d : ℕ) (r : Literals) : Type 0 where
+  pub among : (v : Bool) (f : ℕ) → f < 64 → T (bit (wordOf r v) f) → T (bit (wordOf wanted v) f)
+  pub says : (p : Plan) → Pairing from kids order rows size n p → Child p n c → Child p n d → (v : Bool) (f : ℕ) → f < 64
+      → Says (wordOf r v) f (T (bit (wordOf wanted v) f) × Pair p n f v c d)
+
+-- What a search answers: wanted literals that some pair clobbers; none only if no wanted literal is clobbered by a pair.
+pub record Search (from kids order rows : List ℕ) (size n : ℕ) (wanted r : Literals) : Type 0 where
+  pub among : (v : Bool) (f : ℕ) → f < 64 → T (bit (wordOf r v) f) → T (bit (wordOf wanted v) f)
+  pub sound : (p : Plan) → Pairing from kids order rows size n p → (v : Bool) (f : ℕ) → f < 64 → T (bit (wordOf r v) f) → SomePair p n f v (Pair p n f v)
+  pub complete : bitOr (r .clear) (r .set) ≡ 0 → (p : Plan) → Pairing from kids order rows size n p → (v : Bool) (f : ℕ) → f < 64
+      → T (bit (wordOf wanted v) f) → ¬ SomePair p n f v (Pair p n f v)
+
+-- the wanted literals that some pair clobbers
+pub record AllPairs (from kids order rows : List ℕ) (size n : ℕ) (wanted r : Literals) : Type 0 where
+  pub says : (p : Plan) → Pairing from kids order rows size n p → (v : Bool) (f : ℕ) → f < 64
+      → Says (wordOf r v) f (T (bit (wordOf wanted v) f) × SomePair p n f v (Pair p n f v))

@@ -1,0 +1,188 @@
+// The pairs of children of an all-of group that may clobber, or must clobber, a literal: for all flags at once, from the rows of the children.
+ghost use mathlib.Core.Path.{_≡_};
+ghost use mathlib.Core.Logic.{_↔_};
+ghost use mathlib.Core.Bool.{Bool};
+ghost use Prim.Native.Nat.{ℕ, _+_, _*_, _<_};
+ghost use lib.Dec.{T};
+ghost use Rattle.bits.specs.Bits.{bit, Says};
+ghost use Rattle.runs.specs.Plan.{Plan, Child};
+ghost use Rattle.words.specs.Tables.{signNum, code, Shaped};
+ghost use Rattle.pairs.specs.Pairs.{Pairing, Between, Pair, PairWords, Search, AllPairs};
+use words::apart;
+use words::narrowed;
+use words::wide;
+use words::word_at;
+
+const ALL: u64 = 18446744073709551615;
+
+// The first word of some columns; a column but the first has a word for each sign, clear and set.
+const AVOID: usize = 0;
+
+const MAY_PRE: usize = 5;
+
+const MAY_POST: usize = 7;
+
+const REQUIRES: usize = 11;
+
+const ASSERTS: usize = 13;
+
+// Literals: the flags wanted clear, the flags wanted set.
+pub struct Literals {
+    pub clear: u64,
+    pub set: u64,
+}
+
+// b stands after d and before c.
+fn stands_between(order: &[u8; 16384], d: usize, b: usize, c: usize) -> bool
+    requires { ⌜ (b < 128) × ((c < 128) × (d < 128)) ⌝ }
+    ensures { λ r. ⌜ T r ↔ ((code (now (order .entry)) d b ≡ 1) × (code (now (order .entry)) b c ≡ 1)) ⌝ }
+{
+    if order[d * 128 + b] == 1 {
+        return order[b * 128 + c] == 1;
+    }
+    false
+}
+
+// The flags that every child between d and c can avoid.
+fn between(
+    from: &[u8; 129],
+    kids: &[u8; 128],
+    order: &[u8; 16384],
+    rows: &[u64; 2688],
+    n: usize,
+    node: usize,
+    c: usize,
+    d: usize,
+) -> u64
+    requires { ⌜ (Shaped (now from) (now kids) n × (node < n)) × ((c < n) × (d < n)) ⌝ }
+    ensures { λ r. ⌜ ((p : Plan) → Pairing (now (from .entry)) (now (kids .entry)) (now (order .entry)) (now (rows .entry)) n node p → Child p node c → Child p node d → (f : ℕ) → f < 64 → Says r f (Between p node f c d)) ⌝ }
+{
+    let mut flags = ALL;
+    let end = wide(from[node + 1]);
+    let mut i = wide(from[node]);
+    while i < end {
+        let b = wide(kids[i]);
+        flags = narrowed(
+            flags,
+            stands_between(order, d, b, c),
+            word_at(rows, b, AVOID),
+        );
+        i += 1;
+    }
+    flags
+}
+
+// The wanted flags of one sign that the children c and d clobber.
+fn pair_word(
+    from: &[u8; 129],
+    kids: &[u8; 128],
+    order: &[u8; 16384],
+    rows: &[u64; 2688],
+    n: usize,
+    node: usize,
+    sign: usize,
+    wanted: u64,
+    c: usize,
+    d: usize,
+) -> u64
+    requires { ⌜ ((Shaped (now from) (now kids) n × (node < n)) × (sign < 2)) × ((c < n) × (d < n)) ⌝ }
+    ensures among { λ r. ⌜ ((f : ℕ) → f < 64 → T (bit r f) → T (bit wanted f)) ⌝ }
+    ensures says { λ r. ⌜ ((p : Plan) → Pairing (now (from .entry)) (now (kids .entry)) (now (order .entry)) (now (rows .entry)) n node p → Child p node c → Child p node d → (v : Bool) → sign ≡ signNum v → (f : ℕ) → f < 64 → Says r f (T (bit wanted f) × Pair p node f v c d)) ⌝ }
+{
+    if order[d * 128 + c] == 1 {
+        let passed = word_at(rows, d, MAY_POST + (1 - sign)) & word_at(rows, c, MAY_PRE + sign);
+        let shared = wanted & passed;
+        if shared == 0 {
+            return 0;
+        }
+        return shared & between(from, kids, order, rows, n, node, c, d);
+    }
+    if apart(order, c, d) {
+        return wanted
+            & (word_at(rows, c, REQUIRES + sign) & word_at(rows, d, ASSERTS + (1 - sign)));
+    }
+    0
+}
+
+// The wanted literals that the children c and d clobber.
+fn pair_words(
+    from: &[u8; 129],
+    kids: &[u8; 128],
+    order: &[u8; 16384],
+    rows: &[u64; 2688],
+    n: usize,
+    node: usize,
+    wanted: Literals,
+    c: usize,
+    d: usize,
+) -> Literals
+    requires { ⌜ (Shaped (now from) (now kids) n × (node < n)) × ((c < n) × (d < n)) ⌝ }
+    ensures { λ r. ⌜ PairWords (now (from .entry)) (now (kids .entry)) (now (order .entry)) (now (rows .entry)) n node wanted c d r ⌝ }
+{
+    let clear = pair_word(from, kids, order, rows, n, node, 0, wanted.clear, c, d);
+    let set = pair_word(from, kids, order, rows, n, node, 1, wanted.set, c, d);
+    Literals {
+        clear: clear,
+        set: set,
+    }
+}
+
+// Looks for a pair of children that clobbers a wanted literal; the search ends as soon as one is found, and answers the literals of that pair.
+pub fn clobbering_pair(
+    from: &[u8; 129],
+    kids: &[u8; 128],
+    order: &[u8; 16384],
+    rows: &[u64; 2688],
+    n: usize,
+    node: usize,
+    wanted: Literals,
+) -> Literals
+    requires { ⌜ Shaped (now from) (now kids) n × (node < n) ⌝ }
+    ensures { λ r. ⌜ Search (now (from .entry)) (now (kids .entry)) (now (order .entry)) (now (rows .entry)) n node wanted r ⌝ }
+{
+    let end = wide(from[node + 1]);
+    let start = wide(from[node]);
+    let mut found = Literals { clear: 0, set: 0 };
+    let mut i = start;
+    'search: while i < end {
+        let c = wide(kids[i]);
+        let mut j = start;
+        while j < end {
+            let pair = pair_words(from, kids, order, rows, n, node, wanted, c, wide(kids[j]));
+            if (pair.clear | pair.set) != 0 {
+                found = pair;
+                break 'search;
+            }
+            j += 1;
+        }
+        i += 1;
+    }
+    found
+}
+
+// The wanted literals that some pair of children clobbers: the search is asked again for those still wanted.
+pub fn clobbering_pairs(
+    from: &[u8; 129],
+    kids: &[u8; 128],
+    order: &[u8; 16384],
+    rows: &[u64; 2688],
+    n: usize,
+    node: usize,
+    wanted: Literals,
+) -> Literals
+    requires { ⌜ Shaped (now from) (now kids) n × (node < n) ⌝ }
+    ensures { λ r. ⌜ AllPairs (now (from .entry)) (now (kids .entry)) (now (order .entry)) (now (rows .entry)) n node wanted r ⌝ }
+{
+    let mut left = wanted;
+    let mut found = Literals { clear: 0, set: 0 };
+    loop {
+        let pair = clobbering_pair(from, kids, order, rows, n, node, left);
+        if (pair.clear | pair.set) == 0 {
+            return found;
+        }
+        found.clear = found.clear | pair.clear;
+        found.set = found.set | pair.set;
+        left.clear = left.clear ^ (left.clear & pair.clear);
+        left.set = left.set ^ (left.set & pair.set);
+    }
+}

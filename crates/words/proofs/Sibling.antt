@@ -1,0 +1,176 @@
+-- One sibling more, and what the words come to over all siblings. Assumes nothing.
+use mathlib.Core.Path.{_≡_, refl}
+use mathlib.Core.Logic.{_≢_, _⊎_, inl, inr, _↔_}
+use mathlib.Core.Bool.{Bool, true, false, not}
+use mathlib.Core.List.{List, [], _∷_}
+use Prim.Native.Nat.{ℕ, _+_, _≤_, _<_}
+use native.Mathlib.Omega.{arith}
+use lib.Bits.{bitAnd, bitOr, bitXor}
+use lib.Dec.{T, eqb, eqb→eq, eqb-refl}
+use lib.ListN.{getD}
+use Rattle.bits.specs.Bits.{bit, ones, Says}
+use Rattle.bits.proofs.Says.{says-map, says-eq, says-self, says-and, says-or, says-not, says-all}
+use Rattle.runs.specs.Plan.{Plan, Child, Before, Unordered}
+use Rattle.runs.specs.Summary.{Silent}
+use Rattle.words.specs.declared.Siblings.{Siblings}
+use Rattle.words.specs.Tables.{code, RepresentsOrder}
+use Rattle.words.specs.Columns.{Column, avoid, quiet, covered, may-pre, may-post, may-inc, requires, asserts, may-clobber, must-inc, must-clobber}
+use Rattle.words.specs.Columns.{indexOf, Fact, wordAt, Right}
+use Rattle.words.specs.Segments.{Every}
+use Rattle.words.specs.Groups.{Group, Others}
+use Rattle.words.specs.Siblings.{Apart, Narrows, Limits, SiblingWords, maskOf, Masks}
+use Rattle.words.proofs.All.{silent-is}
+use Rattle.words.proofs.Segments.{every-next, every-none, every-child}
+
+module _ {w r : ℕ} {C : Type 0} {A : ℕ → Type 0} where
+  pub narrows-kept : ¬ C → r ≡ w → Narrows w r C A
+  narrows-kept k e = record { says = λ f l. says-map (λ t. (t, λ c. absurd (k c)), λ x. x .0) (says-eq e (says-self w f)) }
+
+  pub narrows-map : {D : Type 0} {B : ℕ → Type 0} → D ↔ C → ((f : ℕ) → f < 64 → B f ↔ A f) → Narrows w r D B → Narrows w r C A
+  narrows-map c a n = record {
+    says = λ f l. says-map (λ x. (x .0, λ y. (a f l) .0 (x .1 (c .1 y))), λ x. (x .0, λ y. (a f l) .1 (x .1 (c .0 y)))) (n .says f l);
+  }
+
+pub narrows-taken : {w r : ℕ} (y : ℕ) {C : Type 0} → C → r ≡ bitAnd w y → Narrows w r C (λ f. T (bit y f))
+narrows-taken {w} {r} y c e = record { says = λ f l. says-map (λ x. (x .0, λ d. x .1), λ x. (x .0, x .1 c)) (says-and e (says-self w f) (says-self y f)) }
+
+-- the flags of neither word
+pub neither : (x y f : ℕ) → f < 64 → T (bit (bitXor (bitOr x y) ones) f) ↔ (¬ (T (bit x f) ⊎ T (bit y f)))
+neither x y f l = let s = says-not {x = bitOr x y} l refl (says-or {x = x} {y = y} refl (says-self x f) (says-self y f)) in (s .to, s .from)
+
+pub apart-test : {order : List ℕ} (a b : ℕ) → code order a b ≢ 1 → code order a b ≢ 2 → T (not (eqb a b)) ↔ Apart order a b
+apart-test {order} a b k l = (
+  λ t. record { not-before = k; not-after = l; distinct = λ e. no-test (eqb a b) t (rw e (eqb-refl b)) },
+  λ x. no-from (eqb a b) (λ t. x .distinct (eqb→eq a b t)),
+)
+  where
+    no-test : (c : Bool) → T (not c) → ¬ T c
+    no-test true t u = t
+    no-test false t u = u
+
+    no-from : (c : Bool) → ¬ T c → T (not c)
+    no-from true k = absurd (k tt)
+    no-from false k = tt
+
+-- two numbers are equal exactly if the test says so
+pub equal : (a b : ℕ) → T (eqb a b) ↔ (a ≡ b)
+equal a b = (eqb→eq a b, λ e. rw e (eqb-refl b))
+
+module _ {order : List ℕ} {p : Plan} (o : RepresentsOrder order p) {n a b : ℕ} (ha : Child p n a) (hb : Child p n b) where
+  pub apart-is : Apart order a b ↔ Unordered p a b
+  apart-is = let e = o .before a b (ha .node) (hb .node) in let g = o .after a b (ha .node) (hb .node) in (
+    λ x. record { distinct = x .distinct; not-before = λ q. x .not-before (e .1 q); not-after = λ q. x .not-after (g .1 q) },
+    λ x. record { distinct = x .distinct; not-before = λ q. x .not-before (e .0 q); not-after = λ q. x .not-after (g .0 q) },
+  )
+
+-- the words of a right row, read as they stand
+module _ {p : Plan} {rows : List ℕ} {b : ℕ} (r : Right p rows b) {f : ℕ} (l : f < 64) where
+  pub cell : (k : Column) → T (bit (wordAt rows b (indexOf k)) f) ↔ Fact p b f k
+  cell k = (r .says k f l .to, r .says k f l .from)
+
+  pub silent-cell : (¬ (T (bit (wordAt rows b 13) f) ⊎ T (bit (wordAt rows b 14) f))) ↔ Silent p f b
+  silent-cell = (λ k. (silent-is p f b) .0 (λ x. k (down x)), λ s x. (silent-is p f b) .1 s (up x))
+    where
+      up : T (bit (wordAt rows b 13) f) ⊎ T (bit (wordAt rows b 14) f) → Fact p b f (asserts false) ⊎ Fact p b f (asserts true)
+      up (inl t) = inl ((cell (asserts false)) .0 t)
+      up (inr t) = inr ((cell (asserts true)) .0 t)
+
+      down : Fact p b f (asserts false) ⊎ Fact p b f (asserts true) → T (bit (wordAt rows b 13) f) ⊎ T (bit (wordAt rows b 14) f)
+      down (inl x) = inl ((cell (asserts false)) .1 x)
+      down (inr x) = inr ((cell (asserts true)) .1 x)
+
+-- if the premise is the same and the conclusion is, the implication is
+pub implied : {C D A B : Type 0} → C ↔ D → A ↔ B → (C → A) ↔ (D → B)
+implied c a = (λ h d. a .0 (h (c .1 d)), λ h d. a .1 (h (c .0 d)))
+
+-- one word, one child more
+pub narrows-more : {kids : List ℕ} {lo i w r : ℕ} {C : Type 0} {A : ℕ → Type 0} {Q : ℕ → ℕ → Type 0} → lo ≤ i → Narrows w r C A
+    → ((f : ℕ) → f < 64 → (C → A f) ↔ Q f (getD kids i 0))
+    → ((f : ℕ) → f < 64 → Says w f (Every kids lo i (Q f))) → (f : ℕ) → f < 64 → Says r f (Every kids lo (i + 1) (Q f))
+narrows-more l m e h f k = says-map (
+  λ x. (every-next l) .0 (h f k .to (x .0), (e f k) .0 (x .1)),
+  λ x. let y = (every-next l) .1 x in (h f k .from (y .0), (e f k) .1 (y .1)),
+) (m .says f k)
+
+module _ {from kids order rows : List ℕ} {size n c : ℕ} {p : Plan} (g : Group from kids rows size n p) (o : RepresentsOrder order p) (hc : Child p n c) where
+  module _ {lo i : ℕ} (l : lo ≤ i) where
+    pub with-sibling : Child p n (getD kids i 0) → {s r : Siblings} → Limits order rows c (getD kids i 0) s r → SiblingWords p c (Every kids lo i) s
+        → SiblingWords p c (Every kids lo (i + 1)) r
+    with-sibling hb m h = record {
+      avoid-before = narrows-more l (m .avoid-before) (λ f k. implied before (cell (g .children _ hb) k avoid)) (h .avoid-before);
+      clear-before = narrows-more l (m .clear-before) (λ f k. implied before (cell (g .children _ hb) k (quiet false))) (h .clear-before);
+      set-before = narrows-more l (m .set-before) (λ f k. implied before (cell (g .children _ hb) k (quiet true))) (h .set-before);
+      avoid-after = narrows-more l (m .avoid-after) (λ f k. implied (o .after _ c (hb .node) (hc .node)) (cell (g .children _ hb) k avoid)) (h .avoid-after);
+      silent-apart = narrows-more l (m .silent-apart) (λ f k. implied (apart-is o hb hc) (silent-cell (g .children _ hb) k)) (h .silent-apart);
+    }
+      where
+        before : (code order (getD kids i 0) c ≡ 1) ↔ Before p (getD kids i 0) c
+        before = o .before _ c (hb .node) (hc .node)
+
+  pub no-siblings : {lo : ℕ} {s : Siblings} → s ≡ record { «avoid_before» = ones; «clear_before» = ones; «set_before» = ones; «avoid_after» = ones; «silent_apart» = ones }
+      → SiblingWords p c (Every kids lo lo) s
+  no-siblings e = rw e (record {
+    avoid-before = λ f l. every-none (omega arith) l refl;
+    clear-before = λ f l. every-none (omega arith) l refl;
+    set-before = λ f l. every-none (omega arith) l refl;
+    avoid-after = λ f l. every-none (omega arith) l refl;
+    silent-apart = λ f l. every-none (omega arith) l refl;
+  })
+
+  -- over the whole segment: all siblings
+  pub all-siblings : {s : Siblings} → SiblingWords p c (Every kids (getD from n 0) (getD from (n + 1) 0)) s → SiblingWords p c (λ Q. (b : ℕ) → Child p n b → Q b) s
+  all-siblings h = record {
+    avoid-before = λ f l. says-map same (h .avoid-before f l);
+    clear-before = λ f l. says-map same (h .clear-before f l);
+    set-before = λ f l. says-map same (h .set-before f l);
+    avoid-after = λ f l. says-map same (h .avoid-after f l);
+    silent-apart = λ f l. says-map same (h .silent-apart f l);
+  }
+    where
+      same : {Q : ℕ → Type 0} → Every kids (getD from n 0) (getD from (n + 1) 0) Q ↔ ((b : ℕ) → Child p n b → Q b)
+      same = every-child (g .tree) (g .node) (λ b hb. (λ x. x, λ x. x))
+
+-- what a child's columns are masked by
+pub masked : {p : Plan} {n c : ℕ} {s : Siblings} → SiblingWords p c (λ Q. (b : ℕ) → Child p n b → Q b) s
+    → (k : Column) (f : ℕ) → f < 64 → Says (maskOf s k) f (Others p n c f k)
+masked h avoid f l = says-all l refl tt
+masked h (quiet v) f l = says-all l refl tt
+masked h (covered false) f l = h .clear-before f l
+masked h (covered true) f l = h .set-before f l
+masked h (may-pre v) f l = h .avoid-before f l
+masked h (may-post v) f l = h .avoid-after f l
+masked h (may-inc v) f l = says-all l refl tt
+masked h (requires v) f l = says-all l refl tt
+masked h (asserts v) f l = says-all l refl tt
+masked h (may-clobber v) f l = says-all l refl tt
+masked h (must-inc v) f l = says-all l refl tt
+masked h (must-clobber v) f l = h .silent-apart f l
+
+pub mask-is : (s : Siblings) → Masks s (ones ∷ ones ∷ ones ∷ s .«clear_before» ∷ s .«set_before» ∷ s .«avoid_before» ∷ s .«avoid_before»
+    ∷ s .«avoid_after» ∷ s .«avoid_after» ∷ ones ∷ ones ∷ ones ∷ ones ∷ ones ∷ ones ∷ ones ∷ ones ∷ ones ∷ ones ∷ s .«silent_apart» ∷ s .«silent_apart» ∷ [])
+mask-is s = record { is = at }
+  where
+    at : (k : Column) → getD (ones ∷ ones ∷ ones ∷ s .«clear_before» ∷ s .«set_before» ∷ s .«avoid_before» ∷ s .«avoid_before»
+        ∷ s .«avoid_after» ∷ s .«avoid_after» ∷ ones ∷ ones ∷ ones ∷ ones ∷ ones ∷ ones ∷ ones ∷ ones ∷ ones ∷ ones ∷ s .«silent_apart» ∷ s .«silent_apart» ∷ [])
+        (indexOf k) 0 ≡ maskOf s k
+    at avoid = refl
+    at (quiet false) = refl
+    at (quiet true) = refl
+    at (covered false) = refl
+    at (covered true) = refl
+    at (may-pre false) = refl
+    at (may-pre true) = refl
+    at (may-post false) = refl
+    at (may-post true) = refl
+    at (may-inc false) = refl
+    at (may-inc true) = refl
+    at (requires false) = refl
+    at (requires true) = refl
+    at (asserts false) = refl
+    at (asserts true) = refl
+    at (may-clobber false) = refl
+    at (may-clobber true) = refl
+    at (must-inc false) = refl
+    at (must-inc true) = refl
+    at (must-clobber false) = refl
+    at (must-clobber true) = refl

@@ -1,0 +1,61 @@
+-- What the siblings of a child in an all-of group allow, as words. Definitions only.
+use mathlib.Core.Path.{_≡_}
+use mathlib.Core.Logic.{_≢_, _⊎_}
+use mathlib.Core.Bool.{true, false}
+use mathlib.Core.List.{List}
+use Prim.Native.Nat.{ℕ, _<_}
+use lib.Dec.{T}
+use lib.ListN.{getD}
+use Rattle.bits.specs.Bits.{bit, ones, Says}
+use Rattle.runs.specs.Plan.{Plan, Before, Unordered}
+use Rattle.runs.specs.Summary.{Silent}
+use Rattle.words.specs.declared.Siblings.{Siblings}
+use Rattle.words.specs.Tables.{code}
+use Rattle.words.specs.Columns.{Column, avoid, quiet, covered, may-pre, may-post, may-inc, requires, asserts, may-clobber, must-inc, must-clobber}
+use Rattle.words.specs.Columns.{indexOf, Fact, wordAt}
+
+-- by the table, a and b are unordered
+pub record Apart (order : List ℕ) (a b : ℕ) : Type 0 where
+  pub not-before : code order a b ≢ 1
+  pub not-after : code order a b ≢ 2
+  pub distinct : a ≢ b
+
+-- bit f of r is set if that of w is and, where C holds, A does
+pub record Narrows (w r : ℕ) (C : Type 0) (A : ℕ → Type 0) : Type 0 where
+  pub says : (f : ℕ) → f < 64 → Says r f (T (bit w f) × (C → A f))
+
+-- the words r are the words s with one sibling more
+pub record Limits (order rows : List ℕ) (child sibling : ℕ) (s r : Siblings) : Type 0 where
+  pub avoid-before : Narrows (s .«avoid_before») (r .«avoid_before») (code order sibling child ≡ 1) (λ f. T (bit (wordAt rows sibling 0) f))
+  pub clear-before : Narrows (s .«clear_before») (r .«clear_before») (code order sibling child ≡ 1) (λ f. T (bit (wordAt rows sibling 1) f))
+  pub set-before : Narrows (s .«set_before») (r .«set_before») (code order sibling child ≡ 1) (λ f. T (bit (wordAt rows sibling 2) f))
+  pub avoid-after : Narrows (s .«avoid_after») (r .«avoid_after») (code order sibling child ≡ 2) (λ f. T (bit (wordAt rows sibling 0) f))
+  pub silent-apart : Narrows (s .«silent_apart») (r .«silent_apart») (Apart order sibling child)
+      (λ f. ¬ (T (bit (wordAt rows sibling 13) f) ⊎ T (bit (wordAt rows sibling 14) f)))
+
+-- What the words say of the siblings of c, all of them or some: E Q is 'each of them has Q'. Those before c avoid the flag, are quiet for its literals;
+-- those after c avoid the flag; those unordered with c are silent.
+pub record SiblingWords (p : Plan) (c : ℕ) (E : (ℕ → Type 0) → Type 0) (s : Siblings) : Type 0 where
+  pub avoid-before : (f : ℕ) → f < 64 → Says (s .«avoid_before») f (E (λ b. Before p b c → Fact p b f avoid))
+  pub clear-before : (f : ℕ) → f < 64 → Says (s .«clear_before») f (E (λ b. Before p b c → Fact p b f (quiet false)))
+  pub set-before : (f : ℕ) → f < 64 → Says (s .«set_before») f (E (λ b. Before p b c → Fact p b f (quiet true)))
+  pub avoid-after : (f : ℕ) → f < 64 → Says (s .«avoid_after») f (E (λ b. Before p c b → Fact p b f avoid))
+  pub silent-apart : (f : ℕ) → f < 64 → Says (s .«silent_apart») f (E (λ b. Unordered p b c → Silent p f b))
+
+-- the word that a child's word of a column is masked by
+abbrev pub maskOf : Siblings → Column → ℕ
+maskOf s avoid = ones
+maskOf s (quiet v) = ones
+maskOf s (covered false) = s .«clear_before»
+maskOf s (covered true) = s .«set_before»
+maskOf s (may-pre v) = s .«avoid_before»
+maskOf s (may-post v) = s .«avoid_after»
+maskOf s (may-inc v) = ones
+maskOf s (requires v) = ones
+maskOf s (asserts v) = ones
+maskOf s (may-clobber v) = ones
+maskOf s (must-inc v) = ones
+maskOf s (must-clobber v) = s .«silent_apart»
+
+pub record Masks (s : Siblings) (r : List ℕ) : Type 0 where
+  pub is : (k : Column) → getD r (indexOf k) 0 ≡ maskOf s k

@@ -1,0 +1,337 @@
+// The words of a plan's nodes: bit f of a word speaks of flag f. A row of 21 words to a node, one for each column (specs/Columns.antt).
+ghost use mathlib.Core.Path.{_≡_};
+ghost use mathlib.Core.Logic.{_↔_};
+ghost use mathlib.Core.Bool.{Bool};
+ghost use Prim.Native.Nat.{ℕ, _+_, _*_, _≤_, _<_};
+ghost use lib.Dec.{T};
+ghost use lib.ListN.{length, getD};
+ghost use Rattle.bits.specs.Bits.{bit};
+ghost use Rattle.runs.specs.Plan.{all-of, any-of, Plan, Child};
+ghost use Rattle.words.specs.Tables.{signNum, Shaped, RepresentsOrder};
+ghost use Rattle.words.specs.Columns.{wordAt, Row, Written};
+ghost use Rattle.words.specs.Tasks.{Task, LiteralSays};
+ghost use Rattle.words.specs.Groups.{Group, WithinRow, JoinedWord, Merged, Unmerged};
+ghost use Rattle.words.specs.Siblings.{Apart, Narrows, Limits, SiblingWords, Masks};
+
+const ALL: u64 = 18446744073709551615;
+
+// The first word of some columns; a column but the first has a word for each sign.
+const AVOID: usize = 0;
+
+const QUIET: usize = 1;
+
+const ASSERTS: usize = 13;
+
+// The words of a task for one sign.
+pub struct Literal {
+    pub quiet: u64,
+    pub covered: u64,
+    pub pre: u64,
+    pub post: u64,
+    pub inc: u64,
+    pub pre_or_inc: u64,
+    pub inc_or_post: u64,
+}
+
+fn condition_word(conds: &[u64; 768], node: usize, at: usize) -> u64
+    requires { ⌜ (node < 128) × (at < 6) ⌝ }
+    ensures { λ r. ⌜ r ≡ getD (now (conds .entry)) (node * 6 + at) 0 ⌝ }
+{
+    conds[node * 6 + at]
+}
+
+// A task has one execution, so its facts are read off its conditions. An incondition's flag has a postcondition too.
+fn literal_words(conds: &[u64; 768], node: usize, sign: usize) -> Literal
+    requires { ⌜ (node < 128) × (sign < 2) ⌝ }
+    ensures { λ r. ⌜ ((p : Plan) → Task (now (conds .entry)) node p → (v : Bool) → sign ≡ signNum v → LiteralSays p node v r) ⌝ }
+{
+    let pre = condition_word(conds, node, sign);
+    let inc = condition_word(conds, node, 2 + sign);
+    let post = condition_word(conds, node, 4 + sign);
+    let asserted = condition_word(conds, node, 4) | condition_word(conds, node, 5);
+    let silent = asserted ^ ALL;
+    Literal {
+        quiet: silent ^ (silent & pre),
+        covered: asserted ^ (asserted & pre),
+        pre: pre,
+        post: post,
+        inc: inc,
+        pre_or_inc: pre | inc,
+        inc_or_post: inc | post,
+    }
+}
+
+// The row of a task.
+pub fn task_words(conds: &[u64; 768], node: usize) -> [u64; 21]
+    requires { ⌜ node < 128 ⌝ }
+    ensures { λ r. ⌜ ((p : Plan) → Task (now (conds .entry)) node p → Row p node r) ⌝ }
+{
+    let asserted = condition_word(conds, node, 4) | condition_word(conds, node, 5);
+    let clear = literal_words(conds, node, 0);
+    let set = literal_words(conds, node, 1);
+    [
+        asserted ^ ALL,
+        clear.quiet,
+        set.quiet,
+        clear.covered,
+        set.covered,
+        clear.pre,
+        set.pre,
+        clear.post,
+        set.post,
+        clear.inc,
+        set.inc,
+        clear.pre_or_inc,
+        set.pre_or_inc,
+        clear.inc_or_post,
+        set.inc_or_post,
+        0,
+        0,
+        clear.inc,
+        set.inc,
+        0,
+        0,
+    ]
+}
+
+pub fn write_row(rows: &mut [u64; 2688], node: usize, words: [u64; 21])
+    requires { ⌜ (node < 128) × (length (now rows) ≡ 2688) ⌝ }
+    ensures { λ r. ⌜ Written (now (rows .entry)) (now (rows .exit)) node words ⌝ }
+{
+    let mut k = 0;
+    while k < 21 {
+        rows[node * 21 + k] = words[k];
+        k += 1;
+    }
+}
+
+pub fn wide(x: u8) -> usize
+    ensures { λ r. ⌜ r ≡ x ⌝ }
+{
+    x as usize
+}
+
+// The word of a node in a column.
+pub fn word_at(rows: &[u64; 2688], node: usize, k: usize) -> u64
+    requires { ⌜ (node < 128) × (k < 21) ⌝ }
+    ensures { λ r. ⌜ r ≡ wordAt (now (rows .entry)) node k ⌝ }
+{
+    rows[node * 21 + k]
+}
+
+// What the siblings of a child in an all-of group allow: those before it avoid the flag, are quiet for its clear and its set literal; those after it
+// avoid the flag; those unordered with it do not assert the flag.
+pub struct Siblings {
+    pub avoid_before: u64,
+    pub clear_before: u64,
+    pub set_before: u64,
+    pub avoid_after: u64,
+    pub silent_apart: u64,
+}
+
+// a and b are unordered.
+pub fn apart(order: &[u8; 16384], a: usize, b: usize) -> bool
+    requires { ⌜ (a < 128) × (b < 128) ⌝ }
+    ensures { λ r. ⌜ T r ↔ Apart (now (order .entry)) a b ⌝ }
+{
+    let code = order[a * 128 + b];
+    if code == 1 {
+        return false;
+    }
+    if code == 2 {
+        return false;
+    }
+    a != b
+}
+
+// Where it applies, the word with only the flags of the other.
+pub fn narrowed(word: u64, applies: bool, by: u64) -> u64
+    ensures { λ r. ⌜ Narrows word r (T applies) (λ f. T (bit by f)) ⌝ }
+{
+    if applies {
+        return word & by;
+    }
+    word
+}
+
+fn with_sibling(
+    order: &[u8; 16384],
+    rows: &[u64; 2688],
+    child: usize,
+    sibling: usize,
+    s: Siblings,
+) -> Siblings
+    requires { ⌜ (child < 128) × (sibling < 128) ⌝ }
+    ensures { λ r. ⌜ Limits (now (order .entry)) (now (rows .entry)) child sibling s r ⌝ }
+{
+    let code = order[sibling * 128 + child];
+    let asserted = word_at(rows, sibling, ASSERTS) | word_at(rows, sibling, ASSERTS + 1);
+    let avoids = word_at(rows, sibling, AVOID);
+    let unordered = apart(order, sibling, child);
+    let avoid_before = narrowed(s.avoid_before, code == 1, avoids);
+    let clear_before = narrowed(s.clear_before, code == 1, word_at(rows, sibling, QUIET));
+    let set_before = narrowed(s.set_before, code == 1, word_at(rows, sibling, QUIET + 1));
+    let avoid_after = narrowed(s.avoid_after, code == 2, avoids);
+    let silent_apart = narrowed(s.silent_apart, unordered, asserted ^ ALL);
+    Siblings {
+        avoid_before: avoid_before,
+        clear_before: clear_before,
+        set_before: set_before,
+        avoid_after: avoid_after,
+        silent_apart: silent_apart,
+    }
+}
+
+// One pass over the siblings of a child of the all-of group.
+fn all_siblings(
+    from: &[u8; 129],
+    kids: &[u8; 128],
+    order: &[u8; 16384],
+    rows: &[u64; 2688],
+    n: usize,
+    node: usize,
+    child: usize,
+) -> Siblings
+    requires { ⌜ (Shaped (now from) (now kids) n × (node < n)) × (child < n) ⌝ }
+    ensures { λ r. ⌜ ((p : Plan) → Group (now (from .entry)) (now (kids .entry)) (now (rows .entry)) n node p → RepresentsOrder (now (order .entry)) p → Child p node child → SiblingWords p child (λ Q. (b : ℕ) → Child p node b → Q b) r) ⌝ }
+{
+    let mut s = Siblings {
+        avoid_before: ALL,
+        clear_before: ALL,
+        set_before: ALL,
+        avoid_after: ALL,
+        silent_apart: ALL,
+    };
+    let end = wide(from[node + 1]);
+    let mut i = wide(from[node]);
+    while i < end {
+        s = with_sibling(order, rows, child, wide(kids[i]), s);
+        i += 1;
+    }
+    s
+}
+
+// What each column of a child is masked by.
+fn mask_words(s: Siblings) -> [u64; 21]
+    ensures { λ r. ⌜ Masks s r ⌝ }
+{
+    [
+        ALL,
+        ALL,
+        ALL,
+        s.clear_before,
+        s.set_before,
+        s.avoid_before,
+        s.avoid_before,
+        s.avoid_after,
+        s.avoid_after,
+        ALL,
+        ALL,
+        ALL,
+        ALL,
+        ALL,
+        ALL,
+        ALL,
+        ALL,
+        ALL,
+        ALL,
+        s.silent_apart,
+        s.silent_apart,
+    ]
+}
+
+// The words before the first child: ones in the columns from first to last.
+fn start_words(first: usize, last: usize) -> [u64; 21]
+    requires { ⌜ (first ≤ last) × (last ≤ 21) ⌝ }
+    ensures { λ r. ⌜ Unmerged first last r ⌝ }
+{
+    let mut out = [0u64; 21];
+    let mut k = first;
+    while k < last {
+        out[k] = ALL;
+        k += 1;
+    }
+    out
+}
+
+// The word of one child more in column k: from first to last, both have it; in the others, one of them does, the child under the mask.
+fn joined(first: usize, last: usize, k: usize, word: u64, child: u64, mask: u64) -> u64
+    ensures { λ r. ⌜ JoinedWord first last k word child mask r ⌝ }
+{
+    if k < first {
+        return word | (child & mask);
+    }
+    if last <= k {
+        return word | (child & mask);
+    }
+    word & child
+}
+
+// The words of one child more.
+fn merged(
+    first: usize,
+    last: usize,
+    words: [u64; 21],
+    rows: &[u64; 2688],
+    child: usize,
+    mask: [u64; 21],
+) -> [u64; 21]
+    requires { ⌜ child < 128 ⌝ }
+    ensures { λ r. ⌜ Merged first last words (now (rows .entry)) child mask r ⌝ }
+{
+    let mut out = words;
+    let mut k = 0;
+    while k < 21 {
+        out[k] = joined(first, last, k, words[k], word_at(rows, child, k), mask[k]);
+        k += 1;
+    }
+    out
+}
+
+// The row of an any-of group, from the rows of its children.
+pub fn any_words(
+    from: &[u8; 129],
+    kids: &[u8; 128],
+    rows: &[u64; 2688],
+    n: usize,
+    node: usize,
+) -> [u64; 21]
+    requires { ⌜ Shaped (now from) (now kids) n × (node < n) ⌝ }
+    ensures { λ r. ⌜ ((p : Plan) → Group (now (from .entry)) (now (kids .entry)) (now (rows .entry)) n node p → p .tree .kind node ≡ any-of → Row p node r) ⌝ }
+{
+    let mask = start_words(0, 21);
+    let mut words = start_words(17, 21);
+    let end = wide(from[node + 1]);
+    let mut i = wide(from[node]);
+    while i < end {
+        let next = merged(17, 21, words, rows, wide(kids[i]), mask);
+        words = next;
+        i += 1;
+    }
+    words
+}
+
+// What an all-of group shows by its children one by one, from their rows.
+pub fn all_words(
+    from: &[u8; 129],
+    kids: &[u8; 128],
+    order: &[u8; 16384],
+    rows: &[u64; 2688],
+    n: usize,
+    node: usize,
+) -> [u64; 21]
+    requires { ⌜ Shaped (now from) (now kids) n × (node < n) ⌝ }
+    ensures { λ r. ⌜ ((p : Plan) → Group (now (from .entry)) (now (kids .entry)) (now (rows .entry)) n node p → RepresentsOrder (now (order .entry)) p → p .tree .kind node ≡ all-of → WithinRow p node r) ⌝ }
+{
+    let mut words = start_words(0, 3);
+    let end = wide(from[node + 1]);
+    let mut i = wide(from[node]);
+    while i < end {
+        let child = wide(kids[i]);
+        let mask = mask_words(all_siblings(from, kids, order, rows, n, node, child));
+        let next = merged(0, 3, words, rows, child, mask);
+        words = next;
+        i += 1;
+    }
+    words
+}
