@@ -5,11 +5,15 @@ use mathlib.Core.List.{List}
 use Prim.Native.Nat.{ℕ, _<_}
 use lib.Bits.{bitOr}
 use lib.ListN.{getD}
-use Rattle.runs.specs.Plan.{Plan}
-use Rattle.words.specs.Columns.{Column, avoid, quiet, covered, may-pre, may-post, may-inc, requires, asserts, may-clobber, must-inc, must-clobber, indexOf}
+use Rattle.runs.specs.Plan.{all-of, Plan}
+use Rattle.words.specs.Columns.{Column, avoid, quiet, covered, may-pre, may-post, may-inc, requires, asserts, may-clobber, must-inc, must-clobber, indexOf, Row}
 use Rattle.words.specs.Groups.{Within}
 use Rattle.pairs.specs.declared.Literals.{Literals}
-use Rattle.pairs.specs.Pairs.{Pair, MustPair, SomePair, wordOf}
+use Rattle.pairs.specs.Pairs.{Pair, MustPair, SomePair, OfPlans, wordOf}
+
+-- for every plan that the tables represent: the row of the all-of group n
+abbrev pub AllOfRow : List ℕ → List ℕ → List ℕ → List ℕ → ℕ → ℕ → List ℕ → Type 0
+AllOfRow from kids order rows size n r = OfPlans from kids order rows size n (λ p. p .tree .kind n ≡ all-of → Row p n r)
 
 -- may clobber: where no child has it, some pair; must clobber: a child has it, or some pair
 abbrev pub Extra : Plan → ℕ → ℕ → Column → Type 0

@@ -2,11 +2,8 @@
 ghost use mathlib.Core.Path.{_≡_};
 ghost use Prim.Native.Nat.{_+_, _≤_, _<_};
 ghost use lib.ListN.{length, getD};
-ghost use Rattle.runs.specs.Plan.{all-of, Plan};
 ghost use Rattle.words.specs.Tables.{Shaped};
-ghost use Rattle.words.specs.Columns.{Row};
-ghost use Rattle.pairs.specs.Pairs.{Pairing};
-ghost use Rattle.marks.specs.Clobbers.{ClobberWords, Ored};
+ghost use Rattle.marks.specs.Clobbers.{AllOfRow, ClobberWords, Ored};
 ghost use Rattle.marks.specs.Filled.{Filled, TasksFilled, AllFilled};
 use mustpairs::must_pairs;
 use pairs::Literals;
@@ -75,7 +72,7 @@ fn all_row(
     node: usize,
 ) -> [u64; 21]
     requires { ⌜ Shaped (now from) (now kids) n × (node < n) ⌝ }
-    ensures { λ r. ⌜ ((p : Plan) → Pairing (now (from .entry)) (now (kids .entry)) (now (order .entry)) (now (rows .entry)) n node p → p .tree .kind node ≡ all-of → Row p node r) ⌝ }
+    ensures { λ r. ⌜ AllOfRow (now (from .entry)) (now (kids .entry)) (now (order .entry)) (now (rows .entry)) n node r ⌝ }
 {
     let words = all_words(from, kids, order, rows, n, node);
     let wanted = Literals {

@@ -1,2 +1,3 @@
 -- The pairs of children of an all-of group that must clobber a literal.
 pub mod Disturbs
+pub mod Words

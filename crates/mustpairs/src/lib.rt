@@ -1,16 +1,13 @@
 // Rule (b) of must clobber: the pairs of children of an all-of group that clobber a literal in every completed execution; for all flags at once.
 ghost use mathlib.Core.Path.{_≡_};
-ghost use mathlib.Core.Logic.{_⊎_, _↔_};
-ghost use mathlib.Core.Bool.{Bool};
-ghost use Prim.Native.Nat.{ℕ, _+_, _*_, _<_};
+ghost use mathlib.Core.Logic.{_↔_};
+ghost use Prim.Native.Nat.{_+_, _*_, _<_};
 ghost use lib.Bits.{bitOr, bitXor};
 ghost use lib.Dec.{T};
-ghost use Rattle.bits.specs.Bits.{bit, ones, Says};
-ghost use Rattle.runs.specs.Plan.{Plan, Node, Child, WellFormed};
-ghost use Rattle.runs.specs.Summary.{Must, ExternalPre, ExternalPost};
-ghost use Rattle.words.specs.Tables.{signNum, Shaped};
-ghost use Rattle.words.specs.Columns.{wordAt, Right};
-ghost use Rattle.pairs.specs.Pairs.{Pairing, Undisturbed, MustPair, SomePair};
+ghost use Rattle.bits.specs.Bits.{ones};
+ghost use Rattle.words.specs.Tables.{Shaped};
+ghost use Rattle.words.specs.Columns.{wordAt};
+ghost use Rattle.mustpairs.specs.Words.{MustPreWord, MustPostWord, UndisturbedWord, MustPairWord, WithChildWord, MustPairsWord};
 ghost use Rattle.mustpairs.specs.Disturbs.{Disturbs};
 use words::narrowed;
 use words::wide;
@@ -42,15 +39,15 @@ fn neither(rows: &[u64; 2688], node: usize, j: usize, k: usize) -> u64
 // The literals of one sign that are external preconditions in every completed execution: the node is neither quiet nor covered.
 pub fn must_pre(rows: &[u64; 2688], node: usize, sign: usize) -> u64
     requires { ⌜ (node < 128) × (sign < 2) ⌝ }
-    ensures { λ r. ⌜ ((p : Plan) → WellFormed p → Node p node → Right p (now (rows .entry)) node → (v : Bool) → sign ≡ signNum v → (f : ℕ) → f < 64 → Says r f (Must p node (ExternalPre p f v))) ⌝ }
+    ensures { λ r. ⌜ MustPreWord (now (rows .entry)) node sign r ⌝ }
 {
     neither(rows, node, QUIET + sign, COVERED + sign)
 }
 
-// The literals of one sign that are external postconditions in every completed execution: the node can neither avoid the flag nor leave the opposite.
+// The literals of one sign that are external postconditions in every completed execution: none avoids the flag or asserts the opposite last.
 pub fn must_post(rows: &[u64; 2688], node: usize, sign: usize) -> u64
     requires { ⌜ (node < 128) × (sign < 2) ⌝ }
-    ensures { λ r. ⌜ ((p : Plan) → WellFormed p → Right p (now (rows .entry)) node → (v : Bool) → sign ≡ signNum v → (f : ℕ) → f < 64 → Says r f (Must p node (ExternalPost p f v))) ⌝ }
+    ensures { λ r. ⌜ MustPostWord (now (rows .entry)) node sign r ⌝ }
 {
     neither(rows, node, AVOID, MAY_POST + (1 - sign))
 }
@@ -84,7 +81,7 @@ fn undisturbed(
     d: usize,
 ) -> u64
     requires { ⌜ (Shaped (now from) (now kids) n × (node < n)) × ((c < n) × (d < n)) ⌝ }
-    ensures { λ r. ⌜ ((p : Plan) → Pairing (now (from .entry)) (now (kids .entry)) (now (order .entry)) (now (rows .entry)) n node p → Child p node c → Child p node d → (f : ℕ) → f < 64 → Says r f (Undisturbed p node f c d)) ⌝ }
+    ensures { λ r. ⌜ UndisturbedWord (now (from .entry)) (now (kids .entry)) (now (order .entry)) (now (rows .entry)) n node c d r ⌝ }
 {
     let mut flags = ALL;
     let end = wide(from[node + 1]);
@@ -115,7 +112,7 @@ fn must_pair_word(
     d: usize,
 ) -> u64
     requires { ⌜ ((Shaped (now from) (now kids) n × (node < n)) × (sign < 2)) × ((c < n) × (d < n)) ⌝ }
-    ensures { λ r. ⌜ ((p : Plan) → Pairing (now (from .entry)) (now (kids .entry)) (now (order .entry)) (now (rows .entry)) n node p → Child p node c → Child p node d → (v : Bool) → sign ≡ signNum v → (f : ℕ) → f < 64 → Says r f (T (bit wanted f) × MustPair p node f v c d)) ⌝ }
+    ensures { λ r. ⌜ MustPairWord (now (from .entry)) (now (kids .entry)) (now (order .entry)) (now (rows .entry)) n node sign wanted c d r ⌝ }
 {
     if order[d * 128 + c] == 1 {
         let shared = wanted & (must_post(rows, d, 1 - sign) & must_pre(rows, c, sign));
@@ -140,7 +137,7 @@ fn must_pairs_of(
     c: usize,
 ) -> u64
     requires { ⌜ ((Shaped (now from) (now kids) n × (node < n)) × (sign < 2)) × (c < n) ⌝ }
-    ensures { λ r. ⌜ ((p : Plan) → Pairing (now (from .entry)) (now (kids .entry)) (now (order .entry)) (now (rows .entry)) n node p → Child p node c → (v : Bool) → sign ≡ signNum v → (f : ℕ) → f < 64 → Says r f (T (bit known f) ⊎ ((d : ℕ) × Child p node d × MustPair p node f v c d))) ⌝ }
+    ensures { λ r. ⌜ WithChildWord (now (from .entry)) (now (kids .entry)) (now (order .entry)) (now (rows .entry)) n node sign known c r ⌝ }
 {
     let mut flags = known;
     let end = wide(from[node + 1]);
@@ -165,7 +162,7 @@ pub fn must_pairs(
     known: u64,
 ) -> u64
     requires { ⌜ (Shaped (now from) (now kids) n × (node < n)) × (sign < 2) ⌝ }
-    ensures { λ r. ⌜ ((p : Plan) → Pairing (now (from .entry)) (now (kids .entry)) (now (order .entry)) (now (rows .entry)) n node p → (v : Bool) → sign ≡ signNum v → (f : ℕ) → f < 64 → Says r f (T (bit known f) ⊎ SomePair p node f v (MustPair p node f v))) ⌝ }
+    ensures { λ r. ⌜ MustPairsWord (now (from .entry)) (now (kids .entry)) (now (order .entry)) (now (rows .entry)) n node sign known r ⌝ }
 {
     let mut flags = known;
     let end = wide(from[node + 1]);

@@ -17,7 +17,7 @@ use Rattle.words.specs.Tables.{signNum, code}
 use Rattle.words.specs.Columns.{Column, avoid, may-pre, may-post, requires, asserts, indexOf, Fact, wordAt, Right}
 use Rattle.words.specs.Segments.{Every}
 use Rattle.words.specs.Siblings.{Narrows}
-use Rattle.words.proofs.Segments.{held, every-next, every-none, every-child}
+use Rattle.words.proofs.Segments.{listed, every-next, every-none, every-child}
 use Rattle.words.proofs.Sibling.{cell, narrows-more}
 use Rattle.pairs.specs.declared.Literals.{Literals}
 use Rattle.pairs.specs.Pairs.{Between, Pair, SomePair, Pairing, wordOf, PairWords, Search}
@@ -49,7 +49,7 @@ curried c a d e = (λ h x y. a .0 (h (c .1 (d .1 x, e .1 y))), λ h x. let z = c
 module _ {from kids order rows : List ℕ} {size n : ℕ} {p : Plan} (g : Pairing from kids order rows size n p) where
   -- the child at a position of the segment
   pub kid : (i : ℕ) → getD from n 0 ≤ i → i < getD from (n + 1) 0 → Child p n (getD kids i 0)
-  kid i a b = held (g .group .tree) (g .group .node) i a b
+  kid i a b = listed (g .group .tree) (g .group .node) i a b
 
   module _ {c d : ℕ} (hc : Child p n c) (hd : Child p n d) where
     -- the children so far that stand between d and c can avoid the flag

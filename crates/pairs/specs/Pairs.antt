@@ -9,7 +9,7 @@ use lib.Dec.{T}
 use Rattle.bits.specs.Bits.{bit, Says}
 use Rattle.runs.specs.Plan.{Plan, Child, Before, Unordered}
 use Rattle.runs.specs.Summary.{Must, ExternalPre, ExternalPost, Silent}
-use Rattle.words.specs.Tables.{RepresentsOrder}
+use Rattle.words.specs.Tables.{signNum, RepresentsOrder}
 use Rattle.words.specs.Columns.{avoid, may-pre, may-post, requires, asserts}
 use Rattle.words.specs.Columns.{Fact}
 use Rattle.words.specs.Groups.{Group}
@@ -42,6 +42,24 @@ module _ (p : Plan) (n f : ℕ) where
 pub record Pairing (from kids order rows : List ℕ) (size n : ℕ) (p : Plan) : Type 0 where
   pub group : Group from kids rows size n p
   pub orders : RepresentsOrder order p
+
+-- what holds of every plan that the tables represent
+abbrev pub OfPlans : List ℕ → List ℕ → List ℕ → List ℕ → ℕ → ℕ → (Plan → Type 0) → Type 0
+OfPlans from kids order rows size n Q = (p : Plan) → Pairing from kids order rows size n p → Q p
+
+-- for each flag and the sign of the number s, the word r says A
+abbrev pub SaysOf : ℕ → ℕ → (ℕ → Bool → Type 0) → Type 0
+SaysOf s r A = (v : Bool) → s ≡ signNum v → (f : ℕ) → f < 64 → Says r f (A f v)
+
+-- the flags that the children between d and c can avoid
+abbrev pub BetweenWord : List ℕ → List ℕ → List ℕ → List ℕ → ℕ → ℕ → ℕ → ℕ → ℕ → Type 0
+BetweenWord from kids order rows size n c d r = OfPlans from kids order rows size n
+    (λ p. Child p n c → Child p n d → (f : ℕ) → f < 64 → Says r f (Between p n f c d))
+
+-- the wanted flags of one sign that the pair c, d clobbers
+abbrev pub PairWord : List ℕ → List ℕ → List ℕ → List ℕ → ℕ → ℕ → ℕ → ℕ → ℕ → ℕ → ℕ → Type 0
+PairWord from kids order rows size n s wanted c d r = OfPlans from kids order rows size n
+    (λ p. Child p n c → Child p n d → SaysOf s r (λ f v. T (bit wanted f) × Pair p n f v c d))
 
 -- the word of one sign
 abbrev pub wordOf : Literals → Bool → ℕ

@@ -1,13 +1,11 @@
 // The pairs of children of an all-of group that may clobber, or must clobber, a literal: for all flags at once, from the rows of the children.
 ghost use mathlib.Core.Path.{_≡_};
 ghost use mathlib.Core.Logic.{_↔_};
-ghost use mathlib.Core.Bool.{Bool};
 ghost use Prim.Native.Nat.{ℕ, _+_, _*_, _<_};
 ghost use lib.Dec.{T};
-ghost use Rattle.bits.specs.Bits.{bit, Says};
-ghost use Rattle.runs.specs.Plan.{Plan, Child};
-ghost use Rattle.words.specs.Tables.{signNum, code, Shaped};
-ghost use Rattle.pairs.specs.Pairs.{Pairing, Between, Pair, PairWords, Search, AllPairs};
+ghost use Rattle.bits.specs.Bits.{bit};
+ghost use Rattle.words.specs.Tables.{code, Shaped};
+ghost use Rattle.pairs.specs.Pairs.{BetweenWord, PairWord, PairWords, Search, AllPairs};
 use words::apart;
 use words::narrowed;
 use words::wide;
@@ -55,7 +53,7 @@ fn between(
     d: usize,
 ) -> u64
     requires { ⌜ (Shaped (now from) (now kids) n × (node < n)) × ((c < n) × (d < n)) ⌝ }
-    ensures { λ r. ⌜ ((p : Plan) → Pairing (now (from .entry)) (now (kids .entry)) (now (order .entry)) (now (rows .entry)) n node p → Child p node c → Child p node d → (f : ℕ) → f < 64 → Says r f (Between p node f c d)) ⌝ }
+    ensures { λ r. ⌜ BetweenWord (now (from .entry)) (now (kids .entry)) (now (order .entry)) (now (rows .entry)) n node c d r ⌝ }
 {
     let mut flags = ALL;
     let end = wide(from[node + 1]);
@@ -87,7 +85,7 @@ fn pair_word(
 ) -> u64
     requires { ⌜ ((Shaped (now from) (now kids) n × (node < n)) × (sign < 2)) × ((c < n) × (d < n)) ⌝ }
     ensures among { λ r. ⌜ ((f : ℕ) → f < 64 → T (bit r f) → T (bit wanted f)) ⌝ }
-    ensures says { λ r. ⌜ ((p : Plan) → Pairing (now (from .entry)) (now (kids .entry)) (now (order .entry)) (now (rows .entry)) n node p → Child p node c → Child p node d → (v : Bool) → sign ≡ signNum v → (f : ℕ) → f < 64 → Says r f (T (bit wanted f) × Pair p node f v c d)) ⌝ }
+    ensures says { λ r. ⌜ PairWord (now (from .entry)) (now (kids .entry)) (now (order .entry)) (now (rows .entry)) n node sign wanted c d r ⌝ }
 {
     if order[d * 128 + c] == 1 {
         let passed = word_at(rows, d, MAY_POST + (1 - sign)) & word_at(rows, c, MAY_PRE + sign);

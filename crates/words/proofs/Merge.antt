@@ -15,7 +15,7 @@ use Rattle.words.specs.Groups.{Group, Others, WithinRow, Merged, Unmerge
 use Rattle.words.proofs.Any.{some-branch, every-branch}
 use Rattle.words.proofs.All.{every-part, some-part}
 use Rattle.words.proofs.Rows.{index-small}
-use Rattle.words.proofs.Segments.{held, every-more, some-more, every-none, some-none, every-child, some-child}
+use Rattle.words.proofs.Segments.{listed, every-more, some-more, every-none, some-none, every-child, some-child}
 
 -- an array filled from the front: what holds of each word written holds of one more
 pub filled : (P : ℕ → ℕ → Type 0) (out : List ℕ) (k x : ℕ) → k < length out → P k x → ((j : ℕ) → j < k → P j (getD out j 0))
@@ -84,7 +84,7 @@ unmasked u k f l = says-all l (u .every (indexOf k) (index-small k) (omega arith
 module _ {from kids rows : List ℕ} {size n : ℕ} {p : Plan} (g : Group from kids rows size n p) where
   -- the row of a child at a position of the segment
   pub child-row : (i : ℕ) → getD from n 0 ≤ i → i < getD from (n + 1) 0 → Right p rows (getD kids i 0)
-  child-row i a b = g .children (getD kids i 0) (held (g .tree) (g .node) i a b)
+  child-row i a b = g .children (getD kids i 0) (listed (g .tree) (g .node) i a b)
 
   -- the words of an any-of group, over all its children
   abbrev pub AnyWords : ℕ → List ℕ → Type 0

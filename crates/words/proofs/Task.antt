@@ -31,7 +31,7 @@ a-sign (some false) = (λ x q. clash cc, λ k. inl refl)
 a-sign (some true) = (λ x q. clash cc, λ k. inr refl)
 
 module _ (p : Plan) (w : WellFormed p) {n : ℕ} (k : p .tree .kind n ≡ task) (f : ℕ) where
-  -- a task that leaves the flag alone has no incondition on it
+  -- a task with no postcondition on the flag has no incondition on it
   no-inc : p .cond .sign post n f ≡ none → p .cond .sign inc n f ≡ none
   no-inc q = at (p .cond .sign inc n f) refl
     where

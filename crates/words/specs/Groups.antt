@@ -6,11 +6,11 @@ use Prim.Native.Nat.{ℕ, _≤_, _<_}
 use lib.Bits.{bitAnd, bitOr}
 use lib.ListN.{getD}
 use Rattle.bits.specs.Bits.{ones, Says}
-use Rattle.runs.specs.Plan.{Plan, Node, Child, Before, Unordered, WellFormed}
+use Rattle.runs.specs.Plan.{all-of, any-of, Plan, Node, Child, Before, Unordered, WellFormed}
 use Rattle.runs.specs.Summary.{MayClobber, Silent, MustClobber}
-use Rattle.words.specs.Tables.{RepresentsTree}
+use Rattle.words.specs.Tables.{RepresentsTree, RepresentsOrder}
 use Rattle.words.specs.Columns.{Column, avoid, quiet, covered, may-pre, may-post, may-inc, requires, asserts, may-clobber, must-inc, must-clobber}
-use Rattle.words.specs.Columns.{indexOf, Fact, wordAt, Right}
+use Rattle.words.specs.Columns.{indexOf, Fact, wordAt, Right, Row}
 use Rattle.words.specs.Segments.{Every, Some}
 
 module _ (p : Plan) (n c f : ℕ) where
@@ -56,6 +56,13 @@ pub record Group (from kids rows : List ℕ) (size n : ℕ) (p : Plan) : Type 0 
 -- 21 words say what the all-of group n shows by its children one by one
 pub record WithinRow (p : Plan) (n : ℕ) (w : List ℕ) : Type 0 where
   pub says : (k : Column) (f : ℕ) → f < 64 → Says (getD w (indexOf k) 0) f (Within p n f k)
+
+-- for every plan that the tables represent: the words of the any-of group n; of the all-of group n, by its children one by one
+abbrev pub AnyRow : List ℕ → List ℕ → List ℕ → ℕ → ℕ → List ℕ → Type 0
+AnyRow from kids rows size n r = (p : Plan) → Group from kids rows size n p → p .tree .kind n ≡ any-of → Row p n r
+
+abbrev pub AllRow : List ℕ → List ℕ → List ℕ → List ℕ → ℕ → ℕ → List ℕ → Type 0
+AllRow from kids order rows size n r = (p : Plan) → Group from kids rows size n p → RepresentsOrder order p → p .tree .kind n ≡ all-of → WithinRow p n r
 
 -- r is the word x and that of a child, y, in column k: from first to last both, in the others one or, under the mask, the other
 pub record JoinedWord (first last k x y mask r : ℕ) : Type 0 where

@@ -7,12 +7,13 @@ use Prim.Native.Nat.{ℕ, _<_}
 use lib.Dec.{T}
 use lib.ListN.{getD}
 use Rattle.bits.specs.Bits.{bit, ones, Says}
-use Rattle.runs.specs.Plan.{Plan, Before, Unordered}
+use Rattle.runs.specs.Plan.{Plan, Child, Before, Unordered}
 use Rattle.runs.specs.Summary.{Silent}
 use Rattle.words.specs.declared.Siblings.{Siblings}
-use Rattle.words.specs.Tables.{code}
+use Rattle.words.specs.Tables.{code, RepresentsOrder}
 use Rattle.words.specs.Columns.{Column, avoid, quiet, covered, may-pre, may-post, may-inc, requires, asserts, may-clobber, must-inc, must-clobber}
 use Rattle.words.specs.Columns.{indexOf, Fact, wordAt}
+use Rattle.words.specs.Groups.{Group}
 
 -- by the table, a and b are unordered
 pub record Apart (order : List ℕ) (a b : ℕ) : Type 0 where
@@ -41,6 +42,11 @@ pub record SiblingWords (p : Plan) (c : ℕ) (E : (ℕ → Type 0) → Type 0) (
   pub set-before : (f : ℕ) → f < 64 → Says (s .«set_before») f (E (λ b. Before p b c → Fact p b f (quiet true)))
   pub avoid-after : (f : ℕ) → f < 64 → Says (s .«avoid_after») f (E (λ b. Before p c b → Fact p b f avoid))
   pub silent-apart : (f : ℕ) → f < 64 → Says (s .«silent_apart») f (E (λ b. Unordered p b c → Silent p f b))
+
+-- for every plan that the tables represent: what the words say of all siblings of the child c of n
+abbrev pub SiblingsOf : List ℕ → List ℕ → List ℕ → List ℕ → ℕ → ℕ → ℕ → Siblings → Type 0
+SiblingsOf from kids order rows size n c s = (p : Plan) → Group from kids rows size n p → RepresentsOrder order p → Child p n c
+    → SiblingWords p c (λ Q. (b : ℕ) → Child p n b → Q b) s
 
 -- the word that a child's word of a column is masked by
 abbrev pub maskOf : Siblings → Column → ℕ

@@ -29,8 +29,8 @@ pub record Position (from : List ℕ) (g i : ℕ) : Type 0 where
   pub low : getD from g 0 ≤ i
   pub high : i < getD from (g + 1) 0
 
--- the positions of the segment of g hold the children of g
-pub record Holds (from kids : List ℕ) (g c : ℕ) : Type 0 where
+-- c is listed in the segment of g
+pub record Listed (from kids : List ℕ) (g c : ℕ) : Type 0 where
   pub at : ℕ
   pub position : Position from g at
   pub is : getD kids at 0 ≡ c
@@ -55,7 +55,7 @@ pub record RepresentsKinds (kind : List ℕ) (p : Plan) : Type 0 where
 
 pub record RepresentsTree (from kids : List ℕ) (n : ℕ) (p : Plan) : Type 0 where
   pub size : p .tree .size ≡ n
-  pub children : (g c : ℕ) → Node p g → Child p g c ↔ Holds from kids g c
+  pub children : (g c : ℕ) → Node p g → Child p g c ↔ Listed from kids g c
 
 pub record RepresentsOrder (order : List ℕ) (p : Plan) : Type 0 where
   pub before : (a b : ℕ) → Node p a → Node p b → (code order a b ≡ 1) ↔ Before p a b

@@ -2,16 +2,16 @@
 ghost use mathlib.Core.Path.{_≡_};
 ghost use mathlib.Core.Logic.{_↔_};
 ghost use mathlib.Core.Bool.{Bool};
-ghost use Prim.Native.Nat.{ℕ, _+_, _*_, _≤_, _<_};
+ghost use Prim.Native.Nat.{_+_, _*_, _≤_, _<_};
 ghost use lib.Dec.{T};
 ghost use lib.ListN.{length, getD};
 ghost use Rattle.bits.specs.Bits.{bit};
-ghost use Rattle.runs.specs.Plan.{all-of, any-of, Plan, Child};
-ghost use Rattle.words.specs.Tables.{signNum, Shaped, RepresentsOrder};
+ghost use Rattle.runs.specs.Plan.{Plan};
+ghost use Rattle.words.specs.Tables.{signNum, Shaped};
 ghost use Rattle.words.specs.Columns.{wordAt, Row, Written};
 ghost use Rattle.words.specs.Tasks.{Task, LiteralSays};
-ghost use Rattle.words.specs.Groups.{Group, WithinRow, JoinedWord, Merged, Unmerged};
-ghost use Rattle.words.specs.Siblings.{Apart, Narrows, Limits, SiblingWords, Masks};
+ghost use Rattle.words.specs.Groups.{AnyRow, AllRow, JoinedWord, Merged, Unmerged};
+ghost use Rattle.words.specs.Siblings.{Apart, Narrows, Limits, SiblingsOf, Masks};
 
 const ALL: u64 = 18446744073709551615;
 
@@ -193,7 +193,7 @@ fn all_siblings(
     child: usize,
 ) -> Siblings
     requires { ⌜ (Shaped (now from) (now kids) n × (node < n)) × (child < n) ⌝ }
-    ensures { λ r. ⌜ ((p : Plan) → Group (now (from .entry)) (now (kids .entry)) (now (rows .entry)) n node p → RepresentsOrder (now (order .entry)) p → Child p node child → SiblingWords p child (λ Q. (b : ℕ) → Child p node b → Q b) r) ⌝ }
+    ensures { λ r. ⌜ SiblingsOf (now (from .entry)) (now (kids .entry)) (now (order .entry)) (now (rows .entry)) n node child r ⌝ }
 {
     let mut s = Siblings {
         avoid_before: ALL,
@@ -297,7 +297,7 @@ pub fn any_words(
     node: usize,
 ) -> [u64; 21]
     requires { ⌜ Shaped (now from) (now kids) n × (node < n) ⌝ }
-    ensures { λ r. ⌜ ((p : Plan) → Group (now (from .entry)) (now (kids .entry)) (now (rows .entry)) n node p → p .tree .kind node ≡ any-of → Row p node r) ⌝ }
+    ensures { λ r. ⌜ AnyRow (now (from .entry)) (now (kids .entry)) (now (rows .entry)) n node r ⌝ }
 {
     let mask = start_words(0, 21);
     let mut words = start_words(17, 21);
@@ -321,7 +321,7 @@ pub fn all_words(
     node: usize,
 ) -> [u64; 21]
     requires { ⌜ Shaped (now from) (now kids) n × (node < n) ⌝ }
-    ensures { λ r. ⌜ ((p : Plan) → Group (now (from .entry)) (now (kids .entry)) (now (rows .entry)) n node p → RepresentsOrder (now (order .entry)) p → p .tree .kind node ≡ all-of → WithinRow p node r) ⌝ }
+    ensures { λ r. ⌜ AllRow (now (from .entry)) (now (kids .entry)) (now (order .entry)) (now (rows .entry)) n node r ⌝ }
 {
     let mut words = start_words(0, 3);
     let end = wide(from[node + 1]);

@@ -7,7 +7,7 @@ use Rattle.words.specs.Tables.{RepresentsOrder}
 use Rattle.words.specs.Segments.{Every}
 use Rattle.words.specs.Groups.{Group}
 use Rattle.words.specs.Siblings.{SiblingWords}
-use Rattle.words.proofs.Segments.{held}
+use Rattle.words.proofs.Segments.{listed}
 use Rattle.words.proofs.Sibling.{with-sibling, no-siblings, all-siblings}
 use native.Mathlib.Omega.{arith}
 use Rattle.words.proofs.all_siblings.Statement.{statement}
@@ -51,7 +51,7 @@ loop-again c =
       omega arith,
       (
         l .loop .inv .1 .0,
-        λ p g o hc. with-sibling g o hc low (held (g .tree) (g .node) (l .loop .i) low high) (rw (c .before .wide3 .ensures) at (c .with-sibling .ensures))
+        λ p g o hc. with-sibling g o hc low (listed (g .tree) (g .node) (l .loop .i) low high) (rw (c .before .wide3 .ensures) at (c .with-sibling .ensures))
             (l .loop .inv .1 .1 p g o hc),
       ),
     )

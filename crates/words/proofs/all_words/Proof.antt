@@ -7,7 +7,7 @@ use Rattle.words.specs.Tables.{RepresentsOrder}
 use Rattle.words.specs.Groups.{Group}
 use Rattle.bits.proofs.Says.{says-eq}
 use Rattle.words.proofs.Sibling.{masked}
-use Rattle.words.proofs.Segments.{held}
+use Rattle.words.proofs.Segments.{listed}
 use Rattle.words.proofs.Merge.{AllWords, joined-none, joined-more, child-row, all-row}
 use native.Mathlib.Omega.{arith}
 use Rattle.words.proofs.all_words.Statement.{statement}
@@ -61,7 +61,7 @@ loop-again c =
         l .loop .inv .1 .0,
         λ p g o. joined-more low (rw e at (c .merged .ensures)) (child-row g (l .loop .i) low high .says)
             (λ k f m. says-eq (c .before .mask-words .ensures .is k)
-            (masked (rw e at (c .before .before .all-siblings .ensures p g o (rw e (held (g .tree) (g .node) (l .loop .i) low high)))) k f m))
+            (masked (rw e at (c .before .before .all-siblings .ensures p g o (rw e (listed (g .tree) (g .node) (l .loop .i) low high)))) k f m))
             (l .loop .inv .1 .1 p g o),
       ),
     )

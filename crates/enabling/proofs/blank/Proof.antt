@@ -1,0 +1,11 @@
+-- `enabling::blank` meets its contract. Assumes nothing.
+use Rattle.plan.proofs.Table.{blank}
+use mathlib.Core.Path.{refl}
+use Rattle.enabling.proofs.blank.Statement.{statement}
+use Rattle.enabling.proofs.blank.Tie as tie
+
+returns : tie.Need-returns
+returns c = (refl, blank 128)
+
+pub blank-spec : {M : Type 1} → statement M
+blank-spec = tie.close (tie.spec returns)

@@ -1,0 +1,4 @@
+pub mod Count
+pub mod Sound
+pub mod Progress
+pub mod Pass

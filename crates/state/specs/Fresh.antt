@@ -1,0 +1,20 @@
+-- The state that `fresh` writes: the start flags of the plan and a 0 for each node; later bytes are kept.
+use Prim.Native.Nat.{ℕ, zero, suc, _+_}
+use mathlib.Core.Bool.{cond}
+use mathlib.Core.List.{List}
+use lib.ListN.{getD, set}
+use lib.Dec.{eqb, ltb}
+use Rattle.format.specs.Format.{nodeCount}
+use Rattle.state.specs.State.{roomRefusal}
+
+-- xs with f i in the place of each element i below n
+unfoldable pub overlay : (ℕ → ℕ) → ℕ → List ℕ → List ℕ
+overlay f zero xs = xs
+overlay f (suc n) xs = set (overlay f n xs) n (f n)
+
+unfoldable pub freshByte : List ℕ → ℕ → ℕ
+freshByte b i = cond (ltb i 8) (getD b (8 + i) 0) 0
+
+-- the bytes after the call: as they were, if it is refused
+unfoldable pub freshState : List ℕ → List ℕ → List ℕ
+freshState b s = cond (eqb (roomRefusal b s) 0) (overlay (freshByte b) (8 + nodeCount b) s) s
