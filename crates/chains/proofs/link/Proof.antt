@@ -1,0 +1,20 @@
+-- `link` meets its contract. Assumes nothing.
+use Rattle.chains.proofs.Links.{linked}
+use borrow.Author.Needs.{needs}
+use Rattle.chains.proofs.link.Statement.{statement}
+use Rattle.chains.proofs.link.Tie as tie
+
+returns : tie.Need-returns
+returns c = linked _ _ _ (c .pre .0) (c .pre .1) (c .pre .2)
+
+pub link-spec : {M : Type 1} → statement M
+link-spec =
+    tie.close
+    (tie.spec
+    (λ c. search needs)
+    (λ c. search needs)
+    (λ c. search needs)
+    (λ c. search needs)
+    (λ c. search needs)
+    (λ c. search needs)
+    returns)

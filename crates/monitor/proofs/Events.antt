@@ -1,0 +1,161 @@
+-- What an event's bytes show: the states that 01 works out. Assumes nothing.
+use mathlib.Core.Path.{_≡_, refl, sym, ap, _∙_, fun-ext}
+use mathlib.Core.Logic.{by-cases}
+use mathlib.Core.Bool.{Bool, true, false, cond, _&&_, true≢false}
+use mathlib.Core.List.{List, _++_}
+use mathlib.Core.Option.{Option, some, none, Option·getD}
+use Prim.Native.Nat.{ℕ, _+_, _/_, _<_, _≤_}
+use native.Mathlib.Decide.{ℕ-discrete, decLt}
+use native.Mathlib.Omega.{arith}
+use lib.ListN.{length, getD, set, take, drop, length-set, length-append, length-drop, List·getD-append}
+use lib.Seq.{getD-set-same, getD-set-other, getD-append-add, getD-drop, length-take-le}
+use lib.Dec.{eqb, ltb, leb}
+use borrow.Author.Tests.{eq-eqb, ne-eqb, lt-ltb, le-ltb, leb-true}
+use Rattle.flags.specs.Flags.{flagIn}
+use Rattle.flags.proofs.Laws.{same-byte, in-first}
+use Rattle.format.specs.Format.{nodeCount, flagCount, isKind}
+use Rattle.rules.specs.Search.{someBelow}
+use Rattle.rules.proofs.Laws.{and-both, and-of, not-passed, found-at, none-at, or-none}
+use Rattle.plan.specs.Meaning.{planOf, placeNumber, signIn}
+use Rattle.plan.proofs.Meaning.{kind-is, means}
+use Rattle.runs.specs.Plan.{Place, inc}
+use Rattle.runs.specs.Execution.{start, moved}
+use Rattle.runs.specs.Calls.{one, no-task, wrong-status, branch-begun, order-open, pre-unmet, inc-broken, Refusal, World}
+use Rattle.runs.specs.Model.Monitor.{returned, refusalOf, step, code, settle}
+use Rattle.state.specs.State.{byteOf, badFlag, badByte, malformed, stateRefusal, statusAt, statusIn, flagShown, worldOf}
+use Rattle.state.proofs.Refused.{room-long, state-good, state-well}
+use Rattle.progress.proofs.Sound.{has-room}
+use Rattle.conditions.specs.Conditions.{made}
+use Rattle.conditions.proofs.Laws.{length-literals, made-flag}
+use Rattle.monitor.specs.Start.{eventState, startState}
+use Rattle.monitor.proofs.Chain.{start-task, refused-22, accepted}
+
+module _ (b s : List ℕ) (ok : stateRefusal b s ≡ 0) (k : Place) (t x : ℕ) (task : isKind b t 0 ≡ true) where
+  abbrev flags : List ℕ
+  flags = made b (placeNumber k) t (take 8 s)
+
+  eight : length (take 8 s) ≡ 8
+  eight = length-take-le 8 s (omega (arith, has-room b s ok .room))
+
+  flags-eight : length flags ≡ 8
+  unfolding made
+  flags-eight = length-literals b (placeNumber k) t (take 8 s) _ ∙ eight
+
+  abbrev next : List ℕ
+  next = eventState b (placeNumber k) t x s
+
+  joined-length : length (flags ++ drop 8 s) ≡ length s
+  joined-length = simp (length-append, length-drop) (omega (arith, flags-eight, has-room b s ok .room))
+
+  pub next-length : length next ≡ length s
+  unfolding eventState
+  next-length = length-set (flags ++ drop 8 s) (8 + t) x ∙ joined-length
+
+  byte-own : byteOf next t ≡ x
+  unfolding eventState byteOf
+  byte-own = getD-set-same (flags ++ drop 8 s) (8 + t) x 0 (omega (arith, joined-length, has-room b s ok .room, kind-is b t 0 task .0))
+
+  byte-other : (n : ℕ) → (n ≡ t → ⊥) → byteOf next n ≡ byteOf s n
+  unfolding eventState byteOf
+  byte-other n h =
+      getD-set-other (flags ++ drop 8 s) (8 + t) (8 + n) x 0 (λ e. h (omega arith))
+      ∙ ap (λ (m : ℕ). getD (flags ++ drop 8 s) (m + n) 0) (sym flags-eight)
+      ∙ getD-append-add flags (drop 8 s) n 0
+      ∙ getD-drop 8 s n 0
+
+  flag-next : (f : ℕ) → f < 64 → flagIn next f ≡ Option·getD (signIn b k t f) (flagIn s f)
+  unfolding eventState
+  flag-next f l =
+      same-byte (set (flags ++ drop 8 s) (8 + t) x) flags f
+      (getD-set-other (flags ++ drop 8 s) (8 + t) (f / 8) x 0 (λ e. omega arith) ∙ List·getD-append flags (drop 8 s) 0 (f / 8) (omega (arith, flags-eight)))
+      ∙ made-flag b (has-room b s ok .accepted) k t (take 8 s) (omega (arith, eight)) f
+      ∙ ap (λ (v : Bool). Option·getD (signIn b k t f) v) (in-first s f l)
+
+  no-sign : (f : ℕ) → flagCount b ≤ f → signIn b k t f ≡ none
+  unfolding planOf
+  no-sign f l = at (signIn b k t f) refl
+    where
+      at : (o : Option Bool) → signIn b k t f ≡ o → o ≡ none
+      at none e = refl
+      at (some v) e = absurd (omega (arith, means b (has-room b s ok .accepted) .accepted .on-task k t f v e .2))
+
+  pub status-next : (n : ℕ) → statusIn b next n ≡ cond (eqb n t) (statusAt x) (statusIn b s n)
+  unfolding statusIn
+  status-next n =
+      by-cases (ℕ-discrete n t)
+      (λ (e : n ≡ t). rw (eq-eqb n t e, e, task, byte-own))
+      (λ e. rw (ne-eqb n t e, byte-other n e))
+
+  pub shown-next : (f : ℕ) → flagShown next f ≡ Option·getD (signIn b k t f) (flagShown s f)
+  unfolding flagShown
+  shown-next f =
+      by-cases (decLt f 64)
+      (λ (l : f < 64). rw (lt-ltb f 64 l) (flag-next f l))
+      (λ l. rw (le-ltb f 64 (omega arith), no-sign f (omega (arith, has-room b s ok .plan .fits .limits .flags))))
+
+  -- the state stays well formed
+  pub still-well : x ≤ 2 → stateRefusal b next ≡ 0
+  unfolding malformed badFlag badByte
+  still-well small =
+      let r = has-room b s ok in
+      let m = or-none (someBelow 64 (badFlag b s)) (someBelow (nodeCount b) (badByte b s)) (state-well b s ok .1) in
+      sym
+      (state-good b next (sym (room-long b next (r .accepted) (omega (arith, next-length, r .room))))
+      (rw (
+        none-found 64 (λ f. leb (flagCount b) f && flagIn next f) (λ y. let w = found-at 64 (λ f. leb (flagCount b) f && flagIn next f) y in
+            let f = w .0 in
+            let a = and-both (leb (flagCount b) f) (flagIn next f) (w .2) in
+            let z : flagIn next f ≡ flagIn s f = flag-next f (w .1) ∙ ap (λ (o : Option Bool). Option·getD o (flagIn s f)) (no-sign f (leb-true (flagCount b) f (a .0))) in
+            true≢false (sym (and-of (leb (flagCount b) f) (flagIn s f) (a .0) (sym z ∙ a .1)) ∙ none-at 64 (badFlag b s) (m .0) f (w .1))),
+        none-found (nodeCount b) (badByte b next) (λ y. let w = found-at (nodeCount b) (badByte b next) y in
+            let n = w .0 in
+            by-cases (ℕ-discrete n t)
+            (λ (e : n ≡ t). true≢false (sym (w .2) ∙ rw (e, task, byte-own) (le-ltb 2 x small)))
+            (λ e. true≢false (sym (w .2) ∙ rw (byte-other n e) (none-at (nodeCount b) (badByte b s) (m .1) n (w .1))))),
+      )))
+    where
+      none-found : (n : ℕ) (p : ℕ → Bool) → (someBelow n p ≡ true → ⊥) → someBelow n p ≡ false
+      none-found n p h = not-passed (someBelow n p) h
+
+-- ---- the step of a start
+code-none : (o : Option Refusal) → code o ≡ 0 → o ≡ none
+code-none none e = refl
+code-none (some no-task) e = absurd (omega arith)
+code-none (some wrong-status) e = absurd (omega arith)
+code-none (some branch-begun) e = absurd (omega arith)
+code-none (some order-open) e = absurd (omega arith)
+code-none (some pre-unmet) e = absurd (omega arith)
+code-none (some inc-broken) e = absurd (omega arith)
+
+settled : (o : Option Refusal) (old new : World) → (code o ≡ 0 → ⊥) → settle o old new ≡ old
+settled none old new h = absurd (h refl)
+settled (some r) old new h = refl
+
+-- after a start, accepted or refused with 17 to 22, the state passes all checks and shows the states that 01 works out
+pub record Stepped (b s : List ℕ) (t : ℕ) : Type 0 where
+  pub well-formed : stateRefusal b (startState b s t) ≡ 0
+  pub shows : worldOf b (startState b s t) ≡ step (planOf b) (worldOf b s) (one (start t))
+
+module _ (b s : List ℕ) (ok : stateRefusal b s ≡ 0) (t : ℕ) where
+  same : returned (planOf b) (worldOf b s) (one (start t)) ≡ 0 → isKind b t 0 ≡ true → worldOf b (eventState b 1 t 1 s) ≡ step (planOf b) (worldOf b s) (one (start t))
+  unfolding returned step worldOf planOf statusAt
+  same e y =
+      let fs : statusIn b (eventState b 1 t 1 s) ≡ moved (statusIn b s) (start t) = fun-ext (status-next b s ok inc t 1 y) in
+      let ff : flagShown (eventState b 1 t 1 s) ≡ (λ f. Option·getD (signIn b inc t f) (flagShown s f)) = fun-ext (shown-next b s ok inc t 1 y) in
+      let n : refusalOf (planOf b) (worldOf b s) (one (start t)) ≡ none = code-none (refusalOf (planOf b) (worldOf b s) (one (start t))) e in
+      rw n (cc (fs, ff))
+
+  started : returned (planOf b) (worldOf b s) (one (start t)) ≡ 0 → Stepped b s t
+  started e =
+      let y = start-task b s ok t e in
+      let q = sym (accepted b s t ok e .1) in
+      record { well-formed = ap (stateRefusal b) q ∙ still-well b s ok inc t 1 y (omega arith); shows = ap (worldOf b) q ∙ same e y }
+
+  refused : (returned (planOf b) (worldOf b s) (one (start t)) ≡ 0 → ⊥) → Stepped b s t
+  unfolding step returned
+  refused n =
+      let e = refused-22 b s t ok n .1 in
+      record { well-formed = ap (stateRefusal b) (sym e) ∙ ok; shows = ap (worldOf b) (sym e) ∙ sym (settled (refusalOf (planOf b) (worldOf b s) (one (start t))) (worldOf b s) _ n) }
+
+  pub start-steps : Stepped b s t
+  start-steps = by-cases (ℕ-discrete (returned (planOf b) (worldOf b s) (one (start t))) 0) (λ e. started e) (λ n. refused n)

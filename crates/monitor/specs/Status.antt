@@ -1,0 +1,30 @@
+-- The answer of `status`: a refusal up to 16, or a word for the root.
+use Prim.Native.Nat.{ℕ, zero, suc}
+use mathlib.Core.Logic.{_⊎_, inl, inr}
+use mathlib.Core.Bool.{Bool, true, false}
+use mathlib.Core.List.{List}
+use Rattle.plan.specs.Meaning.{planOf}
+use Rattle.runs.specs.Model.Monitor.{completeB}
+use Rattle.state.specs.State.{stateRefusal, statusIn}
+use Rattle.monitor.specs.declared.Progress.{Progress}
+use Rattle.monitor.specs.declared.Progress.the-variants.{Refused, Complete, Unfinished}
+
+pub data Word : Type 0 where
+  COMPLETE UNFINISHED : Word
+
+-- 01's number or word for each case
+abbrev pub said : Progress → ℕ ⊎ Word
+said (Refused n) = inl n
+said Complete = inr COMPLETE
+said Unfinished = inr UNFINISHED
+
+abbrev pub wordFor : Bool → Word
+wordFor true = COMPLETE
+wordFor false = UNFINISHED
+
+abbrev pub refusedOr : ℕ → Word → ℕ ⊎ Word
+refusedOr zero w = inr w
+refusedOr (suc n) w = inl (suc n)
+
+unfoldable pub statusAnswer : List ℕ → List ℕ → ℕ ⊎ Word
+statusAnswer b s = refusedOr (stateRefusal b s) (wordFor (completeB (planOf b) (statusIn b s) 0))
