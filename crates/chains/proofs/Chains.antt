@@ -52,7 +52,7 @@ chain-none b (one o) = omega (arith, o .low, o .below)
 chain-none b (more o q) = omega (arith, o .low, o .below)
 
 module _ (b : List ℕ) (i : ℕ) where
-  pub order-weaken : {x y : ℕ} → OrderFrom b (i + 1) x y → OrderFrom b i x y
+  order-weaken : {x y : ℕ} → OrderFrom b (i + 1) x y → OrderFrom b i x y
   order-weaken o = record { at = o .at; low = omega (arith, o .low); below = o .below; earlier = o .earlier; later = o .later }
 
   pub chain-weaken : {x y : ℕ} → ChainFrom b (i + 1) x y → ChainFrom b i x y
@@ -60,19 +60,15 @@ module _ (b : List ℕ) (i : ℕ) where
   chain-weaken (more o q) = more (order-weaken o) (chain-weaken q)
 
   module _ (s : Sorted b) where
-    pub order-rises : {x y : ℕ} → OrderFrom b i x y → x < y
+    order-rises : {x y : ℕ} → OrderFrom b i x y → x < y
     order-rises o = omega (arith, s .lower (o .at) (o .below), o .earlier, o .later)
 
     pub chain-rises : {x y : ℕ} → ChainFrom b i x y → x < y
     chain-rises (one o) = order-rises o
     chain-rises (more o q) = omega (arith, order-rises o, chain-rises q)
 
-    pub order-low : {x y : ℕ} → OrderFrom b i x y → earlierOf b i ≤ x
+    order-low : {x y : ℕ} → OrderFrom b i x y → earlierOf b i ≤ x
     order-low o = omega (arith, s .rises i (o .at) (o .low) (o .below), o .earlier)
-
-    pub chain-low : {x y : ℕ} → ChainFrom b i x y → earlierOf b i ≤ x
-    chain-low (one o) = order-low o
-    chain-low (more o q) = order-low o
 
     -- an order is the i-th, or one after it
     order-split : {x y : ℕ} → OrderFrom b i x y → OrderFrom b (i + 1) x y ⊎ ((x ≡ earlierOf b i) × (y ≡ laterOf b i))
