@@ -1,11 +1,11 @@
 -- Meet Q H: some execution comes to an event in H with only Q before it. Its rules by children.
-use Rattle.runs.proofs.Base.{_≡_, ap, _∙_, _⊎_, inl, inr, _↔_, [], _∷_, _++_, append-nil, ℕ, arith}
-use Rattle.runs.specs.Plan.{task, all-of, any-of, Plan, Child, Under, Before, direct, chain, WellFormed}
-use Rattle.runs.specs.Execution.{Event, start, finish, History, nodeOf, statusAfter, Complete, Begun, Execution}
-use Rattle.runs.proofs.Plan.{child-under, Branch, one-branch, before-child, before-rank, decBefore}
-use Rattle.runs.proofs.Execution.{All, all-nil, all-cons, all-append, branch-of, part, part-nil, part-in, part-out, part-execution}
-use Rattle.runs.proofs.Execution.{part-complete, execution-tail, execution-last, part-all, pick-join, any-split, extend, Staged}
-use Rattle.runs.proofs.Execution.{before-complete, part-begun, TaskExecution, begun, ended, task-execution, task-begun, task-ended, picks-any}
+use Rattle.runs.proofs.Base.{_≡_, _∙_, _⊎_, inl, inr, _↔_, [], _∷_, _++_, append-nil, ℕ, arith}
+use Rattle.runs.specs.Plan.{task, all-of, any-of, Plan, Child, Before, direct, chain, WellFormed}
+use Rattle.runs.specs.Execution.{Event, start, finish, History, nodeOf, statusAfter, Execution}
+use Rattle.runs.proofs.Plan.{child-under, Branch, before-rank, decBefore}
+use Rattle.runs.proofs.Execution.{completed-before, All, all-nil, all-cons, all-append, branch-of, part, part-nil, part-in, part-execution}
+use Rattle.runs.proofs.Execution.{execution-last, part-all, pick-join, any-split, extend, Staged, TaskExecution, begun, ended, task-execution}
+use Rattle.runs.proofs.Execution.{task-begun, task-ended, picks-any}
 use Rattle.runs.proofs.Summary.Quiet.{MayQuiet, quiet-stage}
 
 module _ (p : Plan) (Q H : Event → Type 0) where
@@ -60,31 +60,15 @@ module _ (p : Plan) (w : WellFormed p) (Q H : Event → Type 0) where
       hit = m .hit;
       quiet = part-all p w (b .via) (m .quiet);
     },
-    λ a q. quiet-before a q,
+    λ a q. record {
+      history = part p w a (m .before);
+      completed = completed-before p w (m .event) (m .before) (b .child) (m .execution) (b .beneath) q;
+      quiet = part-all p w a (m .quiet);
+    },
   )
     where
       b : Branch p n (nodeOf (m .event))
       b = branch-of p w (statusAfter (m .before)) k (execution-last p w (m .execution))
-
-      took : Begun p (statusAfter (m .event ∷ m .before)) (b .via)
-      took = part-begun p w (m .event ∷ m .before) (child-under p (b .child)) (m .execution) (part-in p w (b .via) (m .event) (m .before) (b .beneath))
-
-      quiet-before : (a : ℕ) → Before p a (b .via) → MayQuiet p Q a
-      quiet-before a q =
-          let ha : Child p n a = before-child p w (b .child) q in
-          let ne : ¬ Under p a (nodeOf (m .event)) = λ u. irrefl q (one-branch p w ha (b .child) u (b .beneath)) in
-          let d : Complete p (statusAfter (m .event ∷ m .before)) a = before-complete p w (m .execution) (b .child) q took in
-          record {
-            history = part p w a (m .before);
-            quiet = part-all p w a (m .quiet);
-            completed = record {
-              execution = part-execution p w (child-under p ha) (execution-tail p w (m .execution));
-              complete = rw (part-out p w a (m .event) (m .before) ne) at ((part-complete p w a (m .event ∷ m .before)) .0 d);
-            };
-          }
-        where
-          irrefl : {x y : ℕ} → Before p x y → x ≡ y → ⊥
-          irrefl {x} {y} q′ e = omega (arith, before-rank p w q′, ap (w .rank) e)
 
   meet-all-from : {n : ℕ} → p .tree .kind n ≡ all-of → MeetAll n → MayMeet p Q H n
   meet-all-from {n} k (c, hc, m, before) = build (quiet-stage p w Q k (λ a. Before p a c) (λ a. decBefore p w a c) (λ a b ha hb q o. chain o q)
