@@ -13,10 +13,9 @@ use Rattle.rules.proofs.Laws.{not-passed}
 use Rattle.plan.specs.Meaning.{planOf}
 use Rattle.plan.proofs.Accepted.{clean}
 use Rattle.plan.proofs.Causes.{parent-group}
-use Rattle.plan.proofs.Meaning.{means}
+use Rattle.plan.proofs.Meaning.{means-well-formed}
 use Rattle.runs.specs.Plan.{itself, below, Under, WellFormed}
 use Rattle.runs.specs.Model.Trees.{underB}
-use Rattle.runs.proofs.Plan.Accepted.{accepted-well-formed}
 use Rattle.runs.proofs.Plan.Reflect.{r-under}
 use Rattle.runs.proofs.Plan.Trees.{under-le, under-trans}
 use Rattle.progress.specs.Count.{num}
@@ -69,7 +68,7 @@ module _ (b : List ℕ) (t : ℕ) where
 
   pub last-mark : refusal b ≡ 0 → (m : List ℕ) → Marked b t 0 m → (a : ℕ) → a < 128 → getD m a 0 ≡ num (underB (planOf b) a t)
   last-mark acc m h a q =
-      let w : WellFormed (planOf b) = accepted-well-formed (planOf b) (means b acc .accepted) in
+      let w : WellFormed (planOf b) = means-well-formed b acc in
       ⊎-elim
       (λ x. x .0 ∙ ap num (sym (T-true (underB (planOf b) a t) (r-under (planOf b) w a t .from (x .1)))))
       (λ x. x .0 ∙ ap num (sym (not-passed (underB (planOf b) a t) (λ y. let u = x .1 (r-under (planOf b) w a t .to (true-T (underB (planOf b) a t) y)) in u .1 (omega (arith, under-le (planOf b) w (u .0)))))))

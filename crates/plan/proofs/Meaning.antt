@@ -15,7 +15,8 @@ use Rattle.format.specs.Format.{nodeCount, condCount, orderCount, flagCount, pa
 use Rattle.rules.specs.Rules.{refusal, badEntry, cause6, childless, cause8, bothSigns, cause11, noPost, postOf, cause12, isChild, badPair, badOrder, cause13}
 use Rattle.rules.specs.Search.{someBelow}
 use Rattle.rules.proofs.Laws.{or-none, or-split, and-both, and-of, none-at, found-at, some-yes, not-passed, or-true}
-use Rattle.runs.specs.Plan.{task, all-of, Place, inc, post, Accepted}
+use Rattle.runs.specs.Plan.{task, all-of, Place, inc, post, Accepted, WellFormed}
+use Rattle.runs.proofs.Plan.Accepted.{accepted-well-formed, accepted-rank}
 use Rattle.plan.specs.Meaning.{kindAt, placeNumber, signNumber, conditionIs, hasCondition, signIn, orderIs, hasOrder, planOf, kindNumber, ConditionPair, OrderPair, Means}
 use Rattle.plan.proofs.Causes.{condition-fits, parent-group, root-parent, both-signs-of, post-of}
 use Rattle.plan.proofs.Accepted.{Clean, clean}
@@ -254,3 +255,11 @@ means b e =
       order = λ x y. (order-is b x y, has-order b x y);
       accepted = meaning-accepted b c;
     }
+
+-- that is well formed, a node's number the rank of its orders
+pub means-well-formed : (b : List ℕ) → refusal b ≡ 0 → WellFormed (planOf b)
+means-well-formed b e = accepted-well-formed (planOf b) (means b e .accepted)
+
+pub means-rank : (b : List ℕ) (e : refusal b ≡ 0) (n : ℕ) → means-well-formed b e .rank n ≡ n
+unfolding means-well-formed
+means-rank b e n = accepted-rank (planOf b) (means b e .accepted) n

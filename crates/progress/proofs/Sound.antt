@@ -15,10 +15,9 @@ use Rattle.rules.specs.Search.{someBelow}
 use Rattle.rules.proofs.Laws.{and-both, and-of, or-none, none-at}
 use Rattle.plan.specs.Meaning.{planOf, kindAt, Means}
 use Rattle.plan.proofs.Accepted.{Clean}
-use Rattle.plan.proofs.Meaning.{means, kind-is, kind-of, child-is, kind-task, kind-all-of, kind-limit}
+use Rattle.plan.proofs.Meaning.{means-well-formed, kind-is, kind-of, child-is, kind-task, kind-all-of, kind-limit}
 use Rattle.runs.specs.Plan.{Kind, task, all-of, any-of, Plan, Child, Node, WellFormed}
 use Rattle.runs.specs.Execution.{Status, waiting, running, done}
-use Rattle.runs.proofs.Plan.Accepted.{accepted-well-formed}
 use Rattle.runs.proofs.Reflect.{Reflects, r-map, r-eq, r-negate, clash}
 use Rattle.state.specs.State.{byteOf, badFlag, badByte, malformed, stateRefusal, statusAt, statusIn}
 use Rattle.state.proofs.Refused.{Roomy, roomy, state-well}
@@ -96,7 +95,7 @@ module _ (b s : List ℕ) (ok : stateRefusal b s ≡ 0) where
   has-room = roomy b s (state-well b s ok .0)
 
   pub well-formed : WellFormed (planOf b)
-  well-formed = accepted-well-formed (planOf b) (means b (has-room .accepted) .accepted)
+  well-formed = means-well-formed b (has-room .accepted)
 
   -- a task's byte
   pub byte-small : (n : ℕ) → n < nodeCount b → kindOf b n ≡ 0 → byteOf s n ≤ 2

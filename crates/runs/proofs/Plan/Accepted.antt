@@ -32,6 +32,10 @@ accepted-well-formed p a = record {
     another : all-of ≡ task → _≡_ {A = ℕ} 0 1
     another q = cc
 
+pub accepted-rank : (p : Plan) (a : Accepted p) (n : ℕ) → accepted-well-formed p a .rank n ≡ n
+unfolding accepted-well-formed
+accepted-rank p a n = refl
+
 module _ (p : Plan) where
   -- refusals 7, 8, 12 and 13 as tests
   unfoldable parentB : ℕ → Bool
