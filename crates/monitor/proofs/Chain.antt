@@ -19,9 +19,10 @@ use Rattle.runs.specs.Model.Monitor.{returned, refusalOf, firstOf, orElse, code
 use Rattle.runs.specs.Tests.{negate}
 use Rattle.runs.proofs.Reflect.{r-eq, r-map, clash}
 use Rattle.runs.proofs.Calls.Reflect.{r-task, r-status}
-use Rattle.state.specs.State.{first, byteOf, stateRefusal, statusIn, flagShown, worldOf}
+use Rattle.answers.specs.Answers.{first}
+use Rattle.state.specs.State.{byteOf, stateRefusal, statusIn, flagShown, worldOf}
 use Rattle.progress.proofs.Sound.{true-T, T-true, same-test, is-node, node-is, plan-kind, has-room, well-formed, byte-waiting}
-use Rattle.state.proofs.Refused.{first-some}
+use Rattle.answers.proofs.First.{first-some}
 use Rattle.monitor.specs.Start.{treeRefusal, conditionRefusal, eventState, startReturn, startState}
 use Rattle.monitor.specs.Status.{Word, COMPLETE, UNFINISHED, wordFor, refusedOr, statusAnswer}
 

@@ -8,7 +8,8 @@ use Rattle.plan.specs.Meaning.{planOf}
 use Rattle.runs.specs.Execution.{start}
 use Rattle.runs.specs.Calls.{one}
 use Rattle.runs.specs.Model.Monitor.{returned, branchBegunB, orderOpenB, preUnmetB, incBrokenB}
-use Rattle.state.specs.State.{first, stateRefusal, statusIn, flagShown, worldOf}
+use Rattle.answers.specs.Answers.{first}
+use Rattle.state.specs.State.{stateRefusal, statusIn, flagShown, worldOf}
 use Rattle.conditions.specs.Conditions.{made}
 
 -- 1 to 16, then 17 to 22

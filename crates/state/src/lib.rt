@@ -11,7 +11,7 @@ ghost use lib.ListN.{length};
 ghost use Rattle.format.specs.Format.{Whole, nodeCount, flagCount};
 ghost use Rattle.rules.specs.Search.{someBelow};
 ghost use Rattle.state.specs.State.{byteOf, badFlag, badByte, malformed, roomRefusal, stateRefusal};
-ghost use Rattle.state.specs.Fresh.{overlay, freshByte, freshState};
+ghost use Rattle.state.specs.Fresh.{freshByte, freshState};
 
 // A bit for a flag of number v or higher.
 fn flags_bad(plan: &[u8], state: &[u8]) -> bool

@@ -8,7 +8,7 @@ use borrow.Author.Tests.{not-true, not-false}
 use Rattle.format.specs.Format.{nodeCount, isKind}
 use Rattle.plan.proofs.Meaning.{kind-is}
 use Rattle.state.specs.State.{byteOf}
-use Rattle.state.proofs.Refused.{first-none, first-some}
+use Rattle.answers.proofs.First.{first-none, first-some}
 use Rattle.monitor.proofs.Chain.{start-17, start-18, start-rest}
 use native.Mathlib.Omega.{arith}
 use Rattle.monitor.proofs.start_refused.Statement.{statement}
