@@ -1,0 +1,2 @@
+-- Laws of the tables while they are filled.
+pub mod Conditions
