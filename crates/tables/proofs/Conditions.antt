@@ -3,7 +3,6 @@ use mathlib.Core.Path.{_≡_, refl, sym, _∙_}
 use mathlib.Core.Logic.{_⊎_, inl, inr, ⊎-elim, by-cases, _↔_}
 use mathlib.Core.Bool.{Bool, true, false}
 use mathlib.Core.List.{List}
-use mathlib.Core.Option.{some}
 use Prim.Native.Nat.{ℕ, _+_, _*_, _/_, _%_, _^_, _<_, _≤_}
 use native.Mathlib.Decide.{ℕ-discrete}
 use native.Mathlib.Omega.{arith}
@@ -14,8 +13,8 @@ use Rattle.bits.specs.Bits.{Says}
 use Rattle.bits.proofs.Says.{says-map, says-eq, says-none, says-set}
 use Rattle.format.specs.Format.{condCount, condNode, condValue}
 use Rattle.rules.specs.Rules.{refusal}
-use Rattle.runs.specs.Plan.{Place, pre, inc, post, Node}
-use Rattle.plan.specs.Meaning.{planOf, placeNumber, signNumber, ConditionPair}
+use Rattle.runs.specs.Plan.{Place, pre, inc, post}
+use Rattle.plan.specs.Meaning.{planOf, placeNumber, signNumber}
 use Rattle.plan.proofs.Accepted.{clean}
 use Rattle.plan.proofs.Meaning.{means}
 use Rattle.words.specs.Tables.{placeNum, signNum, RepresentsConditions}
