@@ -33,7 +33,7 @@ add-condition-requires c κs =
     let l = c .before .before .before .before .before in
     let u = clean _ (l .before .before .before .pre .0) in
     let v = usable _ (u .fits) (u .conditions) in
-    (omega (arith, v .node (l .loop .k) (omega arith)), omega (arith, v .value (l .loop .k) (omega arith)), l .loop .knv .1 .long)
+    (omega (arith, v .node (l .loop .k) (omega arith)), omega (arith, v .value (l .loop .k) (omega arith)), l .loop .inv .1 .long)
 
 loop-again : tie.Need-loop-again Inv-loop μ-loop
 loop-again c =
@@ -41,14 +41,14 @@ loop-again c =
     let u = clean _ (l .before .before .before .pre .0) in
     let v = usable _ (u .fits) (u .conditions) in (
       omega arith,
-      noted-more (omega arith) (omega arith) (omega (arith, v .node (l .loop .k) (omega arith))) (omega (arith, v .value (l .loop .k) (omega arith))) (l .loop .knv .1) (c .add-condition .ensures),
+      noted-more (omega arith) (omega arith) (omega (arith, v .node (l .loop .k) (omega arith))) (omega (arith, v .value (l .loop .k) (omega arith))) (l .loop .inv .1) (c .add-condition .ensures),
     )
 
 returns : tie.Need-returns Inv-loop μ-loop
 returns c =
     let l = c .before in
     let e : l .loop .k ≡ condCount (l .before .before .before .args .plan .now) = omega arith in
-    noted-all (l .before .before .before .pre .0) (rw e at (l .loop .knv .1))
+    noted-all (l .before .before .before .pre .0) (rw e at (l .loop .inv .1))
 
 pub fill-conditions-spec : {M : Type 1} → statement M
 fill-conditions-spec =
