@@ -4,7 +4,7 @@ use std::hint::black_box;
 use std::time::Instant;
 
 /// How often each call is timed; its time is the one in the middle.
-pub const SAMPLES: usize = 101;
+pub const SAMPLES: usize = 51;
 
 /// A sample makes as many calls as take about so many nanoseconds, at least one.
 const SAMPLE: f64 = 200_000.0;
@@ -14,7 +14,7 @@ pub fn medians<const N: usize>(mut calls: [&mut dyn FnMut() -> u32; N]) -> [f64;
     let mut samples = [(); N].map(|()| Vec::new());
     let repeats = calls.each_mut().map(|call| {
         time(*call, 1);
-        (SAMPLE / time(*call, 10)).max(1.0) as u32
+        (SAMPLE / time(*call, 2)).max(1.0) as u32
     });
     for _ in 0..SAMPLES {
         for ((call, repeats), samples) in calls.iter_mut().zip(repeats).zip(&mut samples) {
