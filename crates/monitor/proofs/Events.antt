@@ -55,7 +55,7 @@ module _ (b s : List ℕ) (ok : stateRefusal b s ≡ 0) (k : Place) (t x : ℕ) 
   unfolding withEvent byteOf
   byte-own = getD-set-same (flags ++ drop 8 s) (8 + t) x 0 (omega (arith, joined-length, has-room b s ok .room, kind-is b t 0 task .0))
 
-  byte-other : (n : ℕ) → (n ≡ t → ⊥) → byteOf next n ≡ byteOf s n
+  pub byte-other : (n : ℕ) → (n ≡ t → ⊥) → byteOf next n ≡ byteOf s n
   unfolding withEvent byteOf
   byte-other n h =
       getD-set-other (flags ++ drop 8 s) (8 + t) (8 + n) x 0 (λ e. h (omega arith))
@@ -63,11 +63,14 @@ module _ (b s : List ℕ) (ok : stateRefusal b s ≡ 0) (k : Place) (t x : ℕ) 
       ∙ getD-append-add flags (drop 8 s) n 0
       ∙ getD-drop 8 s n 0
 
-  flag-next : (f : ℕ) → f < 64 → flagIn next f ≡ Option·getD (signIn b k t f) (flagIn s f)
+  -- the bytes of the flags
+  pub byte-flags : (i : ℕ) → i < 8 → getD next i 0 ≡ getD flags i 0
   unfolding withEvent
+  byte-flags i l = getD-set-other (flags ++ drop 8 s) (8 + t) i x 0 (λ e. omega arith) ∙ List·getD-append flags (drop 8 s) 0 i (omega (arith, flags-eight))
+
+  flag-next : (f : ℕ) → f < 64 → flagIn next f ≡ Option·getD (signIn b k t f) (flagIn s f)
   flag-next f l =
-      same-byte (set (flags ++ drop 8 s) (8 + t) x) flags f
-      (getD-set-other (flags ++ drop 8 s) (8 + t) (f / 8) x 0 (λ e. omega arith) ∙ List·getD-append flags (drop 8 s) 0 (f / 8) (omega (arith, flags-eight)))
+      same-byte next flags f (byte-flags (f / 8) (omega arith))
       ∙ made-flag b (has-room b s ok .accepted) k t (take 8 s) (omega (arith, eight)) f
       ∙ ap (λ (v : Bool). Option·getD (signIn b k t f) v) (in-first s f l)
 

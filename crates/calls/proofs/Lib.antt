@@ -1,0 +1,4 @@
+pub mod Bytes
+pub mod Kept
+pub mod Followed
+pub mod Demand3

@@ -1,0 +1,4 @@
+pub mod Shown
+pub mod Lists
+pub mod Assess
+pub mod Demand3
