@@ -7,7 +7,7 @@ use native.Mathlib.Omega.{arith}
 use lib.ListN.{length, replicate, length-replicate}
 use Rattle.format.specs.Format.{nodeCount}
 use Rattle.rules.specs.Rules.{refusal}
-use Rattle.plan.specs.Meaning.{planOf}
+use Rattle.plan.specs.Meaning.{planOf, startOf}
 use Rattle.plan.proofs.Meaning.{means-well-formed}
 use Rattle.runs.specs.Plan.{WellFormed}
 use Rattle.runs.specs.Execution.{Complete}
@@ -17,11 +17,11 @@ use Rattle.runs.specs.Demand3 as plans
 use Rattle.runs.specs.Model.Verdicts.{verdict}
 use Rattle.runs.proofs.Calls.Demand3 as proved
 use Rattle.runs.proofs.Verdict.Exact.{verdict-exact}
-use Rattle.state.specs.State.{worldOf, startOf}
+use Rattle.state.specs.State.{worldOf}
 use Rattle.monitor.specs.declared.Progress.{Progress}
 use Rattle.monitor.specs.Status.{COMPLETE, said, Told}
 use Rattle.calls.specs.Lists.{Listed}
-use Rattle.calls.specs.Assess.{refusedOr, answerOf, Assessed}
+use Rattle.calls.specs.Assess.{answerOf, Assessed}
 use Rattle.calls.specs.Demand3.{Bytes, Demand3}
 use Rattle.calls.proofs.Followed.{list-follows, list-made}
 

@@ -6,14 +6,14 @@ use native.Mathlib.Omega.{arith}
 use lib.ListN.{length}
 use Rattle.format.specs.Format.{nodeCount}
 use Rattle.rules.specs.Rules.{refusal}
-use Rattle.plan.specs.Meaning.{planOf}
+use Rattle.plan.specs.Meaning.{planOf, startOf}
 use Rattle.runs.specs.Execution.{Event}
 use Rattle.runs.specs.Calls.{Call, one, World, Answered, Worked}
 use Rattle.runs.specs.Calls as runs
 use Rattle.runs.proofs.Calls.First.{answered}
-use Rattle.state.specs.State.{stateRefusal, roomRefusal, worldOf, startOf}
+use Rattle.state.specs.State.{stateRefusal, roomRefusal, worldOf}
 use Rattle.state.specs.Fresh.{Freshened, freshState}
-use Rattle.state.proofs.Refused.{first-none, room-long}
+use Rattle.state.proofs.Refused.{room-long}
 use Rattle.state.proofs.Shown.{fresh-started}
 use Rattle.progress.proofs.Sound.{well-formed}
 use Rattle.monitor.specs.Events.{eventReturn, eventState, Called}

@@ -19,9 +19,11 @@ use Rattle.runs.specs.Execution.{Event, nodeOf, statusOf}
 use Rattle.runs.specs.Calls.{one, statusByte}
 use Rattle.runs.specs.Model.Monitor.{returned}
 use Rattle.state.specs.State.{byteOf, badFlag, badByte, malformed, roomRefusal, stateRefusal, statusAt, statusIn, flagShown, worldOf}
-use Rattle.state.specs.Fresh.{overlay, freshByte, freshState}
+use Rattle.state.specs.Fresh.{freshByte, freshState}
+use Rattle.answers.specs.Answers.{overlay}
 use Rattle.state.proofs.Refused.{roomy, state-well}
-use Rattle.state.proofs.Overlay.{length-overlay, at-overlay, past-overlay, fresh-accepted}
+use Rattle.answers.proofs.Overlay.{length-overlay, at-overlay, past-overlay}
+use Rattle.state.proofs.Left.{fresh-accepted}
 use Rattle.progress.proofs.Sound.{has-room, byte-small}
 use Rattle.monitor.specs.Events.{placeOf, withEvent, eventState}
 use Rattle.monitor.proofs.Chain.{answer-task, refused-22, accepted}

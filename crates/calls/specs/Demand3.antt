@@ -6,12 +6,12 @@ use mathlib.Core.Logic.{_≢_, _↔_, _⊎_, inr}
 use mathlib.Core.List.{List}
 use lib.ListN.{length, getD}
 use Rattle.format.specs.Format.{nodeCount}
-use Rattle.plan.specs.Meaning.{planOf}
+use Rattle.plan.specs.Meaning.{planOf, startOf}
 use Rattle.runs.specs.Execution.{Complete}
 use Rattle.runs.specs.Verdict.{Verdict, CLEAR, DOOMED, Judged}
 use Rattle.runs.specs.Calls.{Call, World, fresh, Worked, Among}
-use Rattle.state.specs.State.{stateRefusal, worldOf, startOf}
-use Rattle.state.specs.Fresh.{overlay}
+use Rattle.state.specs.State.{stateRefusal, worldOf}
+use Rattle.answers.specs.Answers.{overlay}
 use Rattle.monitor.specs.declared.Progress.{Progress}
 use Rattle.monitor.specs.Status.{COMPLETE, said, Told}
 use Rattle.calls.specs.Shown.{shownByte}

@@ -3,8 +3,9 @@ use mathlib.Core.Path.{_≡_, refl, sym, ap, _∙_}
 use mathlib.Core.Logic.{inl, inr, _⊎_, _↔_}
 use mathlib.Core.Bool.{Bool, true, false, true≢false}
 use mathlib.Core.List.{List}
-use Prim.Native.Nat.{ℕ, zero, suc}
+use Prim.Native.Nat.{ℕ}
 use native.Mathlib.Omega.{arith}
+use Rattle.answers.proofs.First.{answer-some}
 use Rattle.plan.specs.Meaning.{planOf}
 use Rattle.runs.specs.Execution as execution
 use Rattle.runs.specs.Model.Monitor.{completeB}
@@ -14,19 +15,15 @@ use Rattle.state.specs.State.{stateRefusal, statusIn}
 use Rattle.progress.proofs.Sound.{true-T, T-true, is-node, has-room, well-formed}
 use Rattle.monitor.specs.declared.Progress.{Progress}
 use Rattle.monitor.specs.declared.Progress.the-variants.{Refused, Complete, Unfinished}
-use Rattle.monitor.specs.Status.{Word, COMPLETE, UNFINISHED, said, wordFor, refusedOr, statusAnswer, Told}
+use Rattle.monitor.specs.Status.{Word, COMPLETE, UNFINISHED, said, wordFor, statusAnswer, Told}
 
 module _ (b s : List ℕ) where
   pub told-refused : (r : ℕ) → r ≡ stateRefusal b s → (r ≡ 0 → ⊥) → Told b s (Refused r)
   unfolding statusAnswer
   told-refused r e n = record {
-    answer = rw (← e) (at r n (wordFor (completeB (planOf b) (statusIn b s) 0)));
+    answer = rw (← e) (answer-some r (wordFor (completeB (planOf b) (statusIn b s) 0)) n);
     complete = (λ q. clash cc, λ x. absurd (n (e ∙ x .0)));
   }
-    where
-      at : (r : ℕ) → (r ≡ 0 → ⊥) → (w : Word) → inl r ≡ refusedOr r w
-      at zero n w = absurd (n refl)
-      at (suc r) n w = refl
 
   module _ (ok : stateRefusal b s ≡ 0) where
     root : Reflects (completeB (planOf b) (statusIn b s) 0) (execution.Complete (planOf b) (statusIn b s) 0)

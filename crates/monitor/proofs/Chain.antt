@@ -22,9 +22,10 @@ use Rattle.runs.specs.Model.Monitor.{returned, refusalOf, firstOf, orElse, code
 use Rattle.runs.specs.Tests.{negate}
 use Rattle.runs.proofs.Reflect.{r-eq, r-map, clash}
 use Rattle.runs.proofs.Calls.Reflect.{r-task, r-status}
-use Rattle.state.specs.State.{first, byteOf, stateRefusal, statusIn, flagShown, worldOf}
+use Rattle.answers.specs.Answers.{first}
+use Rattle.answers.proofs.First.{first-none, first-some}
+use Rattle.state.specs.State.{byteOf, stateRefusal, statusIn, flagShown, worldOf}
 use Rattle.progress.proofs.Sound.{true-T, T-true, same-test, is-node, node-is, plan-kind, has-room, well-formed, byte-waiting, byte-running, byte-done}
-use Rattle.state.proofs.Refused.{first-none, first-some}
 use Rattle.conditions.specs.Conditions.{made, brokenAt}
 use Rattle.conditions.proofs.Refusals.{broken-is}
 use Rattle.monitor.specs.declared.Move.{Move}

@@ -10,7 +10,8 @@ use Rattle.runs.specs.Plan.{Place, inc, post}
 use Rattle.runs.specs.Execution.{Event, start, finish, nodeOf, statusOf}
 use Rattle.runs.specs.Calls.{one, statusByte}
 use Rattle.runs.specs.Model.Monitor.{returned, branchBegunB, orderOpenB, preUnmetB}
-use Rattle.state.specs.State.{first, stateRefusal, statusIn, flagShown, worldOf}
+use Rattle.answers.specs.Answers.{first}
+use Rattle.state.specs.State.{stateRefusal, statusIn, flagShown, worldOf}
 use Rattle.conditions.specs.Conditions.{made}
 use Rattle.monitor.specs.declared.Move.{Move}
 use Rattle.monitor.specs.declared.Move.the-variants.{Start, Finish}

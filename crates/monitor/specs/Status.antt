@@ -1,9 +1,10 @@
 -- The answer of `status`: a refusal up to 16, or a word for the root.
-use Prim.Native.Nat.{ℕ, zero, suc}
+use Prim.Native.Nat.{ℕ}
 use mathlib.Core.Path.{_≡_}
 use mathlib.Core.Logic.{_⊎_, inl, inr, _↔_}
 use mathlib.Core.Bool.{Bool, true, false}
 use mathlib.Core.List.{List}
+use Rattle.answers.specs.Answers.{refusedOr}
 use Rattle.plan.specs.Meaning.{planOf}
 use Rattle.runs.specs.Execution as execution
 use Rattle.runs.specs.Model.Monitor.{completeB}
@@ -23,10 +24,6 @@ said Unfinished = inr UNFINISHED
 abbrev pub wordFor : Bool → Word
 wordFor true = COMPLETE
 wordFor false = UNFINISHED
-
-abbrev pub refusedOr : ℕ → Word → ℕ ⊎ Word
-refusedOr zero w = inr w
-refusedOr (suc n) w = inl (suc n)
 
 unfoldable pub statusAnswer : List ℕ → List ℕ → ℕ ⊎ Word
 statusAnswer b s = refusedOr (stateRefusal b s) (wordFor (completeB (planOf b) (statusIn b s) 0))

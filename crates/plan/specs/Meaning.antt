@@ -1,4 +1,4 @@
--- The meaning of a plan's bytes: the plan of `runs`. (Its start flags are `startFlag`, its minutes `minutesOf`.)
+-- The meaning of a plan's bytes: the plan of `runs`, and the flags at the start. (Its minutes are `minutesOf`.)
 use Prim.Native.Nat.{ℕ, _+_, _*_, _<_}
 use mathlib.Core.Path.{_≡_}
 use mathlib.Core.Logic.{_↔_}
@@ -7,7 +7,7 @@ use mathlib.Core.List.{List}
 use mathlib.Core.Option.{Option, some, none}
 use lib.Dec.{T, eqb, ltb}
 use Rattle.codes.specs.Values.{flagOf, signOf, placeOf}
-use Rattle.format.specs.Format.{nodeCount, condCount, orderCount, flagCount, parentOf, kindOf, condNode, condValue, earlierOf, laterOf}
+use Rattle.format.specs.Format.{nodeCount, condCount, orderCount, flagCount, parentOf, kindOf, condNode, condValue, earlierOf, laterOf, startFlag}
 use Rattle.rules.specs.Search.{someBelow}
 use Rattle.runs.specs.Plan.{Kind, task, all-of, any-of, Place, pre, inc, post, Plan, Accepted}
 
@@ -53,6 +53,10 @@ planOf b =
       cond = record { flags = flagCount b; sign = signIn b };
       order = hasOrder b;
     }
+
+-- the flags at the start
+unfoldable pub startOf : List ℕ → ℕ → Bool
+startOf b f = ltb f (flagCount b) && startFlag b f
 
 -- the pair (t, v) is among the conditions of the bytes
 pub record ConditionPair (b : List ℕ) (t v : ℕ) : Type 0 where

@@ -9,6 +9,15 @@ use Rattle.runs.specs.Execution.{waiting, Complete}
 use Rattle.runs.specs.Verdict.{Verdict, Clear, Doomed, Judged}
 use Rattle.runs.specs.Calls.{Call, World, fresh, Task, Worked, Among}
 
+module _ (p : Plan) (F : ℕ → Bool) where
+  -- no call in any list returns 21 or 22
+  abbrev pub NeverViolates : Type 0
+  NeverViolates = (cs : List Call) (ns : List ℕ) (a : World) → Worked p (fresh F) cs ns a → (r : ℕ) → Among r ns → (r ≢ 21) × (r ≢ 22)
+
+  -- the root is complete after no list
+  abbrev pub NeverCompletes : Type 0
+  NeverCompletes = (cs : List Call) (ns : List ℕ) (a : World) → Worked p (fresh F) cs ns a → ¬ Complete p (a .status) 0
+
 -- F: the flags at the start
 pub record Demand3 (p : Plan) (F : ℕ → Bool) : Type 0 where
   -- every list of calls has its returns and the states after it, and no others
@@ -20,6 +29,6 @@ pub record Demand3 (p : Plan) (F : ℕ → Bool) : Type 0 where
   -- the plan has one verdict
   pub judged : (v : Verdict) × Judged p F v × ((u : Verdict) → Judged p F u → u ≡ v)
   -- CLEAR exactly if no call in any list returns 21 or 22
-  pub clear : Clear p F ↔ ((cs : List Call) (ns : List ℕ) (a : World) → Worked p (fresh F) cs ns a → (r : ℕ) → Among r ns → (r ≢ 21) × (r ≢ 22))
+  pub clear : Clear p F ↔ NeverViolates p F
   -- DOOMED: the root is complete after no list
-  pub doomed : Doomed p F → (cs : List Call) (ns : List ℕ) (a : World) → Worked p (fresh F) cs ns a → ¬ Complete p (a .status) 0
+  pub doomed : Doomed p F → NeverCompletes p F

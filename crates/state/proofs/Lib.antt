@@ -1,3 +1,3 @@
 pub mod Refused
-pub mod Overlay
+pub mod Left
 pub mod Shown

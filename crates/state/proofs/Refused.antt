@@ -1,30 +1,20 @@
 -- The chain of refusals 1 to 16, forwards and backwards. Assumes nothing.
-use mathlib.Core.Path.{_≡_, refl}
+use mathlib.Core.Path.{_≡_}
 use mathlib.Core.Bool.{Bool, true, false, cond, _&&_, _||_}
 use mathlib.Core.List.{List}
-use Prim.Native.Nat.{ℕ, zero, suc, _+_, _<_, _≤_}
+use Prim.Native.Nat.{ℕ, _+_, _<_, _≤_}
 use native.Mathlib.Omega.{arith}
 use lib.ListN.{length, take}
 use lib.Dec.{leb}
 use borrow.Author.Tests.{lt-ltb, le-ltb, ltb-false}
+use Rattle.answers.proofs.First.{first-some, both-none, check-passed}
 use Rattle.flags.specs.Flags.{flagIn}
 use Rattle.flags.proofs.Laws.{in-first}
 use Rattle.format.specs.Format.{nodeCount, flagCount}
 use Rattle.rules.specs.Rules.{refusal}
 use Rattle.rules.specs.Search.{someBelow}
 use Rattle.plan.proofs.Accepted.{Clean, clean}
-use Rattle.state.specs.State.{tooShort, badFlag, badByte, malformed, first, roomRefusal, stateRefusal}
-
-pub first-none : (r k : ℕ) → r ≡ 0 → k ≡ first r k
-first-none r k e = rw e
-
-pub first-some : (r k : ℕ) → (r ≡ 0 → ⊥) → r ≡ first r k
-first-some zero k n = absurd (n refl)
-first-some (suc r) k n = refl
-
-pub both-none : (r k : ℕ) → first r k ≡ 0 → (r ≡ 0) × (k ≡ 0)
-both-none zero k e = (refl, e)
-both-none (suc r) k e = absurd (omega arith)
+use Rattle.state.specs.State.{tooShort, badFlag, badByte, malformed, roomRefusal, stateRefusal}
 
 module _ (b s : List ℕ) where
   pub room-plan : (refusal b ≡ 0 → ⊥) → refusal b ≡ roomRefusal b s
@@ -45,15 +35,11 @@ module _ (b s : List ℕ) where
     pub plan : Clean b
     pub room : 8 + nodeCount b ≤ length s
 
-  fits : (t : Bool) → _≡_ {A = ℕ} (cond t 15 0) 0 → t ≡ false
-  fits true e = absurd (omega arith)
-  fits false e = refl
-
   pub roomy : roomRefusal b s ≡ 0 → Roomy
   unfolding roomRefusal tooShort
   roomy e =
       let w = both-none (refusal b) _ e in
-      record { accepted = w .0; plan = clean b (w .0); room = ltb-false _ _ (fits _ (w .1)) }
+      record { accepted = w .0; plan = clean b (w .0); room = ltb-false _ _ (check-passed _ 14 0 (w .1) .0) }
 
   pub state-room : (roomRefusal b s ≡ 0 → ⊥) → roomRefusal b s ≡ stateRefusal b s
   unfolding stateRefusal
@@ -67,13 +53,9 @@ module _ (b s : List ℕ) where
   unfolding stateRefusal
   state-good e m = simp (e, m)
 
-  well : (t : Bool) → _≡_ {A = ℕ} (cond t 16 0) 0 → t ≡ false
-  well true e = absurd (omega arith)
-  well false e = refl
-
   pub state-well : stateRefusal b s ≡ 0 → (roomRefusal b s ≡ 0) × (malformed b s ≡ false)
   unfolding stateRefusal
-  state-well e = let w = both-none (roomRefusal b s) _ e in (w .0, well _ (w .1))
+  state-well e = let w = both-none (roomRefusal b s) _ e in (w .0, check-passed _ 15 0 (w .1) .0)
 
 -- a flag's test by the bytes that were loaded
 pub flag-bad : (b s bytes : List ℕ) (v f : ℕ) (h : Bool) → v ≡ flagCount b → bytes ≡ take 8 s → h ≡ flagIn bytes f → f < 64 → (leb v f && h) ≡ badFlag b s f

@@ -9,17 +9,19 @@ use native.Mathlib.Omega.{arith}
 use lib.ListN.{length, getD}
 use lib.Dec.{eqb, ltb, leb}
 use borrow.Author.Tests.{eq-eqb, lt-ltb, le-ltb, lt-leb}
+use Rattle.answers.specs.Answers.{overlay}
+use Rattle.answers.proofs.Overlay.{length-overlay, at-overlay}
 use Rattle.flags.specs.Flags.{flagIn, bitOf}
 use Rattle.format.specs.Format.{nodeCount, flagCount, startFlag, isKind}
 use Rattle.rules.specs.Search.{someBelow}
 use Rattle.rules.proofs.Laws.{either, found-at, not-passed}
+use Rattle.plan.specs.Meaning.{startOf}
 use Rattle.plan.proofs.Accepted.{start-below}
 use Rattle.plan.proofs.Meaning.{kind-is}
 use Rattle.runs.specs.Execution.{waiting}
 use Rattle.runs.specs.Calls as calls
-use Rattle.state.specs.State.{byteOf, badFlag, badByte, malformed, roomRefusal, stateRefusal, statusAt, statusIn, flagShown, worldOf, startOf}
-use Rattle.state.specs.Fresh.{overlay, freshByte, freshState}
-use Rattle.state.proofs.Overlay.{length-overlay, at-overlay}
+use Rattle.state.specs.State.{byteOf, badFlag, badByte, malformed, roomRefusal, stateRefusal, statusAt, statusIn, flagShown, worldOf}
+use Rattle.state.specs.Fresh.{freshByte, freshState}
 use Rattle.state.proofs.Refused.{Roomy, roomy, room-long, state-good}
 
 none-found : (n : ℕ) (p : ℕ → Bool) → ((i : ℕ) → i < n → p i ≡ false) → someBelow n p ≡ false

@@ -1,17 +1,13 @@
 -- The state that `fresh` writes: the start flags of the plan and a 0 for each node; later bytes are kept.
-use Prim.Native.Nat.{ℕ, zero, suc, _+_}
+use Prim.Native.Nat.{ℕ, _+_}
 use mathlib.Core.Path.{_≡_}
 use mathlib.Core.Bool.{cond}
 use mathlib.Core.List.{List}
-use lib.ListN.{getD, set}
+use lib.ListN.{getD}
 use lib.Dec.{eqb, ltb}
+use Rattle.answers.specs.Answers.{overlay}
 use Rattle.format.specs.Format.{nodeCount}
 use Rattle.state.specs.State.{roomRefusal}
-
--- xs with f i in the place of each element i below n
-unfoldable pub overlay : (ℕ → ℕ) → ℕ → List ℕ → List ℕ
-overlay f zero xs = xs
-overlay f (suc n) xs = set (overlay f n xs) n (f n)
 
 unfoldable pub freshByte : List ℕ → ℕ → ℕ
 freshByte b i = cond (ltb i 8) (getD b (8 + i) 0) 0

@@ -1,11 +1,12 @@
 -- A state (01: record): eight bytes of flags, then a byte for each node of its plan. When it is refused, and what it shows.
-use Prim.Native.Nat.{ℕ, zero, suc, _+_}
+use Prim.Native.Nat.{ℕ, _+_}
 use mathlib.Core.Bool.{Bool, false, cond, not, _&&_, _||_}
 use mathlib.Core.List.{List}
 use lib.ListN.{getD, length}
 use lib.Dec.{eqb, ltb, leb}
+use Rattle.answers.specs.Answers.{first}
 use Rattle.flags.specs.Flags.{flagIn}
-use Rattle.format.specs.Format.{nodeCount, flagCount, startFlag, isKind}
+use Rattle.format.specs.Format.{nodeCount, flagCount, isKind}
 use Rattle.rules.specs.Rules.{refusal}
 use Rattle.rules.specs.Search.{someBelow}
 use Rattle.runs.specs.Execution.{Status, waiting, running, done}
@@ -29,11 +30,6 @@ badByte b s n = cond (isKind b n 0) (ltb 2 (byteOf s n)) (not (eqb (byteOf s n) 
 unfoldable pub malformed : List ℕ → List ℕ → Bool
 malformed b s = someBelow 64 (badFlag b s) || someBelow (nodeCount b) (badByte b s)
 
--- the first of two refusals, where 0 is none
-abbrev pub first : ℕ → ℕ → ℕ
-first zero k = k
-first (suc r) k = suc r
-
 -- refusals 1 to 15
 unfoldable pub roomRefusal : List ℕ → List ℕ → ℕ
 roomRefusal b s = first (refusal b) (cond (tooShort b s) 15 0)
@@ -55,7 +51,3 @@ flagShown s f = cond (ltb f 64) (flagIn s f) false
 
 unfoldable pub worldOf : List ℕ → List ℕ → World
 worldOf b s = record { status = statusIn b s; flag = flagShown s }
-
--- the flags at the start
-unfoldable pub startOf : List ℕ → ℕ → Bool
-startOf b f = ltb f (flagCount b) && startFlag b f

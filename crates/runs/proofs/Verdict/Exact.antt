@@ -3,15 +3,11 @@ use Rattle.runs.proofs.Base.{_≡_, refl, _⊎_, inl, inr, _↔_, Bool,
 use Rattle.runs.specs.Plan.{inc, Plan, WellFormed}
 use Rattle.runs.specs.Execution.{Event, History}
 use Rattle.runs.specs.Summary.{Clobbers, precondition, incondition, MayClobber, Mark, may-pre, must-pre, may-clobber, must-clobber, Marked}
-use Rattle.runs.specs.Verdict.{Verdict, CLEAR, DOOMED, OPEN, Clear, Doomed, by-clobber, by-start, Judged}
+use Rattle.runs.specs.Verdict.{Fails, Verdict, CLEAR, DOOMED, OPEN, Clear, Doomed, by-clobber, by-start, Judged}
 use Rattle.runs.specs.Model.Verdicts.{failsB, someLiteralB, mayFailB, mustFailB, judge, verdict}
 use Rattle.runs.proofs.Reflect.{clash, Reflects, r-map, decided, r-both, r-either, r-any, r-same}
 use Rattle.runs.proofs.Execution.{completed-execution}
 use Rattle.runs.proofs.Summary.{pre-flag, marks-exact, must-clobber-may}
-
--- at the root the literal has the mark m, or is false at the start and has the mark k
-abbrev pub Fails : Plan → (ℕ → Bool) → Mark → Mark → ℕ → Bool → Type 0
-Fails p F m k f v = Marked p 0 f v m ⊎ ((F f ≡ not v) × Marked p 0 f v k)
 
 abbrev pub MayFail : Plan → (ℕ → Bool) → ℕ → Bool → Type 0
 MayFail p F = Fails p F may-clobber may-pre

@@ -6,8 +6,10 @@ use lib.ListN.{length}
 use denote.Ref.{now}
 use Rattle.format.specs.Format.{nodeCount}
 use Rattle.state.specs.State.{roomRefusal}
-use Rattle.state.specs.Fresh.{overlay, freshByte}
-use Rattle.state.proofs.Overlay.{overlay-none, overlay-more, length-overlay, fresh-refused, fresh-accepted}
+use Rattle.answers.specs.Answers.{overlay}
+use Rattle.answers.proofs.Overlay.{overlay-none, overlay-more, length-overlay}
+use Rattle.state.specs.Fresh.{freshByte}
+use Rattle.state.proofs.Left.{fresh-refused, fresh-accepted}
 use Rattle.state.proofs.Refused.{Roomy, roomy}
 use borrow.Author.Needs.{needs}
 use native.Mathlib.Omega.{arith}

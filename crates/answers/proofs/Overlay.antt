@@ -1,4 +1,4 @@
--- The laws of `overlay` and of the state that `fresh` leaves. Assumes nothing.
+-- The laws of `overlay`. Assumes nothing.
 use mathlib.Core.Path.{_≡_, refl, _∙_}
 use mathlib.Core.Logic.{by-cases}
 use mathlib.Core.List.{List}
@@ -8,10 +8,7 @@ use native.Mathlib.Numerals.{add-one}
 use native.Mathlib.Omega.{arith}
 use lib.ListN.{length, getD, set, length-set}
 use lib.Seq.{getD-set-same, getD-set-other}
-use borrow.Author.Tests.{eq-eqb, ne-eqb}
-use Rattle.format.specs.Format.{nodeCount}
-use Rattle.state.specs.State.{roomRefusal}
-use Rattle.state.specs.Fresh.{overlay, freshByte, freshState}
+use Rattle.answers.specs.Answers.{overlay}
 
 module _ (f : ℕ → ℕ) (xs : List ℕ) where
   pub overlay-none : xs ≡ overlay f 0 xs
@@ -40,13 +37,3 @@ module _ (f : ℕ → ℕ) (xs : List ℕ) where
   unfolding overlay
   past-overlay zero k l = refl
   past-overlay (suc n) k l = getD-set-other (overlay f n xs) n k (f n) 0 (λ e. omega arith) ∙ past-overlay n k (omega arith)
-
--- what `fresh` leaves, refused and accepted
-module _ (b s : List ℕ) where
-  pub fresh-refused : (roomRefusal b s ≡ 0 → ⊥) → s ≡ freshState b s
-  unfolding freshState
-  fresh-refused n = rw (ne-eqb (roomRefusal b s) 0 n)
-
-  pub fresh-accepted : roomRefusal b s ≡ 0 → overlay (freshByte b) (8 + nodeCount b) s ≡ freshState b s
-  unfolding freshState
-  fresh-accepted e = rw (eq-eqb (roomRefusal b s) 0 e)

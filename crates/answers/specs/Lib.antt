@@ -1,0 +1,2 @@
+-- What a call answers and leaves. Definitions only.
+pub mod Answers

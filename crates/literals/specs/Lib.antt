@@ -1,0 +1,2 @@
+-- The marks of a node as words over the flags.
+pub mod Words

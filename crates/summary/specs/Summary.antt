@@ -1,0 +1,37 @@
+-- The summary call (01: sheet): what it returns, every byte that it leaves, and what each byte of a mark tells. Definitions only.
+use mathlib.Core.Path.{_≡_}
+use mathlib.Core.Logic.{_⊎_}
+use mathlib.Core.Bool.{Bool, cond, not}
+use mathlib.Core.List.{List}
+use Prim.Native.Nat.{ℕ, _+_, _*_, _/_, _%_, _<_}
+use lib.ListN.{length, getD}
+use lib.Dec.{eqb, ltb}
+use Rattle.answers.specs.Answers.{first, overlay}
+use Rattle.format.specs.Format.{nodeCount, flagCount}
+use Rattle.rules.specs.Rules.{refusal}
+use Rattle.plan.specs.Meaning.{planOf, signNumber}
+use Rattle.runs.specs.Summary.{Mark, byteOf, Marked}
+use Rattle.runs.specs.Model.Marks.{markedB}
+use Rattle.literals.specs.Words.{markAt}
+
+-- 1 to 14; 15: under 16 V bytes; 17: no node
+unfoldable pub summaryRefusal : List ℕ → ℕ → List ℕ → ℕ
+summaryRefusal b n out = first (refusal b) (cond (ltb (length out) (16 * flagCount b)) 15 (cond (not (ltb n (nodeCount b))) 17 0))
+
+-- the mark of byte i: entry i / 8 is 2 f + sign, and its eight bytes are the marks
+unfoldable pub summaryByte : List ℕ → ℕ → ℕ → ℕ
+summaryByte b n i = cond (markedB (planOf b) n (i / 8 / 2) (eqb (i / 8 % 2) 1) (markAt (i % 8))) 1 0
+
+-- the bytes after the call: accepted, the 2 V entries and then what was there; refused, all that was there
+unfoldable pub summaryLeft : List ℕ → ℕ → List ℕ → List ℕ
+summaryLeft b n out = cond (eqb (summaryRefusal b n out) 0) (overlay (summaryByte b n) (16 * flagCount b) out) out
+
+-- the byte is 1 and A holds, or it is 0 and A does not hold
+abbrev pub Tells : ℕ → Type 0 → Type 0
+Tells x A = ((x ≡ 1) × A) ⊎ ((x ≡ 0) × (¬ A))
+
+pub record Summarised (b : List ℕ) (n : ℕ) (out : List ℕ) (r : ℕ) (out' : List ℕ) : Type 0 where
+  pub number : r ≡ summaryRefusal b n out
+  pub bytes : out' ≡ summaryLeft b n out
+  pub marks : r ≡ 0 → (f : ℕ) → f < flagCount b → (v : Bool) (m : Mark)
+      → Tells (getD out' (8 * (2 * f + signNumber v) + byteOf m) 0) (Marked (planOf b) n f v m)

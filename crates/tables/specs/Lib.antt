@@ -1,0 +1,3 @@
+-- The tables of a plan, filled from its bytes.
+pub mod Filled
+pub mod Children
