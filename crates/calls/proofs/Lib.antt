@@ -2,3 +2,4 @@ pub mod Bytes
 pub mod Kept
 pub mod Followed
 pub mod Demand3
+pub mod Partly
