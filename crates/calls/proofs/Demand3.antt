@@ -1,6 +1,6 @@
 -- Demand 3 over bytes holds of every accepted plan. Assumes nothing.
-use mathlib.Core.Path.{_≡_, refl, sym, ap, _∙_}
-use mathlib.Core.Logic.{_≢_, _↔_, _⊎_, inl, inr}
+use mathlib.Core.Path.{_≡_, ap}
+use mathlib.Core.Logic.{_≢_}
 use mathlib.Core.List.{List}
 use Prim.Native.Nat.{ℕ, _+_}
 use native.Mathlib.Omega.{arith}
@@ -9,37 +9,19 @@ use Rattle.format.specs.Format.{nodeCount}
 use Rattle.rules.specs.Rules.{refusal}
 use Rattle.plan.specs.Meaning.{planOf, startOf}
 use Rattle.plan.proofs.Meaning.{means-well-formed}
-use Rattle.runs.specs.Plan.{WellFormed}
-use Rattle.runs.specs.Execution.{Complete}
-use Rattle.runs.specs.Verdict.{Verdict, CLEAR, DOOMED, Judged}
+use Rattle.runs.specs.Verdict.{CLEAR, DOOMED}
 use Rattle.runs.specs.Calls.{Call, World, fresh, Worked, Among}
 use Rattle.runs.specs.Demand3 as plans
-use Rattle.runs.specs.Model.Verdicts.{verdict}
 use Rattle.runs.proofs.Calls.Demand3 as proved
-use Rattle.runs.proofs.Verdict.Exact.{verdict-exact}
 use Rattle.state.specs.State.{worldOf}
-use Rattle.monitor.specs.declared.Progress.{Progress}
-use Rattle.monitor.specs.Status.{COMPLETE, said, Told}
 use Rattle.calls.specs.Lists.{Listed}
-use Rattle.calls.specs.Assess.{answerOf, Assessed}
+use Rattle.summary.specs.Verdict.{Assessed}
 use Rattle.calls.specs.Demand3.{Bytes, Demand3}
 use Rattle.calls.proofs.Followed.{list-follows, list-made}
 
 module _ (b : List ℕ) (h : Bytes b) (acc : refusal b ≡ 0) where
   on-plans : plans.Demand3 (planOf b) (startOf b)
   on-plans = proved.demand3 (planOf b) (means-well-formed b acc) (startOf b)
-
-  same-word : {u v : Verdict} → _≡_ {A = ℕ ⊎ Verdict} (inr u) (inr v) → u ≡ v
-  same-word q = cc
-
-  answers : (r : ℕ ⊎ Verdict) → Assessed b r → r ≡ inr (verdict (planOf b) (startOf b))
-  unfolding answerOf
-  answers r x = x .answer ∙ rw acc
-
-  is-verdict : (r : ℕ ⊎ Verdict) → Assessed b r → (v : Verdict) → (r ≡ inr v) ↔ Judged (planOf b) (startOf b) v
-  is-verdict r x v =
-      let e = verdict-exact (planOf b) (means-well-formed b acc) (startOf b) v in
-      (λ q. e .0 (same-word (sym (answers r x) ∙ q)), λ j. answers r x ∙ ap inr (e .1 j))
 
   abbrev Never : Type 0
   Never = (s : List ℕ) (cs : List Call) (rs z : List ℕ) → Listed b s cs rs z → (n : ℕ) → Among n rs → (n ≢ 21) × (n ≢ 22)
@@ -58,14 +40,14 @@ module _ (b : List ℕ) (h : Bytes b) (acc : refusal b ≡ 0) where
       record {
         made = list-made b acc;
         follows = list-follows b h;
-        answer = is-verdict;
+        answer = λ r x. x .judged acc;
         clear = λ r x. (
-          λ q s cs rs z l. let f = list-follows b h s cs rs z l in on-plans .clear .0 (is-verdict r x CLEAR .0 q) cs rs (f .after) (f .worked),
-          λ g. is-verdict r x CLEAR .1 (on-plans .clear .1 (never-worked g)),
+          λ q s cs rs z l. let f = list-follows b h s cs rs z l in on-plans .clear .0 (x .judged acc CLEAR .0 q) cs rs (f .after) (f .worked),
+          λ g. x .judged acc CLEAR .1 (on-plans .clear .1 (never-worked g)),
         );
         doomed = λ r x q s cs rs z l.
             let f = list-follows b h s cs rs z l in
-            let d = is-verdict r x DOOMED .0 q in (
+            let d = x .judged acc DOOMED .0 q in (
               λ a w. on-plans .doomed d cs rs a w,
               λ t k c. on-plans .doomed d cs rs (f .after) (f .worked) (rw (ap (λ (a : World). a .status) (f .shows)) at (k .complete .0 c .1)),
             );

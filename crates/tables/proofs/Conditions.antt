@@ -1,9 +1,8 @@
 -- The words of the conditions while they are filled: they have the first i conditions. Assumes nothing.
-use mathlib.Core.Path.{_≡_, refl, sym, _∙_}
+use mathlib.Core.Path.{_≡_, refl, sym, ap, _∙_}
 use mathlib.Core.Logic.{_⊎_, inl, inr, ⊎-elim, by-cases, _↔_}
 use mathlib.Core.Bool.{Bool, true, false}
 use mathlib.Core.List.{List}
-use mathlib.Core.Option.{some}
 use Prim.Native.Nat.{ℕ, _+_, _*_, _/_, _%_, _^_, _<_, _≤_}
 use native.Mathlib.Decide.{ℕ-discrete}
 use native.Mathlib.Omega.{arith}
@@ -11,15 +10,20 @@ use lib.Bits.{bitOr}
 use lib.ListN.{length, getD, set, length-set}
 use lib.Seq.{getD-set-same, getD-set-other}
 use Rattle.bits.specs.Bits.{Says}
+use Rattle.bits.proofs.Equations.{one-shl}
 use Rattle.bits.proofs.Says.{says-map, says-eq, says-none, says-set}
 use Rattle.format.specs.Format.{condCount, condNode, condValue}
 use Rattle.rules.specs.Rules.{refusal}
-use Rattle.runs.specs.Plan.{Place, pre, inc, post, Node}
-use Rattle.plan.specs.Meaning.{planOf, placeNumber, signNumber, ConditionPair}
+use Rattle.runs.specs.Plan.{Place, pre, inc, post}
+use Rattle.plan.specs.Meaning.{planOf, placeNumber, signNumber}
 use Rattle.plan.proofs.Accepted.{clean}
 use Rattle.plan.proofs.Meaning.{means}
 use Rattle.words.specs.Tables.{placeNum, signNum, RepresentsConditions}
 use Rattle.tables.specs.Filled.{Zeros}
+
+-- `1 << k` is added to word j
+pub bit-added : (c : List ℕ) (j k : ℕ) → k < 64 → set c j (bitOr (getD c j 0) ((1 * 2 ^ k) % 2 ^ 64)) ≡ set c j (bitOr (getD c j 0) (2 ^ k))
+bit-added c j k l = ap (λ (w : ℕ). set c j (bitOr (getD c j 0) w)) (one-shl k l)
 
 -- one of the first i conditions is of task t and has the value v
 pub record Among (b : List ℕ) (i t v : ℕ) : Type 0 where

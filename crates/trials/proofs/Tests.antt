@@ -1,6 +1,6 @@
 -- A trial as one test that computes. Assumes nothing.
 use mathlib.Core.Path.{_≡_, refl, sym, ap, _∙_}
-use mathlib.Core.Logic.{_⊎_, inr}
+use mathlib.Core.Logic.{⊎-elim}
 use mathlib.Core.Bool.{Bool, true, false, _&&_, decide}
 use mathlib.Core.List.{List, [], _∷_}
 use Prim.Native.Nat.{ℕ, zero, suc, _+_, _<_, _≤_}
@@ -10,7 +10,7 @@ use lib.Dec.{T, eqb, ltb}
 use lib.Pow.{areBytes}
 use borrow.Author.Tests.{ltb-true}
 use Rattle.answers.specs.Answers.{overlay}
-use Rattle.format.specs.Format.{nodeCount}
+use Rattle.format.specs.Format.{nodeCount, flagCount}
 use Rattle.rules.specs.Rules.{refusal}
 use Rattle.rules.proofs.Laws.{and-both}
 use Rattle.plan.specs.Meaning.{planOf, startOf}
@@ -30,11 +30,12 @@ use Rattle.runs.proofs.Calls.First.{worked-only}
 use Rattle.progress.proofs.Sound.{T-true, is-node}
 use Rattle.calls.specs.Shown.{shownByte}
 use Rattle.calls.specs.Lists.{Listed}
-use Rattle.calls.specs.Assess.{answerOf, Assessed}
+use Rattle.summary.specs.Verdict.{answerOf}
+use Rattle.summary.specs.Summary.{Summarised}
 use Rattle.calls.specs.Demand3.{Bytes}
 use Rattle.calls.proofs.Followed.{list-follows}
 use Rattle.trials.specs.Written.{bytesOf}
-use Rattle.trials.specs.Trial.{Shown, shown, AllShown, Trial, HoldsOf, Holds, AllHold}
+use Rattle.trials.specs.Trial.{Shown, shown, ShownBy, AllShown, Trial, HoldsOf, Holds, AllHold}
 
 -- ---- bytes
 bytes-of : (b : List ℕ) → areBytes b ≡ true → Bytes b
@@ -51,7 +52,7 @@ overlay-same f g (suc n) xs h = rw (overlay-same f g n xs (λ k l. h k (omega ar
 -- ---- the test
 unfoldable pub showsB : List ℕ → List Shown → Bool
 showsB b [] = true
-showsB b (shown n f v m ∷ l) = both (ltb n (nodeCount b)) (λ u. both (markedB (planOf b) n f v m) (λ u. showsB b l))
+showsB b (shown n f v m ∷ l) = both (both (ltb n (nodeCount b)) (λ u. ltb f (flagCount b))) (λ u. both (markedB (planOf b) n f v m) (λ u. showsB b l))
 
 unfoldable pub leftB : List ℕ → Trial → Bool
 leftB b t = allBelow (8 + nodeCount b) (λ k. eqb (shownByte (states (planOf b) (fresh (startOf b)) (t .calls)) k) (getD (t .left) k 0))
@@ -60,14 +61,17 @@ unfoldable pub holdsB : List ℕ → Trial → Bool
 holdsB b t = both (both (areBytes b) (λ u. eqb (refusal b) 0)) (λ u. both (decide (Verdict-discrete (verdict (planOf b) (startOf b)) (t .verdict)))
     (λ u. both (showsB b (t .marks)) (λ u. both (sameList (returns (planOf b) (fresh (startOf b)) (t .calls)) (t .returned)) (λ u. leftB b t))))
 
+shown-by : (b : List ℕ) (n f : ℕ) (v : Bool) (m : Mark) → f < flagCount b → Marked (planOf b) n f v m → ShownBy b n f v m
+shown-by b n f v m l x = record { marked = x; told = λ out out′ s. ⊎-elim (λ y. y .0) (λ y. absurd (y .1 x)) (s .marks refl f l v m) }
+
 shows-of : (b : List ℕ) → refusal b ≡ 0 → (l : List Shown) → T (showsB b l) → AllShown b l
 unfolding showsB
 shows-of b acc [] t = tt
 shows-of b acc (shown n f v m ∷ l) t =
-    let r : Reflects (both (ltb n (nodeCount b)) (λ u. both (markedB (planOf b) n f v m) (λ u. showsB b l))) ((n < nodeCount b) × (T (markedB (planOf b) n f v m) × T (showsB b l)))
-    = r-both _ _ (r-lt _ _) (r-both _ _ (r-T _) (r-T _)) in
-    let (k, (x, y)) = r .to t in
-    (marks-exact (planOf b) (means-well-formed b acc) n f (is-node b n k) v m .to x, shows-of b acc l y)
+    let r : Reflects (both (both (ltb n (nodeCount b)) (λ u. ltb f (flagCount b))) (λ u. both (markedB (planOf b) n f v m) (λ u. showsB b l))) (((n < nodeCount b) × (f < flagCount b)) × (T (markedB (planOf b) n f v m) × T (showsB b l)))
+    = r-both _ _ (r-both _ _ (r-lt _ _) (r-lt _ _)) (r-both _ _ (r-T _) (r-T _)) in
+    let ((k, j), (x, y)) = r .to t in
+    (shown-by b n f v m j (marks-exact (planOf b) (means-well-formed b acc) n f (is-node b n k) v m .to x), shows-of b acc l y)
 
 module _ (b : List ℕ) (t : Trial) (x : T (holdsB b t)) where
   abbrev p-returns : List ℕ

@@ -1,14 +1,15 @@
 -- `add_condition` meets its contract. Assumes nothing.
-use mathlib.Core.Path.{refl}
-use Prim.Native.Nat.{_%_}
+use Prim.Native.Nat.{_+_, _*_, _/_, _%_}
 use native.Mathlib.Omega.{arith}
-use Rattle.bits.proofs.Equations.{one-shl}
+use Rattle.tables.proofs.Conditions.{bit-added}
 use borrow.Author.Needs.{needs}
 use Rattle.tables.proofs.add_condition.Statement.{statement}
 use Rattle.tables.proofs.add_condition.Tie as tie
 
 returns : tie.Need-returns
-returns c = rw (one-shl (c .before .args .value % 64) (omega arith)) refl
+returns c =
+    let a = c .before .args in
+    bit-added (a .conds .now) (a .t * 6 + a .value / 64) (a .value % 64) (omega arith)
 
 pub add-condition-spec : {M : Type 1} → statement M
 add-condition-spec =

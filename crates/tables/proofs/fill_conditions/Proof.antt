@@ -1,4 +1,4 @@
--- `fill_conditions` meets its contract: the words have the first i conditions. Assumes nothing.
+-- `fill_conditions` meets its contract: the words have the first k conditions. Assumes nothing.
 use mathlib.Core.Path.{_≡_}
 use Prim.Native.Nat.{_≤_, _-_}
 use Rattle.format.specs.Format.{condCount}
@@ -11,10 +11,10 @@ use Rattle.tables.proofs.fill_conditions.Statement.{statement}
 use Rattle.tables.proofs.fill_conditions.Tie as tie
 
 abbrev Inv-loop : tie.InvT-loop
-Inv-loop plan conds₀ n i₀ conds i = (i ≤ condCount plan) × Noted plan conds i
+Inv-loop plan conds₀ n k₀ conds k = (k ≤ condCount plan) × Noted plan conds k
 
 abbrev μ-loop : tie.MeasureT-loop
-μ-loop plan conds₀ n i₀ conds i = n - i
+μ-loop plan conds₀ n k₀ conds k = n - k
 
 conditions-requires : tie.Need-conditions-requires Inv-loop μ-loop
 conditions-requires c κs = clean _ (c .before .pre .0) .fits .limits .long
@@ -33,7 +33,7 @@ add-condition-requires c κs =
     let l = c .before .before .before .before .before in
     let u = clean _ (l .before .before .before .pre .0) in
     let v = usable _ (u .fits) (u .conditions) in
-    (omega (arith, v .node (l .loop .i) (omega arith)), omega (arith, v .value (l .loop .i) (omega arith)), l .loop .inv .1 .long)
+    (omega (arith, v .node (l .loop .k) (omega arith)), omega (arith, v .value (l .loop .k) (omega arith)), l .loop .inv .1 .long)
 
 loop-again : tie.Need-loop-again Inv-loop μ-loop
 loop-again c =
@@ -41,13 +41,13 @@ loop-again c =
     let u = clean _ (l .before .before .before .pre .0) in
     let v = usable _ (u .fits) (u .conditions) in (
       omega arith,
-      noted-more (omega arith) (omega arith) (omega (arith, v .node (l .loop .i) (omega arith))) (omega (arith, v .value (l .loop .i) (omega arith))) (l .loop .inv .1) (c .add-condition .ensures),
+      noted-more (omega arith) (omega arith) (omega (arith, v .node (l .loop .k) (omega arith))) (omega (arith, v .value (l .loop .k) (omega arith))) (l .loop .inv .1) (c .add-condition .ensures),
     )
 
 returns : tie.Need-returns Inv-loop μ-loop
 returns c =
     let l = c .before in
-    let e : l .loop .i ≡ condCount (l .before .before .before .args .plan .now) = omega arith in
+    let e : l .loop .k ≡ condCount (l .before .before .before .args .plan .now) = omega arith in
     noted-all (l .before .before .before .pre .0) (rw e at (l .loop .inv .1))
 
 pub fill-conditions-spec : {M : Type 1} → statement M

@@ -5,7 +5,6 @@ use Rattle.format.specs.Format.{nodeCount}
 use Rattle.tables.proofs.NodeKinds.{Kinds, kinds-none, kinds-more, kinds-all}
 use Rattle.plan.proofs.Accepted.{clean}
 use native.Mathlib.Omega.{arith}
-use borrow.Author.Needs.{needs}
 use Rattle.tables.proofs.fill_kinds.Statement.{statement}
 use Rattle.tables.proofs.fill_kinds.Tie as tie
 

@@ -1,0 +1,139 @@
+-- The bytes of a summary, from the words of its node. Assumes nothing.
+use mathlib.Core.Path.{_≡_, refl, sym, ap, _∙_}
+use mathlib.Core.Logic.{_⊎_, inl, inr}
+use mathlib.Core.Bool.{Bool, true, false, cond, not}
+use mathlib.Core.List.{List}
+use Prim.Native.Nat.{ℕ, zero, suc, _+_, _*_, _/_, _%_, _^_, _≤_, _<_}
+use native.Mathlib.Omega.{arith}
+use lib.ListN.{length, getD}
+use lib.Dec.{T, eqb, ltb, eqb→eq, eqb-refl}
+use borrow.Author.Tests.{eq-eqb, ne-eqb, lt-ltb, le-ltb, ltb-true, ltb-false}
+use Rattle.bits.specs.Bits.{bit, Says}
+use Rattle.answers.specs.Answers.{first, overlay}
+use Rattle.answers.proofs.First.{first-none, first-some, both-none, check-passed}
+use Rattle.answers.proofs.Overlay.{at-overlay}
+use Rattle.format.specs.Format.{nodeCount, flagCount}
+use Rattle.rules.specs.Rules.{refusal}
+use Rattle.plan.specs.Meaning.{planOf, signNumber}
+use Rattle.plan.proofs.Meaning.{means, means-well-formed}
+use Rattle.runs.specs.Plan.{Plan, Node}
+use Rattle.runs.specs.Summary.{Mark, byteOf, Marked}
+use Rattle.runs.specs.Model.Marks.{markedB}
+use Rattle.runs.proofs.Reflect.{Reflects}
+use Rattle.runs.proofs.Summary.Exact.{marks-exact}
+use Rattle.words.specs.Tables.{signNum}
+use Rattle.literals.specs.Words.{wordOf, markAt, MarkWords}
+use Rattle.literals.proofs.Laws.{mark-small, mark-byte, byte-mark}
+use Rattle.summary.specs.Summary.{summaryRefusal, summaryByte, summaryLeft, Tells, Summarised}
+
+-- the digit of a bit that says what a test reflects
+pub digit-is : {w f : ℕ} {A : Type 0} (t : Bool) → Says w f A → Reflects t A → w / 2 ^ f % 2 ≡ cond t 1 0
+unfolding bit
+digit-is {w} {f} true s r = eqb→eq (w / 2 ^ f % 2) 1 (s .from (r .to tt))
+digit-is {w} {f} false s r = small (w / 2 ^ f % 2) (omega arith) (λ e. r .from (s .to (rw e tt)))
+  where
+    small : (d : ℕ) → d < 2 → (d ≡ 1 → ⊥) → d ≡ 0
+    small d l n = omega arith
+
+-- and back
+pub tells : {A : Type 0} (t : Bool) → Reflects t A → Tells (cond t 1 0) A
+tells true r = inl (refl, r .to tt)
+tells false r = inr (refl, r .from)
+
+-- an accepted plan's node
+pub node-of : (b : List ℕ) → refusal b ≡ 0 → (n : ℕ) → n < nodeCount b → Node (planOf b) n
+unfolding planOf
+node-of b e n l = means b e .accepted .nodes n .1 l
+
+sign-of : (d : ℕ) → d < 2 → signNum (eqb d 1) ≡ d
+sign-of zero l = refl
+sign-of (suc zero) l = refl
+sign-of (suc (suc d)) l = absurd (omega arith)
+
+sign-back : (v : Bool) → eqb (signNumber v) 1 ≡ v
+sign-back false = refl
+sign-back true = refl
+
+sign-below : (v : Bool) → signNumber v < 2
+sign-below false = omega arith
+sign-below true = omega arith
+
+module _ (b : List ℕ) (ok : refusal b ≡ 0) (n : ℕ) (l : n < nodeCount b) where
+  exact : (f : ℕ) (v : Bool) (m : Mark) → Reflects (markedB (planOf b) n f v m) (Marked (planOf b) n f v m)
+  exact f v m = marks-exact (planOf b) (means-well-formed b ok) n f (node-of b ok n l) v m
+
+  pub byte-is : {words : List ℕ} → MarkWords (planOf b) n words → (i : ℕ) → i < 1024 → getD words (i % 16) 0 / 2 ^ (i / 16) % 2 ≡ summaryByte b n i
+  unfolding summaryByte
+  byte-is {words} w i k =
+      let v = eqb (i / 8 % 2) 1 in
+      let m = markAt (i % 8) in
+      let at : i % 16 ≡ wordOf v m = omega (arith, sign-of (i / 8 % 2) (omega arith), byte-mark (i % 8) (omega arith)) in
+      let on : i / 16 ≡ i / 8 / 2 = omega arith in
+      rw (at, on) (digit-is (markedB (planOf b) n (i / 8 / 2) v m) (w .says v m (i / 8 / 2) (omega arith)) (exact (i / 8 / 2) v m))
+
+  byte-at : (f : ℕ) (v : Bool) (m : Mark) → summaryByte b n (8 * (2 * f + signNumber v) + byteOf m) ≡ cond (markedB (planOf b) n f v m) 1 0
+  unfolding summaryByte
+  byte-at f v m =
+      let i = 8 * (2 * f + signNumber v) + byteOf m in
+      let entry : i / 8 ≡ 2 * f + signNumber v = omega (arith, mark-small m) in
+      let flag : i / 8 / 2 ≡ f = omega (arith, entry, sign-below v) in
+      let sign : i / 8 % 2 ≡ signNumber v = omega (arith, entry, sign-below v) in
+      let mark : i % 8 ≡ byteOf m = omega (arith, mark-small m) in
+      rw (flag, sign, mark, sign-back v, mark-byte m)
+
+  pub byte-tells : (out : List ℕ) → 16 * flagCount b ≤ length out → (f : ℕ) → f < flagCount b → (v : Bool) (m : Mark)
+      → Tells (getD (overlay (summaryByte b n) (16 * flagCount b) out) (8 * (2 * f + signNumber v) + byteOf m) 0) (Marked (planOf b) n f v m)
+  byte-tells out long f k v m =
+      rw (
+        at-overlay (summaryByte b n) out (16 * flagCount b) (8 * (2 * f + signNumber v) + byteOf m) long (omega (arith, sign-below v, mark-small m)),
+        byte-at f v m,
+      ) (tells (markedB (planOf b) n f v m) (exact f v m))
+
+-- ---- refusals, forwards and backwards
+module _ (b : List ℕ) (n : ℕ) (out : List ℕ) where
+  pub refused-plan : (refusal b ≡ 0 → ⊥) → refusal b ≡ summaryRefusal b n out
+  unfolding summaryRefusal
+  refused-plan k = first-some (refusal b) _ k
+
+  pub refused-15 : refusal b ≡ 0 → length out < 16 * flagCount b → 15 ≡ summaryRefusal b n out
+  unfolding summaryRefusal
+  refused-15 e l = simp (e, lt-ltb _ _ l)
+
+  pub refused-17 : refusal b ≡ 0 → 16 * flagCount b ≤ length out → nodeCount b ≤ n → 17 ≡ summaryRefusal b n out
+  unfolding summaryRefusal
+  refused-17 e l k = simp (e, le-ltb _ _ l, le-ltb _ _ k)
+
+  pub refused-none : refusal b ≡ 0 → 16 * flagCount b ≤ length out → n < nodeCount b → 0 ≡ summaryRefusal b n out
+  unfolding summaryRefusal
+  refused-none e l k = simp (e, le-ltb _ _ l, lt-ltb _ _ k)
+
+  -- what an accepted call may rest on
+  pub record Accepted : Type 0 where
+    pub plan : refusal b ≡ 0
+    pub room : 16 * flagCount b ≤ length out
+    pub node : n < nodeCount b
+
+  pub accepted : summaryRefusal b n out ≡ 0 → Accepted
+  unfolding summaryRefusal
+  accepted e =
+      let w = both-none (refusal b) _ e in
+      let x = check-passed (ltb (length out) (16 * flagCount b)) 14 _ (w .1) in
+      let y = check-passed (not (ltb n (nodeCount b))) 16 0 (x .1) in
+      record { plan = w .0; room = ltb-false _ _ (x .0); node = ltb-true _ _ (not-false (ltb n (nodeCount b)) (y .0)) }
+    where
+      not-false : (t : Bool) → not t ≡ false → t ≡ true
+      not-false true q = refl
+      not-false false q = sym q
+
+  -- the whole call, refused and accepted
+  pub summary-refused : {r : ℕ} → r ≡ summaryRefusal b n out → (r ≡ 0 → ⊥) → Summarised b n out r out
+  unfolding summaryLeft
+  summary-refused e k = record { number = e; bytes = rw (ne-eqb (summaryRefusal b n out) 0 (λ z. k (e ∙ z))); marks = λ z. absurd (k z) }
+
+  pub summary-written : summaryRefusal b n out ≡ 0 → Summarised b n out 0 (overlay (summaryByte b n) (16 * flagCount b) out)
+  unfolding summaryLeft
+  summary-written e = record {
+    number = sym e;
+    bytes = rw (eq-eqb (summaryRefusal b n out) 0 e);
+    marks = λ z f k v m. byte-tells b (accepted e .plan) n (accepted e .node) out (accepted e .room) f k v m;
+  }
