@@ -6,6 +6,7 @@
 //! the compiler would take that for granted, and a comparison afterwards would show nothing.
 
 use crate::calls::Call;
+use crate::events::Event;
 
 mod c {
     extern "C" {
@@ -18,12 +19,38 @@ mod c {
             out: *mut u8,
             out_len: usize,
         ) -> u32;
+        pub fn knowetop_fresh(
+            plan: *const u8,
+            plan_len: usize,
+            state: *mut u8,
+            state_len: usize,
+        ) -> u32;
+        pub fn knowetop_start(
+            plan: *const u8,
+            plan_len: usize,
+            state: *mut u8,
+            state_len: usize,
+            task: usize,
+        ) -> u32;
+        pub fn knowetop_finish(
+            plan: *const u8,
+            plan_len: usize,
+            state: *mut u8,
+            state_len: usize,
+            task: usize,
+        ) -> u32;
+        pub fn knowetop_status(
+            plan: *const u8,
+            plan_len: usize,
+            state: *const u8,
+            state_len: usize,
+        ) -> u32;
     }
 }
 
 /// Whether the archive has the call already.
 pub fn has(call: Call) -> bool {
-    matches!(call, Call::Refusal | Call::Verdict | Call::Summary(_))
+    call != Call::Listing
 }
 
 /// Makes a call that the archive has.
@@ -36,7 +63,15 @@ pub fn make(call: Call, plan: &mut [u8], lent: &mut [u8]) -> u32 {
             Call::Refusal => c::knowetop_refusal(plan, plan_len),
             Call::Verdict => c::knowetop_verdict(plan, plan_len),
             Call::Summary(node) => c::knowetop_summary(plan, plan_len, node, lent, lent_len),
-            _ => panic!("{call:?} is not in the archive yet"),
+            Call::Fresh => c::knowetop_fresh(plan, plan_len, lent, lent_len),
+            Call::Event(Event::Start(task)) => {
+                c::knowetop_start(plan, plan_len, lent, lent_len, task)
+            }
+            Call::Event(Event::Finish(task)) => {
+                c::knowetop_finish(plan, plan_len, lent, lent_len, task)
+            }
+            Call::Status => c::knowetop_status(plan, plan_len, lent, lent_len),
+            Call::Listing => panic!("the listing is not in the archive yet"),
         }
     }
 }

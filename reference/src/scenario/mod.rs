@@ -40,18 +40,18 @@ impl Case {
     #[track_caller]
     pub fn compare(&self, other: impl FnOnce(Call, &mut [u8], &mut [u8]) -> u32) -> u32 {
         match self.compared(&Answers::by_rules(&self.plan), other) {
-            Ok(returned) => returned,
+            Ok(after) => after.returned,
             Err(message) => panic!("{message}"),
         }
     }
 
-    /// The return in these answers to the plan, or how the other calls return or leave something
-    /// else.
+    /// What these answers to the plan return and leave, or how the other calls return or leave
+    /// something else.
     pub fn compared(
         &self,
         answers: &Answers,
         other: impl FnOnce(Call, &mut [u8], &mut [u8]) -> u32,
-    ) -> Result<u32, String> {
+    ) -> Result<After, String> {
         let want = self.make(|call, _, lent| answers.make(call, lent));
         let found = self.make(other);
         let wrong = if found.returned != want.returned {
@@ -61,7 +61,7 @@ impl Case {
         } else if found.lent != want.lent {
             format!("leaves {}, not {}", hex(&found.lent), hex(&want.lent))
         } else {
-            return Ok(want.returned);
+            return Ok(want);
         };
         let (call, plan, lent) = (self.call, hex(&self.plan), hex(&self.lent));
         Err(format!(

@@ -3,7 +3,7 @@
 use std::collections::BTreeMap;
 use std::fmt;
 
-use super::Case;
+use super::{After, Case};
 use crate::archive;
 use crate::calls::{Answers, Call};
 
@@ -15,15 +15,16 @@ pub struct Tally {
 }
 
 impl Tally {
-    /// Archive and reference agree on the case, whose return is returned.
+    /// Archive and reference agree on what the case returns and leaves.
     #[track_caller]
-    pub fn compare(&mut self, answers: &Answers, case: &Case) -> u32 {
-        let returned = match case.compared(answers, archive::make) {
-            Ok(returned) => returned,
+    pub fn compare(&mut self, answers: &Answers, case: &Case) -> After {
+        match case.compared(answers, archive::make) {
+            Ok(after) => {
+                *self.count(case.call, after.returned) += 1;
+                after
+            }
             Err(message) => panic!("the archive differs: {message}"),
-        };
-        *self.count(case.call, returned) += 1;
-        returned
+        }
     }
 
     fn count(&mut self, call: Call, returned: u32) -> &mut usize {

@@ -9,7 +9,6 @@ use reference::format::{
 use reference::generate::{any_plan, dense_plan, LIMITS};
 use reference::random::Random;
 use reference::scenario::lists::{list, replay};
-use reference::scenario::reference;
 
 use crate::{make, shown};
 
@@ -168,7 +167,8 @@ fn check(random: &mut Random, plan: &Plan, calls: usize, counts: &mut [usize; 23
     let extra = random.below(4);
     let lent = random.bytes(state_len + extra);
     let bytes = plan.bytes();
-    let afters = replay(&bytes, &list, lent.clone(), reference);
+    let by_both = |call, plan: &mut [u8], lent: &mut [u8]| make(call, plan, lent);
+    let afters = replay(&bytes, &list, lent.clone(), by_both);
     let mut past = Past {
         plan,
         accepted: Vec::new(),

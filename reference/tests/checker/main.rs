@@ -73,7 +73,8 @@ fn entries(plan: &[u8], node: usize) -> Vec<[u8; 8]> {
 
 /// What each call of a list returns.
 fn returns(plan: &[u8], list: &[Event]) -> Vec<u32> {
-    let afters = replay(plan, list, vec![7; 200], reference);
+    let by_both = |call, plan: &mut [u8], lent: &mut [u8]| make(call, plan, lent);
+    let afters = replay(plan, list, vec![7; 200], by_both);
     let mut returned = afters.iter().map(|after| after.returned);
     assert_eq!(returned.next(), Some(0), "fresh");
     returned.collect()

@@ -36,7 +36,8 @@ impl Tally {
             plan: bytes.to_vec(),
             lent: Vec::new(),
         };
-        self.comparisons.compare(&Answers::by_rules(bytes), &case)
+        let after = self.comparisons.compare(&Answers::by_rules(bytes), &case);
+        after.returned
     }
 
     /// Archive and reference agree on the refusal, and it is the expected one.
