@@ -17,7 +17,7 @@ use Rattle.state.specs.State.{worldOf}
 use Rattle.calls.specs.Lists.{Listed}
 use Rattle.summary.specs.Verdict.{Assessed}
 use Rattle.calls.specs.Demand3.{Bytes, Demand3}
-use Rattle.calls.proofs.Followed.{list-follows, list-made}
+use Rattle.calls.proofs.Followed.{list-follows, list-made, list-parted}
 
 module _ (b : List ℕ) (h : Bytes b) (acc : refusal b ≡ 0) where
   on-plans : plans.Demand3 (planOf b) (startOf b)
@@ -40,7 +40,8 @@ module _ (b : List ℕ) (h : Bytes b) (acc : refusal b ≡ 0) where
       record {
         made = list-made b acc;
         follows = list-follows b h;
-        answer = λ r x. x .judged acc;
+        parted = list-parted b;
+        answer = λ r x. let (v, j, u) = on-plans .judged in (v, x .judged acc v .1 j, j, u);
         clear = λ r x. (
           λ q s cs rs z l. let f = list-follows b h s cs rs z l in on-plans .clear .0 (x .judged acc CLEAR .0 q) cs rs (f .after) (f .worked),
           λ g. x .judged acc CLEAR .1 (on-plans .clear .1 (never-worked g)),

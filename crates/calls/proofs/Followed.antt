@@ -1,6 +1,6 @@
 -- Lists of calls by the relations that the calls promise: they return what 01 works out, and the state after them shows the states worked out. Assumes nothing.
 use mathlib.Core.Path.{_≡_, refl, sym, ap, _∙_}
-use mathlib.Core.List.{List, [], _∷_}
+use mathlib.Core.List.{List, [], _∷_, _++_}
 use Prim.Native.Nat.{ℕ, _+_, _≤_}
 use native.Mathlib.Omega.{arith}
 use lib.ListN.{length}
@@ -18,7 +18,7 @@ use Rattle.state.proofs.Shown.{fresh-started}
 use Rattle.progress.proofs.Sound.{well-formed}
 use Rattle.monitor.specs.Events.{eventReturn, eventState, Called}
 use Rattle.monitor.proofs.Events.{event-steps}
-use Rattle.calls.specs.Lists.{Calls, no-calls, next-call, Listed}
+use Rattle.calls.specs.Lists.{Calls, no-calls, next-call, Listed, Parted}
 use Rattle.calls.specs.Demand3.{Bytes, Follows}
 use Rattle.calls.proofs.Kept.{Kept, fresh-kept, event-kept, shown-is}
 
@@ -75,3 +75,30 @@ module _ (b : List ℕ) where
   list-made acc s l cs =
       let m = make cs (freshState b s) in
       (m .returns, m .leaves, record { at-first = freshState b s; freshened = record { returns = room-long b s acc l; leaves = refl }; called = m .made })
+
+  -- the calls up to any one are a list
+  record Cut (s : List ℕ) (cs ds : List Call) (rs z : List ℕ) : Type 0 where
+    returned : List ℕ
+    rest : List ℕ
+    between : List ℕ
+    whole : rs ≡ returned ++ rest
+    before : Calls b s cs returned between
+    after : Calls b between ds rest z
+
+  cut : (cs : List Call) {ds : List Call} {s rs z : List ℕ} → Calls b s (cs ++ ds) rs z → Cut s cs ds rs z
+  cut [] {s = s} {rs = rs} x = record { returned = []; rest = rs; between = s; whole = refl; before = no-calls; after = x }
+  cut (one e ∷ cs) (next-call {r = r} x y) =
+      let c = cut cs y in
+      record { returned = r ∷ c .returned; rest = c .rest; between = c .between; whole = ap (λ (l : List ℕ). r ∷ l) (c .whole); before = next-call x (c .before); after = c .after }
+
+  pub list-parted : (s : List ℕ) (cs ds : List Call) (rs z : List ℕ) → Listed b s (cs ++ ds) rs z → Parted b s cs ds rs z
+  list-parted s cs ds rs z x =
+      let c = cut cs (x .called) in
+      record {
+        returned = c .returned;
+        rest = c .rest;
+        between = c .between;
+        whole = c .whole;
+        before = record { at-first = x .at-first; freshened = x .freshened; called = c .before };
+        after = c .after;
+      }

@@ -1,6 +1,7 @@
 -- A list of start and finish calls on one plan, by the relations that the calls promise.
 use Prim.Native.Nat.{ℕ}
-use mathlib.Core.List.{List, [], _∷_}
+use mathlib.Core.Path.{_≡_}
+use mathlib.Core.List.{List, [], _∷_, _++_}
 use Rattle.runs.specs.Execution.{Event}
 use Rattle.runs.specs.Calls.{Call, one}
 use Rattle.state.specs.Fresh.{Freshened}
@@ -16,3 +17,12 @@ pub record Listed (b s : List ℕ) (cs : List Call) (rs : List ℕ) (z : List �
   pub at-first : List ℕ
   pub freshened : Freshened b s 0 at-first
   pub called : Calls b at-first cs rs z
+
+-- a list of the calls cs and then ds, parted between the two: the first calls are a list of their own
+pub record Parted (b s : List ℕ) (cs ds : List Call) (rs z : List ℕ) : Type 0 where
+  pub returned : List ℕ
+  pub rest : List ℕ
+  pub between : List ℕ
+  pub whole : rs ≡ returned ++ rest
+  pub before : Listed b s cs returned between
+  pub after : Calls b between ds rest z
