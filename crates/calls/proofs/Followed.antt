@@ -2,17 +2,16 @@
 use mathlib.Core.Path.{_≡_, refl, sym, ap, _∙_}
 use mathlib.Core.List.{List, [], _∷_, _++_}
 use Prim.Native.Nat.{ℕ, _+_, _≤_}
-use native.Mathlib.Omega.{arith}
 use lib.ListN.{length}
 use Rattle.format.specs.Format.{nodeCount}
 use Rattle.rules.specs.Rules.{refusal}
 use Rattle.plan.specs.Meaning.{planOf, startOf}
 use Rattle.runs.specs.Execution.{Event}
-use Rattle.runs.specs.Calls.{Call, one, World, Answered, Worked}
+use Rattle.runs.specs.Calls.{Call, one, Answered, Worked}
 use Rattle.runs.specs.Calls as runs
 use Rattle.runs.proofs.Calls.First.{answered}
 use Rattle.state.specs.State.{stateRefusal, roomRefusal, worldOf}
-use Rattle.state.specs.Fresh.{Freshened, freshState}
+use Rattle.state.specs.Fresh.{freshState}
 use Rattle.state.proofs.Refused.{room-long}
 use Rattle.state.proofs.Shown.{fresh-started}
 use Rattle.progress.proofs.Sound.{well-formed}
@@ -76,29 +75,9 @@ module _ (b : List ℕ) where
       let m = make cs (freshState b s) in
       (m .returns, m .leaves, record { at-first = freshState b s; freshened = record { returns = room-long b s acc l; leaves = refl }; called = m .made })
 
-  -- the calls up to any one are a list
-  record Cut (s : List ℕ) (cs ds : List Call) (rs z : List ℕ) : Type 0 where
-    returned : List ℕ
-    rest : List ℕ
-    between : List ℕ
-    whole : rs ≡ returned ++ rest
-    before : Calls b s cs returned between
-    after : Calls b between ds rest z
-
-  cut : (cs : List Call) {ds : List Call} {s rs z : List ℕ} → Calls b s (cs ++ ds) rs z → Cut s cs ds rs z
-  cut [] {s = s} {rs = rs} x = record { returned = []; rest = rs; between = s; whole = refl; before = no-calls; after = x }
-  cut (one e ∷ cs) (next-call {r = r} x y) =
-      let c = cut cs y in
+  -- the calls up to any one are made as if no more followed
+  pub calls-parted : (s : List ℕ) (cs ds : List Call) (rs z : List ℕ) → Calls b s (cs ++ ds) rs z → Parted b s cs ds rs z
+  calls-parted s [] ds rs z x = record { returned = []; rest = rs; between = s; whole = refl; before = no-calls; after = x }
+  calls-parted s (one e ∷ cs) ds rs z (next-call {s′ = s′} {r = r} {rs = ns} x y) =
+      let c = calls-parted s′ cs ds ns z y in
       record { returned = r ∷ c .returned; rest = c .rest; between = c .between; whole = ap (λ (l : List ℕ). r ∷ l) (c .whole); before = next-call x (c .before); after = c .after }
-
-  pub list-parted : (s : List ℕ) (cs ds : List Call) (rs z : List ℕ) → Listed b s (cs ++ ds) rs z → Parted b s cs ds rs z
-  list-parted s cs ds rs z x =
-      let c = cut cs (x .called) in
-      record {
-        returned = c .returned;
-        rest = c .rest;
-        between = c .between;
-        whole = c .whole;
-        before = record { at-first = x .at-first; freshened = x .freshened; called = c .before };
-        after = c .after;
-      }

@@ -12,17 +12,17 @@ pub data Calls (b : List ℕ) : List ℕ → List Call → List ℕ → List ℕ
   no-calls : {s : List ℕ} → Calls b s [] [] s
   next-call : {s s′ z : List ℕ} {e : Event} {cs : List Call} {r : ℕ} {rs : List ℕ} → Called b s e r s′ → Calls b s′ cs rs z → Calls b s (one e ∷ cs) (r ∷ rs) z
 
--- a list begins with the state that fresh wrote into the bytes s
-pub record Listed (b s : List ℕ) (cs : List Call) (rs : List ℕ) (z : List ℕ) : Type 0 where
-  pub at-first : List ℕ
-  pub freshened : Freshened b s 0 at-first
-  pub called : Calls b at-first cs rs z
-
--- a list of the calls cs and then ds, parted between the two: the first calls are a list of their own
+-- the calls cs and then ds, parted between the two
 pub record Parted (b s : List ℕ) (cs ds : List Call) (rs z : List ℕ) : Type 0 where
   pub returned : List ℕ
   pub rest : List ℕ
   pub between : List ℕ
   pub whole : rs ≡ returned ++ rest
-  pub before : Listed b s cs returned between
+  pub before : Calls b s cs returned between
   pub after : Calls b between ds rest z
+
+-- a list begins with the state that fresh wrote into the bytes s
+pub record Listed (b s : List ℕ) (cs : List Call) (rs : List ℕ) (z : List ℕ) : Type 0 where
+  pub at-first : List ℕ
+  pub freshened : Freshened b s 0 at-first
+  pub called : Calls b at-first cs rs z
