@@ -4,7 +4,7 @@ use mathlib.Core.Logic.{_≢_}
 use mathlib.Core.List.{List}
 use Prim.Native.Nat.{ℕ, _+_}
 use native.Mathlib.Omega.{arith}
-use lib.ListN.{length, replicate, length-replicate}
+use lib.ListN.{replicate, length-replicate}
 use Rattle.format.specs.Format.{nodeCount}
 use Rattle.rules.specs.Rules.{refusal}
 use Rattle.plan.specs.Meaning.{planOf, startOf}
@@ -15,9 +15,8 @@ use Rattle.runs.specs.Demand3 as plans
 use Rattle.runs.proofs.Calls.Demand3 as proved
 use Rattle.state.specs.State.{worldOf}
 use Rattle.calls.specs.Lists.{Listed}
-use Rattle.summary.specs.Verdict.{Assessed}
 use Rattle.calls.specs.Demand3.{Bytes, Demand3}
-use Rattle.calls.proofs.Followed.{list-follows, list-made}
+use Rattle.calls.proofs.Followed.{list-follows, list-made, calls-parted}
 
 module _ (b : List ℕ) (h : Bytes b) (acc : refusal b ≡ 0) where
   on-plans : plans.Demand3 (planOf b) (startOf b)
@@ -40,7 +39,8 @@ module _ (b : List ℕ) (h : Bytes b) (acc : refusal b ≡ 0) where
       record {
         made = list-made b acc;
         follows = list-follows b h;
-        answer = λ r x. x .judged acc;
+        parted = calls-parted b;
+        answer = λ r x. let (v, j, u) = on-plans .judged in (v, x .judged acc v .1 j, j, u);
         clear = λ r x. (
           λ q s cs rs z l. let f = list-follows b h s cs rs z l in on-plans .clear .0 (x .judged acc CLEAR .0 q) cs rs (f .after) (f .worked),
           λ g. x .judged acc CLEAR .1 (on-plans .clear .1 (never-worked g)),

@@ -1,24 +1,23 @@
 -- Lists of calls by the relations that the calls promise: they return what 01 works out, and the state after them shows the states worked out. Assumes nothing.
 use mathlib.Core.Path.{_≡_, refl, sym, ap, _∙_}
-use mathlib.Core.List.{List, [], _∷_}
+use mathlib.Core.List.{List, [], _∷_, _++_}
 use Prim.Native.Nat.{ℕ, _+_, _≤_}
-use native.Mathlib.Omega.{arith}
 use lib.ListN.{length}
 use Rattle.format.specs.Format.{nodeCount}
 use Rattle.rules.specs.Rules.{refusal}
 use Rattle.plan.specs.Meaning.{planOf, startOf}
 use Rattle.runs.specs.Execution.{Event}
-use Rattle.runs.specs.Calls.{Call, one, World, Answered, Worked}
+use Rattle.runs.specs.Calls.{Call, one, Answered, Worked}
 use Rattle.runs.specs.Calls as runs
 use Rattle.runs.proofs.Calls.First.{answered}
 use Rattle.state.specs.State.{stateRefusal, roomRefusal, worldOf}
-use Rattle.state.specs.Fresh.{Freshened, freshState}
+use Rattle.state.specs.Fresh.{freshState}
 use Rattle.state.proofs.Refused.{room-long}
 use Rattle.state.proofs.Shown.{fresh-started}
 use Rattle.progress.proofs.Sound.{well-formed}
 use Rattle.monitor.specs.Events.{eventReturn, eventState, Called}
 use Rattle.monitor.proofs.Events.{event-steps}
-use Rattle.calls.specs.Lists.{Calls, no-calls, next-call, Listed}
+use Rattle.calls.specs.Lists.{Calls, no-calls, next-call, Listed, Parted}
 use Rattle.calls.specs.Demand3.{Bytes, Follows}
 use Rattle.calls.proofs.Kept.{Kept, fresh-kept, event-kept, shown-is}
 
@@ -75,3 +74,10 @@ module _ (b : List ℕ) where
   list-made acc s l cs =
       let m = make cs (freshState b s) in
       (m .returns, m .leaves, record { at-first = freshState b s; freshened = record { returns = room-long b s acc l; leaves = refl }; called = m .made })
+
+  -- the calls up to any one are made as if no more followed
+  pub calls-parted : (s : List ℕ) (cs ds : List Call) (rs z : List ℕ) → Calls b s (cs ++ ds) rs z → Parted b s cs ds rs z
+  calls-parted s [] ds rs z x = record { returned = []; rest = rs; between = s; whole = refl; before = no-calls; after = x }
+  calls-parted s (one e ∷ cs) ds rs z (next-call {s′ = s′} {r = r} {rs = ns} x y) =
+      let c = calls-parted s′ cs ds ns z y in
+      record { returned = r ∷ c .returned; rest = c .rest; between = c .between; whole = ap (λ (l : List ℕ). r ∷ l) (c .whole); before = next-call x (c .before); after = c .after }

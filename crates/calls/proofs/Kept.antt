@@ -1,15 +1,14 @@
 -- What lists keep: a state's length, its bytes from 8 + N on, and that its flags are bytes; and the bytes of a state by what it shows. Assumes nothing.
-use mathlib.Core.Path.{_≡_, refl, sym, ap, _∙_}
+use mathlib.Core.Path.{_≡_, refl, sym, _∙_}
 use mathlib.Core.Logic.{by-cases, ⊎-elim}
-use mathlib.Core.Bool.{Bool, true, false}
+use mathlib.Core.Bool.{true, false}
 use mathlib.Core.List.{List}
 use Prim.Native.Nat.{ℕ, zero, suc, _+_, _-_, _<_, _≤_}
 use native.Mathlib.Decide.{ℕ-discrete, decLt}
 use native.Mathlib.Omega.{arith}
 use lib.ListN.{length, getD, take, List·getD-eq-default}
 use lib.Seq.{ext-getD, getD-take, length-take-le}
-use lib.Dec.{eqb}
-use borrow.Author.Tests.{eq-eqb, eqb-true, not-false, lt-ltb, le-ltb}
+use borrow.Author.Tests.{eqb-true, not-false, lt-ltb, le-ltb}
 use Rattle.format.specs.Format.{nodeCount, isKind}
 use Rattle.rules.specs.Search.{someBelow}
 use Rattle.rules.proofs.Laws.{either, or-none, none-at}
@@ -18,7 +17,7 @@ use Rattle.plan.proofs.Meaning.{kind-is}
 use Rattle.runs.specs.Execution.{Event, nodeOf, statusOf}
 use Rattle.runs.specs.Calls.{one, statusByte}
 use Rattle.runs.specs.Model.Monitor.{returned}
-use Rattle.state.specs.State.{byteOf, badFlag, badByte, malformed, roomRefusal, stateRefusal, statusAt, statusIn, flagShown, worldOf}
+use Rattle.state.specs.State.{byteOf, badFlag, badByte, malformed, roomRefusal, stateRefusal, statusAt, statusIn, worldOf}
 use Rattle.state.specs.Fresh.{freshByte, freshState}
 use Rattle.answers.specs.Answers.{overlay}
 use Rattle.state.proofs.Refused.{roomy, state-well}
@@ -28,7 +27,7 @@ use Rattle.progress.proofs.Sound.{has-room, byte-small}
 use Rattle.monitor.specs.Events.{placeOf, withEvent, eventState}
 use Rattle.monitor.proofs.Chain.{answer-task, refused-22, accepted}
 use Rattle.monitor.proofs.Events.{next-length, byte-other, byte-flags}
-use Rattle.calls.specs.Shown.{flagByte, shownByte}
+use Rattle.calls.specs.Shown.{shownByte}
 use Rattle.calls.specs.Demand3.{Bytes}
 use Rattle.calls.proofs.Bytes.{flag-byte, made-small}
 

@@ -1,49 +1,46 @@
 -- The laws of `replay`: a list is made call by call, and the claim about lists holds of what was made. Assumes nothing.
 use mathlib.Core.Path.{_≡_, refl, sym, ap, _∙_}
-use mathlib.Core.Bool.{Bool, true, false, cond}
+use mathlib.Core.Bool.{Bool, false}
 use mathlib.Core.List.{List, [], _∷_, _++_, append-assoc}
 use Prim.Native.Nat.{ℕ, zero, suc, _+_, _<_, _≤_, min}
 use native.Mathlib.Numerals.{add-one}
 use native.Mathlib.Nat.{le-of-suc-le-suc, not-suc-le-zero}
 use native.Mathlib.Omega.{arith}
 use lib.ListN.{length, getD, set, take, drop, length-append, length-drop}
-use lib.Seq.{take-suc, drop-cons, set-at, take-all}
-use lib.Dec.{eqb}
-use borrow.Author.Tests.{eq-eqb, ne-eqb}
+use lib.Seq.{take-suc, drop-cons, set-at}
+use borrow.Author.Tests.{ne-eqb}
 use Rattle.answers.specs.Answers.{overlay}
 use Rattle.format.specs.Format.{nodeCount}
-use Rattle.plan.specs.Meaning.{planOf, startOf}
+use Rattle.plan.specs.Meaning.{planOf}
 use Rattle.runs.specs.Execution.{Event, start}
 use Rattle.runs.specs.Calls.{Call, one, World}
-use Rattle.runs.specs.Model.Monitor.{returns, states}
+use Rattle.runs.specs.Model.Monitor.{returns}
 use Rattle.runs.proofs.Calls.First.{worked-only}
-use Rattle.state.specs.State.{roomRefusal}
-use Rattle.state.specs.Fresh.{Freshened, freshState}
+use Rattle.state.specs.Fresh.{Freshened}
 use Rattle.state.proofs.Left.{fresh-refused}
 use Rattle.progress.proofs.Sound.{well-formed}
 use Rattle.monitor.specs.Events.{Called}
 use Rattle.calls.specs.Shown.{shownByte}
 use Rattle.calls.specs.Lists.{Calls, no-calls, next-call, Listed}
-use Rattle.calls.specs.Demand3.{Bytes, Follows}
+use Rattle.calls.specs.Demand3.{Bytes}
 use Rattle.calls.specs.Replay.{eventFor, callsOf, listReturns, listState, Ran}
 use Rattle.calls.proofs.Followed.{list-follows}
 
 -- ---- the calls of the slices
-module _ where
-  pub calls-length : (ks : List Bool) (ts out : List ℕ) → length (callsOf ks ts out) ≡ min (length ks) (min (length ts) (length out))
-  unfolding callsOf
-  calls-length [] ts out = omega arith
-  calls-length (k ∷ ks) [] out = omega arith
-  calls-length (k ∷ ks) (t ∷ ts) [] = omega arith
-  calls-length (k ∷ ks) (t ∷ ts) (x ∷ out) = omega (arith, calls-length ks ts out)
+pub calls-length : (ks : List Bool) (ts out : List ℕ) → length (callsOf ks ts out) ≡ min (length ks) (min (length ts) (length out))
+unfolding callsOf
+calls-length [] ts out = omega arith
+calls-length (k ∷ ks) [] out = omega arith
+calls-length (k ∷ ks) (t ∷ ts) [] = omega arith
+calls-length (k ∷ ks) (t ∷ ts) (x ∷ out) = omega (arith, calls-length ks ts out)
 
-  pub calls-at : (ks : List Bool) (ts out : List ℕ) (i : ℕ) → i < length (callsOf ks ts out) → getD (callsOf ks ts out) i (one (start 0)) ≡ one (eventFor (getD ks i false) (getD ts i 0))
-  unfolding callsOf
-  calls-at [] ts out i l = absurd (not-suc-le-zero l)
-  calls-at (k ∷ ks) [] out i l = absurd (not-suc-le-zero l)
-  calls-at (k ∷ ks) (t ∷ ts) [] i l = absurd (not-suc-le-zero l)
-  calls-at (k ∷ ks) (t ∷ ts) (x ∷ out) zero l = refl
-  calls-at (k ∷ ks) (t ∷ ts) (x ∷ out) (suc i) l = calls-at ks ts out i (le-of-suc-le-suc l)
+pub calls-at : (ks : List Bool) (ts out : List ℕ) (i : ℕ) → i < length (callsOf ks ts out) → getD (callsOf ks ts out) i (one (start 0)) ≡ one (eventFor (getD ks i false) (getD ts i 0))
+unfolding callsOf
+calls-at [] ts out i l = absurd (not-suc-le-zero l)
+calls-at (k ∷ ks) [] out i l = absurd (not-suc-le-zero l)
+calls-at (k ∷ ks) (t ∷ ts) [] i l = absurd (not-suc-le-zero l)
+calls-at (k ∷ ks) (t ∷ ts) (x ∷ out) zero l = refl
+calls-at (k ∷ ks) (t ∷ ts) (x ∷ out) (suc i) l = calls-at ks ts out i (le-of-suc-le-suc l)
 
 -- ---- one call more
 calls-more : {b s z z′ : List ℕ} {cs : List Call} {rs : List ℕ} {e : Event} {r : ℕ} → Calls b s cs rs z → Called b z e r z′ → Calls b s (cs ++ (one e ∷ [])) (rs ++ (r ∷ [])) z′

@@ -3,7 +3,7 @@
 use Prim.Native.Nat.{ℕ, _+_, _≤_, _<_}
 use mathlib.Core.Path.{_≡_}
 use mathlib.Core.Logic.{_≢_, _↔_, inr}
-use mathlib.Core.List.{List}
+use mathlib.Core.List.{List, _++_}
 use lib.ListN.{length, getD}
 use Rattle.format.specs.Format.{nodeCount}
 use Rattle.plan.specs.Meaning.{planOf, startOf}
@@ -18,7 +18,7 @@ use Rattle.monitor.specs.Status.{COMPLETE, Told}
 use Rattle.summary.specs.declared.Answer.{Answer}
 use Rattle.summary.specs.Verdict.{said, Assessed}
 use Rattle.calls.specs.Shown.{shownByte}
-use Rattle.calls.specs.Lists.{Listed}
+use Rattle.calls.specs.Lists.{Calls, Listed, Parted}
 
 -- the numbers of a list are bytes
 abbrev pub Bytes : List ℕ → Type 0
@@ -38,8 +38,10 @@ pub record Demand3 (b : List ℕ) : Type 0 where
   pub made : (s : List ℕ) → 8 + nodeCount b ≤ length s → (cs : List Call) → (rs : List ℕ) × (z : List ℕ) × Listed b s cs rs z
   -- each call returns what 01 works out from the plan and the calls up to it, and the state then shows the states worked out there
   pub follows : (s : List ℕ) (cs : List Call) (rs z : List ℕ) → Listed b s cs rs z → Follows b s cs rs z
+  -- so it is after every call of a list: from the state that fresh wrote, the calls up to any one are made as if no more followed
+  pub parted : (s : List ℕ) (cs ds : List Call) (rs z : List ℕ) → Calls b s (cs ++ ds) rs z → Parted b s cs ds rs z
   -- the answer is the one that 01 defines
-  pub answer : (r : Answer) → Assessed b r → (v : Verdict) → (said r ≡ inr v) ↔ Judged (planOf b) (startOf b) v
+  pub answer : (r : Answer) → Assessed b r → (v : Verdict) × (said r ≡ inr v) × Judged (planOf b) (startOf b) v × ((u : Verdict) → Judged (planOf b) (startOf b) u → u ≡ v)
   -- it is CLEAR exactly if no call in any list returns 21 or 22
   pub clear : (r : Answer) → Assessed b r
       → (said r ≡ inr CLEAR) ↔ ((s : List ℕ) (cs : List Call) (rs z : List ℕ) → Listed b s cs rs z → (n : ℕ) → Among n rs → (n ≢ 21) × (n ≢ 22))

@@ -1,10 +1,8 @@
 -- The answers of `status`. Assumes nothing.
-use mathlib.Core.Path.{_≡_, refl, sym, ap, _∙_}
-use mathlib.Core.Logic.{inl, inr, _⊎_, _↔_}
-use mathlib.Core.Bool.{Bool, true, false, true≢false}
+use mathlib.Core.Path.{_≡_, refl, sym, _∙_}
+use mathlib.Core.Bool.{true, false, true≢false}
 use mathlib.Core.List.{List}
 use Prim.Native.Nat.{ℕ}
-use native.Mathlib.Omega.{arith}
 use Rattle.answers.proofs.First.{answer-some}
 use Rattle.plan.specs.Meaning.{planOf}
 use Rattle.runs.specs.Execution as execution
@@ -13,9 +11,8 @@ use Rattle.runs.proofs.Reflect.{Reflects, clash}
 use Rattle.runs.proofs.Calls.Reflect.{r-complete}
 use Rattle.state.specs.State.{stateRefusal, statusIn}
 use Rattle.progress.proofs.Sound.{true-T, T-true, is-node, has-room, well-formed}
-use Rattle.monitor.specs.declared.Progress.{Progress}
 use Rattle.monitor.specs.declared.Progress.the-variants.{Refused, Complete, Unfinished}
-use Rattle.monitor.specs.Status.{Word, COMPLETE, UNFINISHED, said, wordFor, statusAnswer, Told}
+use Rattle.monitor.specs.Status.{wordFor, statusAnswer, Told}
 
 module _ (b s : List ℕ) where
   pub told-refused : (r : ℕ) → r ≡ stateRefusal b s → (r ≡ 0 → ⊥) → Told b s (Refused r)

@@ -46,7 +46,7 @@ pub fn status(plan: &[u8], state: &[u8]) -> Progress
 }
 
 // How a call moves its task on.
-pub enum Move {
+enum Move {
     Start,
     Finish,
 }
@@ -56,8 +56,8 @@ fn place_of(m: Move) -> u16
     ensures { λ r. ⌜ r ≡ placeNumber (placeOf (eventOf m 0)) ⌝ }
 {
     match m {
-        Move::Start => 1,
-        Move::Finish => 2,
+        Move::Start => 1u16,
+        Move::Finish => 2u16,
     }
 }
 
@@ -66,8 +66,8 @@ fn asked(m: Move) -> u8
     ensures { λ r. ⌜ r ≡ statusByte (asks (eventOf m 0)) ⌝ }
 {
     match m {
-        Move::Start => 0,
-        Move::Finish => 1,
+        Move::Start => 0u8,
+        Move::Finish => 1u8,
     }
 }
 
@@ -76,8 +76,8 @@ fn given(m: Move) -> u8
     ensures { λ r. ⌜ r ≡ statusByte (execution.statusOf (eventOf m 0)) ⌝ }
 {
     match m {
-        Move::Start => 1,
-        Move::Finish => 2,
+        Move::Start => 1u8,
+        Move::Finish => 2u8,
     }
 }
 

@@ -1,11 +1,11 @@
 -- A trial as one test that computes. Assumes nothing.
-use mathlib.Core.Path.{_≡_, refl, sym, ap, _∙_}
+use mathlib.Core.Path.{_≡_, refl, ap, _∙_}
 use mathlib.Core.Logic.{⊎-elim}
-use mathlib.Core.Bool.{Bool, true, false, _&&_, decide}
+use mathlib.Core.Bool.{Bool, true, decide}
 use mathlib.Core.List.{List, [], _∷_}
-use Prim.Native.Nat.{ℕ, zero, suc, _+_, _<_, _≤_}
+use Prim.Native.Nat.{ℕ, zero, suc, _+_, _<_}
 use native.Mathlib.Omega.{arith}
-use lib.ListN.{length, getD, set}
+use lib.ListN.{getD}
 use lib.Dec.{T, eqb, ltb}
 use lib.Pow.{areBytes}
 use borrow.Author.Tests.{ltb-true}
@@ -15,11 +15,10 @@ use Rattle.rules.specs.Rules.{refusal}
 use Rattle.rules.proofs.Laws.{and-both}
 use Rattle.plan.specs.Meaning.{planOf, startOf}
 use Rattle.plan.proofs.Meaning.{means-well-formed}
-use Rattle.runs.specs.Calls.{Call, World, fresh}
-use Rattle.runs.specs.Plan.{WellFormed}
+use Rattle.runs.specs.Calls.{World, fresh}
 use Rattle.runs.specs.Summary.{Mark, Marked}
 use Rattle.runs.specs.Tests.{both, allBelow}
-use Rattle.runs.specs.Verdict.{Verdict, Verdict-discrete}
+use Rattle.runs.specs.Verdict.{Verdict-discrete}
 use Rattle.runs.specs.Model.Marks.{markedB}
 use Rattle.runs.specs.Model.Monitor.{returns, states}
 use Rattle.runs.specs.Model.Verdicts.{verdict}
@@ -29,13 +28,11 @@ use Rattle.runs.proofs.Trials.Tables.{sameList, same-list}
 use Rattle.runs.proofs.Calls.First.{worked-only}
 use Rattle.progress.proofs.Sound.{T-true, is-node}
 use Rattle.calls.specs.Shown.{shownByte}
-use Rattle.calls.specs.Lists.{Listed}
 use Rattle.summary.specs.Verdict.{answerOf}
-use Rattle.summary.specs.Summary.{Summarised}
 use Rattle.calls.specs.Demand3.{Bytes}
 use Rattle.calls.proofs.Followed.{list-follows}
 use Rattle.trials.specs.Written.{bytesOf}
-use Rattle.trials.specs.Trial.{Shown, shown, ShownBy, AllShown, Trial, HoldsOf, Holds, AllHold}
+use Rattle.trials.specs.Trial.{Shown, shown, ShownBy, AllShown, Trial, HoldsOf, AllHold}
 
 -- ---- bytes
 bytes-of : (b : List ℕ) → areBytes b ≡ true → Bytes b

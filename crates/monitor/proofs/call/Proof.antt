@@ -1,5 +1,5 @@
 -- `monitor::call` meets its contract. Assumes nothing.
-use mathlib.Core.Path.{_≡_, sym, ap, _∙_}
+use mathlib.Core.Path.{_≡_, sym, _∙_}
 use denote.Ref.{now}
 use Rattle.plan.specs.Meaning.{planOf}
 use Rattle.plan.proofs.Meaning.{kind-is}

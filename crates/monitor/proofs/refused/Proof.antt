@@ -1,8 +1,7 @@
 -- `monitor::refused` meets its contract. Assumes nothing.
-use mathlib.Core.Path.{_≡_, refl, sym, ap, _∙_}
-use mathlib.Core.Bool.{Bool, true}
-use mathlib.Core.List.{List}
-use Prim.Native.Nat.{ℕ, _<_}
+use mathlib.Core.Path.{_≡_, sym, ap, _∙_}
+use mathlib.Core.Bool.{true}
+use Prim.Native.Nat.{_<_}
 use denote.Ref.{now}
 use borrow.Author.Tests.{not-true, not-false}
 use Rattle.format.specs.Format.{nodeCount, isKind}
@@ -12,12 +11,11 @@ use Rattle.runs.specs.Calls.{asks, statusByte}
 use Rattle.runs.specs.Plan.{Place}
 use Rattle.runs.specs.Execution.{Status}
 use Rattle.runs.specs.Model.Monitor.{incBrokenB}
-use Rattle.state.specs.State.{byteOf, stateRefusal, statusIn}
+use Rattle.state.specs.State.{byteOf, statusIn}
 use Rattle.progress.proofs.Sound.{has-room}
-use Rattle.monitor.specs.Events.{eventOf, placeOf, beginRefusal}
+use Rattle.monitor.specs.Events.{eventOf, beginRefusal}
 use Rattle.monitor.proofs.Chain.{asks-of, place-is, node-of, answer-17, answer-18, answer-begin, answer-broken, broken-by}
 use native.Mathlib.Omega.{arith}
-use borrow.Author.Needs.{needs}
 use Rattle.monitor.proofs.refused.Statement.{statement}
 use Rattle.monitor.proofs.refused.Tie as tie
 

@@ -1,5 +1,4 @@
 -- `monitor::write_event` meets its contract. Assumes nothing.
-use denote.Ref.{now}
 use Rattle.progress.proofs.Sound.{has-room}
 use Rattle.monitor.specs.Events.{withEvent}
 use borrow.Author.Needs.{needs}
