@@ -1,7 +1,7 @@
 //! Random lists of calls, against returns and states worked out anew from the plan and the calls
 //! accepted so far, never from a state's bytes.
 
-use reference::calls::{make, Call};
+use reference::calls::Call;
 use reference::events::Event::{self, Finish, Start};
 use reference::format::{
     Condition, Plan, Sizes, ALL_OF, ANY_OF, INCONDITION, POSTCONDITION, PRECONDITION, TASK,
@@ -11,7 +11,7 @@ use reference::random::Random;
 use reference::scenario::lists::{list, replay};
 use reference::scenario::reference;
 
-use crate::shown;
+use crate::{make, shown};
 
 /// A plan and the calls that were accepted, the latest last.
 struct Past<'a> {
