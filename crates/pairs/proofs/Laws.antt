@@ -20,7 +20,7 @@ use Rattle.words.specs.Siblings.{Narrows}
 use Rattle.words.proofs.Segments.{listed, every-next, every-none, every-child}
 use Rattle.words.proofs.Sibling.{cell, narrows-more}
 use Rattle.pairs.specs.declared.Literals.{Literals}
-use Rattle.pairs.specs.Pairs.{Between, Pair, SomePair, Pairing, wordOf, PairWords, Search}
+use Rattle.pairs.specs.Pairs.{Between, Pair, SomePair, Pairing, wordOf, PairWords, Unclobbered, Search}
 
 pub opposite : (v : Bool) (s : ℕ) → s ≡ signNum v → 1 - s ≡ signNum (not v)
 opposite true s e = rw e
@@ -143,8 +143,9 @@ module _ (from kids order rows : List ℕ) (size n : ℕ) (wanted : Literals) wh
   abbrev pub InnerNone : ℕ → ℕ → Type 0
   InnerNone c j = (p : Plan) → Pairing from kids order rows size n p → Every kids (getD from n 0) j (Nothing p c)
 
-  abbrev pub OuterNone : ℕ → Type 0
-  OuterNone i = (p : Plan) → Pairing from kids order rows size n p → Every kids (getD from n 0) i (λ c. (d : ℕ) → Child p n d → Nothing p c d)
+  -- the children from the first position on to i
+  abbrev pub OuterNone : ℕ → ℕ → Type 0
+  OuterNone first i = (p : Plan) → Pairing from kids order rows size n p → Every kids first i (Unclobbered p n wanted)
 
   word-zero : (r : Literals) → bitOr (r .clear) (r .set) ≡ 0 → (v : Bool) → wordOf r v ≡ 0
   word-zero r e false = (or-zero (r .clear) (r .set) e) .0
@@ -153,8 +154,8 @@ module _ (from kids order rows : List ℕ) (size n : ℕ) (wanted : Literals) wh
   pub inner-none : (c : ℕ) → InnerNone c (getD from n 0)
   inner-none c p g = record { each = λ j a b. absurd (omega arith) }
 
-  pub outer-none : OuterNone (getD from n 0)
-  outer-none p g = record { each = λ j a b. absurd (omega arith) }
+  pub outer-none : (first : ℕ) → OuterNone first first
+  outer-none first p g = record { each = λ j a b. absurd (omega arith) }
 
   pub inner-more : (i j : ℕ) (r : Literals) → getD from n 0 ≤ i → i < getD from (n + 1) 0 → getD from n 0 ≤ j → j < getD from (n + 1) 0
       → PairWords from kids order rows size n wanted (getD kids i 0) (getD kids j 0) r → bitOr (r .clear) (r .set) ≡ 0
@@ -164,24 +165,32 @@ module _ (from kids order rows : List ℕ) (size n : ℕ) (wanted : Literals) wh
     λ v f l t x. no-flag _ f (word-zero r e v) (w .says p g (kid g i a b) (kid g j a′ b′) v f l .from (t, x)),
   )
 
-  pub outer-more : (i : ℕ) → getD from n 0 ≤ i → InnerNone (getD kids i 0) (getD from (n + 1) 0) → OuterNone i → OuterNone (i + 1)
-  outer-more i a h o p g = (every-next a) .0 (o p g, (every-child (g .group .tree) (g .group .node) (λ d hd. (λ x. x, λ x. x))) .0 (h p g))
+  pub outer-more : (first i : ℕ) → first ≤ i → InnerNone (getD kids i 0) (getD from (n + 1) 0) → OuterNone first i → OuterNone first (i + 1)
+  outer-more first i a h o p g = (every-next a) .0 (o p g, (every-child (g .group .tree) (g .group .node) (λ d hd. (λ x. x, λ x. x))) .0 (h p g))
 
-  pub nothing-found : (r : Literals) → r .clear ≡ 0 → r .set ≡ 0 → OuterNone (getD from (n + 1) 0) → Search from kids order rows size n wanted r
-  nothing-found r x y o = record {
+  pub nothing-found : (first i : ℕ) (r : Literals) → first ≤ i → i ≡ getD from (n + 1) 0 → r .clear ≡ 0 → r .set ≡ 0 → OuterNone first i
+      → Search from kids order rows size n wanted first (record { literals = r; at = i })
+  nothing-found first i r a b x y o = record {
     among = λ v f l t. absurd (no-flag _ f (zero v) t);
     sound = λ p g v f l t. absurd (no-flag _ f (zero v) t);
-    complete = λ e p g v f l t z. (every-child (g .group .tree) (g .group .node) (λ d hd. (λ u. u, λ u. u))) .0 (o p g) (z .0) (z .1) (z .2 .0) (z .2 .1) v f l t (z .2 .2);
+    low = a;
+    high = omega (arith, b);
+    passed = o;
+    ended = λ e. b;
   }
     where
       zero : (v : Bool) → wordOf r v ≡ 0
       zero false = x
       zero true = y
 
-  pub pair-found : (i j : ℕ) (r : Literals) → getD from n 0 ≤ i → i < getD from (n + 1) 0 → getD from n 0 ≤ j → j < getD from (n + 1) 0
-      → PairWords from kids order rows size n wanted (getD kids i 0) (getD kids j 0) r → bitOr (r .clear) (r .set) ≢ 0 → Search from kids order rows size n wanted r
-  pair-found i j r a b a′ b′ w ne = record {
+  pub pair-found : (first i j : ℕ) (r : Literals) → getD from n 0 ≤ first → first ≤ i → i < getD from (n + 1) 0 → getD from n 0 ≤ j → j < getD from (n + 1) 0
+      → PairWords from kids order rows size n wanted (getD kids i 0) (getD kids j 0) r → bitOr (r .clear) (r .set) ≢ 0 → OuterNone first i
+      → Search from kids order rows size n wanted first (record { literals = r; at = i })
+  pair-found first i j r z a b a′ b′ w ne o = record {
     among = w .among;
-    sound = λ p g v f l t. (_, kid g i a b, (_, kid g j a′ b′, (w .says p g (kid g i a b) (kid g j a′ b′) v f l .to t) .1));
-    complete = λ e. absurd (ne e);
+    sound = λ p g v f l t. (_, kid g i (omega arith) b, (_, kid g j a′ b′, (w .says p g (kid g i (omega arith) b) (kid g j a′ b′) v f l .to t) .1));
+    low = a;
+    high = omega arith;
+    passed = o;
+    ended = λ e. absurd (ne e);
   }

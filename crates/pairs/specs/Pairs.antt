@@ -3,9 +3,10 @@ use mathlib.Core.Path.{_≡_}
 use mathlib.Core.Logic.{_≢_, _⊎_}
 use mathlib.Core.Bool.{Bool, true, false, not}
 use mathlib.Core.List.{List}
-use Prim.Native.Nat.{ℕ, _<_}
+use Prim.Native.Nat.{ℕ, _+_, _≤_, _<_}
 use lib.Bits.{bitOr}
 use lib.Dec.{T}
+use lib.ListN.{getD}
 use Rattle.bits.specs.Bits.{bit, Says}
 use Rattle.runs.specs.Plan.{Plan, Child, Before, Unordered}
 use Rattle.runs.specs.Summary.{Must, ExternalPre, ExternalPost, Silent}
@@ -13,6 +14,8 @@ use Rattle.words.specs.Tables.{signNum, RepresentsOrder}
 use Rattle.words.specs.Columns.{avoid, may-pre, may-post, requires, asserts}
 use Rattle.words.specs.Columns.{Fact}
 use Rattle.words.specs.Groups.{Group}
+use Rattle.words.specs.Segments.{Every}
+use Rattle.pairs.specs.declared.Found.{Found}
 use Rattle.pairs.specs.declared.Literals.{Literals}
 
 module _ (p : Plan) (n f : ℕ) where
@@ -72,12 +75,20 @@ pub record PairWords (from kids order rows : List ℕ) (size n : ℕ) (wanted : 
   pub says : (p : Plan) → Pairing from kids order rows size n p → Child p n c → Child p n d → (v : Bool) (f : ℕ) → f < 64
       → Says (wordOf r v) f (T (bit (wordOf wanted v) f) × Pair p n f v c d)
 
--- What a search answers: wanted literals that some pair clobbers; none only if no wanted literal is clobbered by a pair.
-pub record Search (from kids order rows : List ℕ) (size n : ℕ) (wanted r : Literals) : Type 0 where
-  pub among : (v : Bool) (f : ℕ) → f < 64 → T (bit (wordOf r v) f) → T (bit (wordOf wanted v) f)
-  pub sound : (p : Plan) → Pairing from kids order rows size n p → (v : Bool) (f : ℕ) → f < 64 → T (bit (wordOf r v) f) → SomePair p n f v (Pair p n f v)
-  pub complete : bitOr (r .clear) (r .set) ≡ 0 → (p : Plan) → Pairing from kids order rows size n p → (v : Bool) (f : ℕ) → f < 64
-      → T (bit (wordOf wanted v) f) → ¬ SomePair p n f v (Pair p n f v)
+-- the child c clobbers no wanted literal in a pair with any child
+abbrev pub Unclobbered : Plan → ℕ → Literals → ℕ → Type 0
+Unclobbered p n wanted c = (d : ℕ) → Child p n d → (v : Bool) (f : ℕ) → f < 64 → T (bit (wordOf wanted v) f) → ¬ Pair p n f v c d
+
+-- What a search from a position on answers: wanted literals that some pair clobbers, and where it stands; no child passed clobbers a wanted literal, and with
+-- no literal it has passed all.
+pub record Search (from kids order rows : List ℕ) (size n : ℕ) (wanted : Literals) (first : ℕ) (r : Found) : Type 0 where
+  pub among : (v : Bool) (f : ℕ) → f < 64 → T (bit (wordOf (r .literals) v) f) → T (bit (wordOf wanted v) f)
+  pub sound : (p : Plan) → Pairing from kids order rows size n p → (v : Bool) (f : ℕ) → f < 64 → T (bit (wordOf (r .literals) v) f)
+      → SomePair p n f v (Pair p n f v)
+  pub low : first ≤ r .at
+  pub high : r .at ≤ getD from (n + 1) 0
+  pub passed : (p : Plan) → Pairing from kids order rows size n p → Every kids first (r .at) (Unclobbered p n wanted)
+  pub ended : bitOr (r .literals .clear) (r .literals .set) ≡ 0 → r .at ≡ getD from (n + 1) 0
 
 -- the wanted literals that some pair clobbers
 pub record AllPairs (from kids order rows : List ℕ) (size n : ℕ) (wanted r : Literals) : Type 0 where

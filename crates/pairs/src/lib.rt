@@ -1,8 +1,9 @@
 // The pairs of children of an all-of group that may clobber, or must clobber, a literal: for all flags at once, from the rows of the children.
 ghost use mathlib.Core.Path.{_≡_};
 ghost use mathlib.Core.Logic.{_↔_};
-ghost use Prim.Native.Nat.{ℕ, _+_, _*_, _<_};
+ghost use Prim.Native.Nat.{ℕ, _+_, _*_, _≤_, _<_};
 ghost use lib.Dec.{T};
+ghost use lib.ListN.{getD};
 ghost use Rattle.bits.specs.Bits.{bit};
 ghost use Rattle.words.specs.Tables.{code, Shaped};
 ghost use Rattle.pairs.specs.Pairs.{BetweenWord, PairWord, PairWords, Search, AllPairs};
@@ -125,7 +126,13 @@ fn pair_words(
     }
 }
 
-// Looks for a pair of children that clobbers a wanted literal; the search ends as soon as one is found, and answers the literals of that pair.
+// The literals of a pair that a search found, and the position of the pair's first child; with no literal, the end of the children.
+pub struct Found {
+    pub literals: Literals,
+    pub at: usize,
+}
+
+// Looks for a pair of children that clobbers a wanted literal, from a position of the first child on; the search ends as soon as one is found.
 pub fn clobbering_pair(
     from: &[u8; 129],
     kids: &[u8; 128],
@@ -134,14 +141,15 @@ pub fn clobbering_pair(
     n: usize,
     node: usize,
     wanted: Literals,
-) -> Literals
-    requires { ⌜ Shaped (now from) (now kids) n × (node < n) ⌝ }
-    ensures { λ r. ⌜ Search (now (from .entry)) (now (kids .entry)) (now (order .entry)) (now (rows .entry)) n node wanted r ⌝ }
+    first: usize,
+) -> Found
+    requires { ⌜ (Shaped (now from) (now kids) n × (node < n)) × ((getD (now from) node 0 ≤ first) × (first ≤ getD (now from) (node + 1) 0)) ⌝ }
+    ensures { λ r. ⌜ Search (now (from .entry)) (now (kids .entry)) (now (order .entry)) (now (rows .entry)) n node wanted first r ⌝ }
 {
     let end = wide(from[node + 1]);
     let start = wide(from[node]);
     let mut found = Literals { clear: 0, set: 0 };
-    let mut i = start;
+    let mut i = first;
     'search: while i < end {
         let c = wide(kids[i]);
         let mut j = start;
@@ -155,10 +163,13 @@ pub fn clobbering_pair(
         }
         i += 1;
     }
-    found
+    Found {
+        literals: found,
+        at: i,
+    }
 }
 
-// The wanted literals that some pair of children clobbers: the search is asked again for those still wanted.
+// The wanted literals that some pair of children clobbers: the search is asked again for those still wanted, and goes on at the child where it stood.
 pub fn clobbering_pairs(
     from: &[u8; 129],
     kids: &[u8; 128],
@@ -173,11 +184,14 @@ pub fn clobbering_pairs(
 {
     let mut left = wanted;
     let mut found = Literals { clear: 0, set: 0 };
+    let mut first = wide(from[node]);
     loop {
-        let pair = clobbering_pair(from, kids, order, rows, n, node, left);
+        let next = clobbering_pair(from, kids, order, rows, n, node, left, first);
+        let pair = next.literals;
         if (pair.clear | pair.set) == 0 {
             return found;
         }
+        first = next.at;
         found.clear = found.clear | pair.clear;
         found.set = found.set | pair.set;
         left.clear = left.clear ^ (left.clear & pair.clear);
