@@ -1,10 +1,10 @@
 -- The search asked again for the literals still wanted, until it finds none. Assumes nothing.
 use mathlib.Core.Path.{_≡_, refl}
-use mathlib.Core.Logic.{_≢_, _⊎_, inl, inr, _↔_, by-cases}
+use mathlib.Core.Logic.{_≢_, _⊎_, inl, inr, _↔_}
 use mathlib.Core.Bool.{Bool, true, false}
 use mathlib.Core.List.{List}
 use Prim.Native.Nat.{ℕ, _+_, _^_, _≤_, _<_}
-use native.Mathlib.Decide.{ℕ-discrete, decLt}
+use native.Mathlib.Decide.{ℕ-discrete}
 use native.Mathlib.Omega.{arith}
 use lib.Bits.{bitAnd, bitOr, bitXor}
 use lib.Dec.{T}
@@ -18,7 +18,7 @@ use Rattle.words.proofs.Segments.{every-child}
 use Rattle.pairs.specs.declared.Found.{Found}
 use Rattle.pairs.specs.declared.Literals.{Literals}
 use Rattle.pairs.specs.Pairs.{Pair, SomePair, Pairing, wordOf, Unclobbered, Search, AllPairs}
-use Rattle.pairs.proofs.Laws.{no-flag}
+use Rattle.pairs.proofs.Laws.{no-flag, joined}
 
 -- one literal word more, one less
 abbrev pub gained : Literals → Literals → Literals
@@ -39,10 +39,6 @@ lost-says a b true f = says-less {x = a .set} {y = b .set} refl (says-self _ f) 
 fewer-wanted : {p : Plan} {n : ℕ} (wanted left : Literals) {kids : List ℕ} {low high : ℕ} → ((v : Bool) (f : ℕ) → T (bit (wordOf left v) f) → T (bit (wordOf wanted v) f))
     → Every kids low high (Unclobbered p n wanted) → Every kids low high (Unclobbered p n left)
 fewer-wanted wanted left e h = record { each = λ i a b d hd v f l t. h .each i a b d hd v f l (e v f t) }
-
--- a part of the children and the part after it
-joined : {kids : List ℕ} {low high : ℕ} {Q : ℕ → Type 0} (middle : ℕ) → Every kids low middle Q → Every kids middle high Q → Every kids low high Q
-joined middle x y = record { each = λ i a b. by-cases (decLt i middle) (λ (l : i < middle). x .each i a l) (λ (k : ¬ (i < middle)). y .each i (omega arith) b) }
 
 module _ (from kids order rows : List ℕ) (size n : ℕ) (wanted : Literals) where
   -- the literals still wanted, those found, and where the search goes on: the children before clobber no literal that is still wanted

@@ -10,9 +10,9 @@ use lib.ListN.{getD}
 use Rattle.bits.specs.Bits.{bit, Says}
 use Rattle.runs.specs.Plan.{Plan, Child, Before, Unordered}
 use Rattle.runs.specs.Summary.{Must, ExternalPre, ExternalPost, Silent}
-use Rattle.words.specs.Tables.{signNum, RepresentsOrder}
+use Rattle.words.specs.Tables.{signNum, code, RepresentsOrder}
 use Rattle.words.specs.Columns.{avoid, may-pre, may-post, requires, asserts}
-use Rattle.words.specs.Columns.{Fact}
+use Rattle.words.specs.Columns.{Fact, wordAt}
 use Rattle.words.specs.Groups.{Group}
 use Rattle.words.specs.Segments.{Every}
 use Rattle.pairs.specs.declared.Found.{Found}
@@ -54,10 +54,24 @@ OfPlans from kids order rows size n Q = (p : Plan) → Pairing from kids order r
 abbrev pub SaysOf : ℕ → ℕ → (ℕ → Bool → Type 0) → Type 0
 SaysOf s r A = (v : Bool) → s ≡ signNum v → (f : ℕ) → f < 64 → Says r f (A f v)
 
--- the flags that the children between d and c can avoid
-abbrev pub BetweenWord : List ℕ → List ℕ → List ℕ → List ℕ → ℕ → ℕ → ℕ → ℕ → ℕ → Type 0
-BetweenWord from kids order rows size n c d r = OfPlans from kids order rows size n
-    (λ p. Child p n c → Child p n d → (f : ℕ) → f < 64 → Says r f (Between p n f c d))
+-- a part of the table of children
+pub record Part (kids : List ℕ) (low high : ℕ) : Type 0 where
+  pub rises : low ≤ high
+  pub ends : high ≤ 128
+  pub nodes : Every kids low high (λ b. b < 128)
+
+-- of the given flags, those for which every child in the part has Q
+pub record PartWord (kids : List ℕ) (low high flags : ℕ) (Q : ℕ → ℕ → Type 0) (r : ℕ) : Type 0 where
+  pub says : (f : ℕ) → f < 64 → Says r f (T (bit flags f) × Every kids low high (Q f))
+
+-- of the given flags, those that every child between d and c in the part can avoid, by the tables; that every child between d and c can avoid
+abbrev pub BetweenPart : List ℕ → List ℕ → List ℕ → ℕ → ℕ → ℕ → ℕ → ℕ → ℕ → Type 0
+BetweenPart kids order rows low high flags c d r = PartWord kids low high flags
+    (λ f b. (code order d b ≡ 1) × (code order b c ≡ 1) → T (bit (wordAt rows b 0) f)) r
+
+abbrev pub BetweenWord : List ℕ → List ℕ → List ℕ → List ℕ → ℕ → ℕ → ℕ → ℕ → ℕ → ℕ → Type 0
+BetweenWord from kids order rows size n flags c d r = OfPlans from kids order rows size n
+    (λ p. Child p n c → Child p n d → (f : ℕ) → f < 64 → Says r f (T (bit flags f) × Between p n f c d))
 
 -- the wanted flags of one sign that the pair c, d clobbers
 abbrev pub PairWord : List ℕ → List ℕ → List ℕ → List ℕ → ℕ → ℕ → ℕ → ℕ → ℕ → ℕ → ℕ → Type 0

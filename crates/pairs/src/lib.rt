@@ -5,14 +5,12 @@ ghost use Prim.Native.Nat.{ℕ, _+_, _*_, _≤_, _<_};
 ghost use lib.Dec.{T};
 ghost use lib.ListN.{getD};
 ghost use Rattle.bits.specs.Bits.{bit};
-ghost use Rattle.words.specs.Tables.{code, Shaped};
-ghost use Rattle.pairs.specs.Pairs.{BetweenWord, PairWord, PairWords, Search, AllPairs};
+ghost use Rattle.words.specs.Tables.{code, Position, Shaped};
+ghost use Rattle.pairs.specs.Pairs.{Part, BetweenPart, BetweenWord, PairWord, PairWords, Search, AllPairs};
 use words::apart;
 use words::narrowed;
 use words::wide;
 use words::word_at;
-
-const ALL: u64 = 18446744073709551615;
 
 // The first word of some columns; a column but the first has a word for each sign, clear and set.
 const AVOID: usize = 0;
@@ -42,7 +40,35 @@ fn stands_between(order: &[u8; 16384], d: usize, b: usize, c: usize) -> bool
     false
 }
 
-// The flags that every child between d and c can avoid.
+// Of the given flags, those that every child between d and c in a part of the table of children can avoid; it ends as soon as none is left.
+fn between_part(
+    kids: &[u8; 128],
+    order: &[u8; 16384],
+    rows: &[u64; 2688],
+    low: usize,
+    high: usize,
+    flags: u64,
+    c: usize,
+    d: usize,
+) -> u64
+    requires { ⌜ Part (now kids) low high × ((c < 128) × (d < 128)) ⌝ }
+    ensures { λ r. ⌜ BetweenPart (now (kids .entry)) (now (order .entry)) (now (rows .entry)) low high flags c d r ⌝ }
+{
+    let mut left = flags;
+    let mut i = low;
+    while i < high {
+        if left == 0 {
+            return 0;
+        }
+        let b = wide(kids[i]);
+        left = narrowed(left, stands_between(order, d, b, c), word_at(rows, b, AVOID));
+        i += 1;
+    }
+    left
+}
+
+// Of the given flags, those that every child between d and c can avoid; d is the child at j. The children after d in the table come first: there the flags
+// are soonest settled.
 fn between(
     from: &[u8; 129],
     kids: &[u8; 128],
@@ -50,28 +76,22 @@ fn between(
     rows: &[u64; 2688],
     n: usize,
     node: usize,
+    flags: u64,
     c: usize,
-    d: usize,
+    j: usize,
 ) -> u64
-    requires { ⌜ (Shaped (now from) (now kids) n × (node < n)) × ((c < n) × (d < n)) ⌝ }
-    ensures { λ r. ⌜ BetweenWord (now (from .entry)) (now (kids .entry)) (now (order .entry)) (now (rows .entry)) n node c d r ⌝ }
+    requires { ⌜ (Shaped (now from) (now kids) n × (node < n)) × ((c < n) × Position (now from) node j) ⌝ }
+    ensures among { λ r. ⌜ ((f : ℕ) → f < 64 → T (bit r f) → T (bit flags f)) ⌝ }
+    ensures says { λ r. ⌜ BetweenWord (now (from .entry)) (now (kids .entry)) (now (order .entry)) (now (rows .entry)) n node flags c (getD (now (kids .entry)) j 0) r ⌝ }
 {
-    let mut flags = ALL;
+    let d = wide(kids[j]);
     let end = wide(from[node + 1]);
-    let mut i = wide(from[node]);
-    while i < end {
-        let b = wide(kids[i]);
-        flags = narrowed(
-            flags,
-            stands_between(order, d, b, c),
-            word_at(rows, b, AVOID),
-        );
-        i += 1;
-    }
-    flags
+    let start = wide(from[node]);
+    let left = between_part(kids, order, rows, j + 1, end, flags, c, d);
+    between_part(kids, order, rows, start, j + 1, left, c, d)
 }
 
-// The wanted flags of one sign that the children c and d clobber.
+// The wanted flags of one sign that the child c and the child at j clobber.
 fn pair_word(
     from: &[u8; 129],
     kids: &[u8; 128],
@@ -82,19 +102,20 @@ fn pair_word(
     sign: usize,
     wanted: u64,
     c: usize,
-    d: usize,
+    j: usize,
 ) -> u64
-    requires { ⌜ ((Shaped (now from) (now kids) n × (node < n)) × (sign < 2)) × ((c < n) × (d < n)) ⌝ }
+    requires { ⌜ ((Shaped (now from) (now kids) n × (node < n)) × (sign < 2)) × ((c < n) × Position (now from) node j) ⌝ }
     ensures among { λ r. ⌜ ((f : ℕ) → f < 64 → T (bit r f) → T (bit wanted f)) ⌝ }
-    ensures says { λ r. ⌜ PairWord (now (from .entry)) (now (kids .entry)) (now (order .entry)) (now (rows .entry)) n node sign wanted c d r ⌝ }
+    ensures says { λ r. ⌜ PairWord (now (from .entry)) (now (kids .entry)) (now (order .entry)) (now (rows .entry)) n node sign wanted c (getD (now (kids .entry)) j 0) r ⌝ }
 {
+    let d = wide(kids[j]);
     if order[d * 128 + c] == 1 {
         let passed = word_at(rows, d, MAY_POST + (1 - sign)) & word_at(rows, c, MAY_PRE + sign);
         let shared = wanted & passed;
         if shared == 0 {
             return 0;
         }
-        return shared & between(from, kids, order, rows, n, node, c, d);
+        return between(from, kids, order, rows, n, node, shared, c, j);
     }
     if apart(order, c, d) {
         return wanted
@@ -103,7 +124,7 @@ fn pair_word(
     0
 }
 
-// The wanted literals that the children c and d clobber.
+// The wanted literals that the child c and the child at j clobber.
 fn pair_words(
     from: &[u8; 129],
     kids: &[u8; 128],
@@ -113,13 +134,13 @@ fn pair_words(
     node: usize,
     wanted: Literals,
     c: usize,
-    d: usize,
+    j: usize,
 ) -> Literals
-    requires { ⌜ (Shaped (now from) (now kids) n × (node < n)) × ((c < n) × (d < n)) ⌝ }
-    ensures { λ r. ⌜ PairWords (now (from .entry)) (now (kids .entry)) (now (order .entry)) (now (rows .entry)) n node wanted c d r ⌝ }
+    requires { ⌜ (Shaped (now from) (now kids) n × (node < n)) × ((c < n) × Position (now from) node j) ⌝ }
+    ensures { λ r. ⌜ PairWords (now (from .entry)) (now (kids .entry)) (now (order .entry)) (now (rows .entry)) n node wanted c (getD (now (kids .entry)) j 0) r ⌝ }
 {
-    let clear = pair_word(from, kids, order, rows, n, node, 0, wanted.clear, c, d);
-    let set = pair_word(from, kids, order, rows, n, node, 1, wanted.set, c, d);
+    let clear = pair_word(from, kids, order, rows, n, node, 0, wanted.clear, c, j);
+    let set = pair_word(from, kids, order, rows, n, node, 1, wanted.set, c, j);
     Literals {
         clear: clear,
         set: set,
@@ -154,7 +175,7 @@ pub fn clobbering_pair(
         let c = wide(kids[i]);
         let mut j = start;
         while j < end {
-            let pair = pair_words(from, kids, order, rows, n, node, wanted, c, wide(kids[j]));
+            let pair = pair_words(from, kids, order, rows, n, node, wanted, c, j);
             if (pair.clear | pair.set) != 0 {
                 found = pair;
                 break 'search;

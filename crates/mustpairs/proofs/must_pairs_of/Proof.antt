@@ -33,31 +33,23 @@ loop-holds c =
       (c .before .before .wide .ensures, λ p g hc v q f m. rw (c .wide2 .ensures) (none-more g)),
     )
 
-element-copy-out-wide-3 : tie.Need-element-copy-out-wide-3 Inv-loop μ-loop
-element-copy-out-wide-3 c =
-    let s = c .before .before .before .before .before .before in
-    let end = s .pre .0 .0 .0 .ends (s .args .node) (s .pre .0 .0 .1) in
-    omega (arith, c .before .loop .inv .1 .0)
-
 must-pair-word-requires : tie.Need-must-pair-word-requires Inv-loop μ-loop
 must-pair-word-requires c κs =
-    let l = c .before .before .before in
+    let l = c .before in
     let s = l .before .before .before .before .before in
-    let kid = s .pre .0 .0 .0 .rises (s .args .node) (l .loop .j) (s .pre .0 .0 .1) (record { low = l .loop .inv .0 .0; high = omega (arith, l .loop .inv .1 .0) }) in
-    (s .pre .0, (s .pre .1, omega (arith, kid .1, c .wide3 .ensures)))
+    (s .pre .0, (s .pre .1, record { low = l .loop .inv .0 .0; high = omega (arith, l .loop .inv .1 .0) }))
 
 loop-again : tie.Need-loop-again Inv-loop μ-loop
 loop-again c =
-    let l = c .before .before .before .before in
+    let l = c .before .before in
     let s = l .before .before .before .before .before in
     let low = l .loop .inv .0 .0 in
-    let high : l .loop .j < getD (s .args .from .now) (s .args .node + 1) 0 = omega (arith, l .loop .inv .1 .0) in
-    let e = c .before .wide3 .ensures in (
+    let high : l .loop .j < getD (s .args .from .now) (s .args .node + 1) 0 = omega (arith, l .loop .inv .1 .0) in (
       omega arith,
       (
         l .loop .inv .1 .0,
         λ p g hc v q f m. pair-more g (some-next low) m refl (l .loop .inv .1 .1 p g hc v q f m)
-            (rw e at (c .must-pair-word .ensures p g hc (rw e (kid g (l .loop .j) low high)) v q f m)),
+            (c .must-pair-word .ensures p g hc (kid g (l .loop .j) low high) v q f m),
       ),
     )
 
@@ -80,8 +72,6 @@ must-pairs-of-spec =
     (λ c. omega arith)
     (λ c κs. omega arith)
     loop-holds
-    element-copy-out-wide-3
-    (λ c κs. omega arith)
     must-pair-word-requires
     (λ c. omega arith)
     (λ c. omega arith)

@@ -39,25 +39,17 @@ loop-holds c =
     let m = c .before .before .before in
     (omega (arith, m .search .inv .0), (m .search .inv .1 .0, rw (m .search .inv .0 .1 .0) (inner-none _ _ _ _ _ _ _ _)))
 
-element-copy-out-wide-4 : tie.Need-element-copy-out-wide-4 Inv-loop μ-loop Inv-search μ-search
-element-copy-out-wide-4 c =
-    let m = c .before .before .before .before .before in
-    let s = m .before .before .before .before .before in
-    let end = s .pre .0 .0 .ends (s .args .node) (s .pre .0 .1) in
-    omega (arith, m .search .inv .0 .1 .1)
-
 pair-words-requires : tie.Need-pair-words-requires Inv-loop μ-loop Inv-search μ-search
 pair-words-requires c κs =
-    let l = c .before .before .before in
+    let l = c .before in
     let m = l .before .before .before .before in
     let s = m .before .before .before .before .before in
     let kid-i = s .pre .0 .0 .rises (s .args .node) (m .search .i) (s .pre .0 .1) (record { low = omega (arith, s .pre .1, m .search .inv .0 .0); high = omega (arith, m .search .inv .0 .1 .1) }) in
-    let kid-j = s .pre .0 .0 .rises (s .args .node) (l .loop .j) (s .pre .0 .1) (record { low = l .loop .inv .0 .0; high = omega (arith, m .search .inv .0 .1 .1) }) in
-    (s .pre .0, omega (arith, kid-i .1, kid-j .1, l .before .wide3 .ensures, c .wide4 .ensures))
+    (s .pre .0, (omega (arith, kid-i .1, l .before .wide3 .ensures), record { low = l .loop .inv .0 .0; high = omega (arith, m .search .inv .0 .1 .1) }))
 
 loop-again : tie.Need-loop-again Inv-loop μ-loop Inv-search μ-search
 loop-again c =
-    let l = c .before .before .before .before .before .before in
+    let l = c .before .before .before .before in
     let m = l .before .before .before .before in
     let s = m .before .before .before .before .before in
     let e = l .before .wide3 .ensures in
@@ -68,7 +60,7 @@ loop-again c =
       (
         l .loop .inv .1 .0,
         rw e (inner-more _ _ _ _ _ _ _ (m .search .i) (l .loop .j) _ low high (l .loop .inv .0 .0) last
-            (rw (e, c .before .before .before .wide4 .ensures) at (c .before .before .pair-words .ensures)) (c .if1 .left) (rw e at (l .loop .inv .1 .1))),
+            (rw e at (c .before .before .pair-words .ensures)) (c .if1 .left) (rw e at (l .loop .inv .1 .1))),
       ),
     )
 
@@ -92,12 +84,12 @@ returns c =
 
 returns-2 : tie.Need-returns-2 Inv-loop μ-loop Inv-search μ-search
 returns-2 c =
-    let l = c .before .before .before .before .before .before in
+    let l = c .before .before .before .before in
     let m = l .before .before .before .before in
     let s = m .before .before .before .before .before in
     let e = l .before .wide3 .ensures in
     pair-found _ _ _ _ _ _ _ _ (m .search .i) (l .loop .j) _ (s .pre .1 .0) (m .search .inv .0 .0 .0) (omega (arith, m .search .inv .0 .1 .1)) (l .loop .inv .0 .0)
-    (omega (arith, m .search .inv .0 .1 .1)) (rw (e, c .before .before .before .wide4 .ensures) at (c .before .before .pair-words .ensures)) (c .if1 .taken) (m .search .inv .1 .1)
+    (omega (arith, m .search .inv .0 .1 .1)) (rw e at (c .before .before .pair-words .ensures)) (c .if1 .taken) (m .search .inv .1 .1)
 
 pub clobbering-pair-spec : {M : Type 1} → statement M
 clobbering-pair-spec =
@@ -116,8 +108,6 @@ clobbering-pair-spec =
     element-copy-out-wide-3
     (λ c κs. omega arith)
     loop-holds
-    element-copy-out-wide-4
-    (λ c κs. omega arith)
     pair-words-requires
     (λ c. omega arith)
     (λ c. omega arith)
