@@ -197,8 +197,8 @@ module _ (from kids order rows : List ℕ) (size n : ℕ) (wanted : Literals) wh
   word-zero r e false = (or-zero (r .clear) (r .set) e) .0
   word-zero r e true = (or-zero (r .clear) (r .set) e) .1
 
-  pub inner-none : (c : ℕ) → InnerNone c (getD from n 0)
-  inner-none c p g = record { each = λ j a b. absurd (omega arith) }
+  pub inner-none : (c j : ℕ) → j ≡ getD from n 0 → InnerNone c j
+  inner-none c j e p g = record { each = λ k a b. absurd (omega (arith, e)) }
 
   pub outer-none : (first : ℕ) → OuterNone first first
   outer-none first p g = record { each = λ j a b. absurd (omega arith) }
@@ -214,14 +214,14 @@ module _ (from kids order rows : List ℕ) (size n : ℕ) (wanted : Literals) wh
   pub outer-more : (first i : ℕ) → first ≤ i → InnerNone (getD kids i 0) (getD from (n + 1) 0) → OuterNone first i → OuterNone first (i + 1)
   outer-more first i a h o p g = (every-next a) .0 (o p g, (every-child (g .group .tree) (g .group .node) (λ d hd. (λ x. x, λ x. x))) .0 (h p g))
 
-  pub nothing-found : (first i : ℕ) (r : Literals) → first ≤ i → i ≡ getD from (n + 1) 0 → r .clear ≡ 0 → r .set ≡ 0 → OuterNone first i
+  pub nothing-found : (first i : ℕ) (r : Literals) → first ≤ i → i ≡ getD from (n + 1) 0 → r .clear ≡ 0 → r .set ≡ 0 → OuterNone first (getD from (n + 1) 0)
       → Search from kids order rows size n wanted first (record { literals = r; at = i })
   nothing-found first i r a b x y o = record {
     among = λ v f l t. absurd (no-flag _ f (zero v) t);
     sound = λ p g v f l t. absurd (no-flag _ f (zero v) t);
     low = a;
     high = omega (arith, b);
-    passed = o;
+    passed = λ p g. rw b (o p g);
     ended = λ e. b;
   }
     where

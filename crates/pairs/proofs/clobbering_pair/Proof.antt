@@ -37,7 +37,7 @@ element-copy-out-wide-3 c =
 loop-holds : tie.Need-loop-holds Inv-loop μ-loop Inv-search μ-search
 loop-holds c =
     let m = c .before .before .before in
-    (omega (arith, m .search .inv .0), (m .search .inv .1 .0, rw (m .search .inv .0 .1 .0) (inner-none _ _ _ _ _ _ _ _)))
+    (omega (arith, m .search .inv .0), (m .search .inv .1 .0, inner-none _ _ _ _ _ _ _ _ _ (m .search .inv .0 .1 .0)))
 
 pair-words-requires : tie.Need-pair-words-requires Inv-loop μ-loop Inv-search μ-search
 pair-words-requires c κs =
@@ -80,7 +80,8 @@ returns c =
     let m = c .before in
     let s = m .before .before .before .before .before in
     let z : m .search .i ≡ getD (s .args .from .now) (s .args .node + 1) 0 = omega (arith, m .search .inv .0 .1 .1) in
-    nothing-found _ _ _ _ _ _ _ _ _ _ (m .search .inv .0 .0 .0) z (m .search .inv .1 .0 .0) (m .search .inv .1 .0 .1) (m .search .inv .1 .1)
+    nothing-found _ _ _ _ _ _ _ _ _ _ (omega (arith, m .search .inv .0)) (omega (arith, m .search .inv .0 .1 .1)) (m .search .inv .1 .0 .0) (m .search .inv .1 .0 .1)
+    (rw z at (m .search .inv .1 .1))
 
 returns-2 : tie.Need-returns-2 Inv-loop μ-loop Inv-search μ-search
 returns-2 c =
