@@ -5,11 +5,11 @@ use mathlib.Core.Bool.{Bool, true, false, not}
 use mathlib.Core.List.{List}
 use Prim.Native.Nat.{ℕ, _+_, _-_, _≤_, _<_}
 use native.Mathlib.Omega.{arith}
-use lib.Bits.{bitOr, bitXor}
+use lib.Bits.{bitAnd, bitOr, bitXor}
 use lib.Dec.{T, eqb, eqb→eq, eqb-refl}
 use lib.ListN.{getD}
 use Rattle.bits.specs.Bits.{bit, ones, Says}
-use Rattle.bits.proofs.Says.{says-map, says-dec, says-self, says-or, says-not}
+use Rattle.bits.proofs.Says.{says-map, says-dec, says-self, says-and, says-or, says-not}
 use Rattle.runs.specs.Plan.{Plan, Node, Child, Before, WellFormed}
 use Rattle.runs.specs.Summary.{Must, ExternalPre, ExternalPost, Silent}
 use Rattle.runs.proofs.Summary.ByChildren.{must-pre-node, must-post-node}
@@ -19,7 +19,7 @@ use Rattle.words.specs.Segments.{Some}
 use Rattle.words.proofs.Segments.{some-next, every-child, some-child}
 use Rattle.words.proofs.Sibling.{silent-cell}
 use Rattle.pairs.specs.Pairs.{Undisturbed, MustPair, SomePair, Pairing}
-use Rattle.pairs.proofs.Laws.{opposite, read, kid}
+use Rattle.pairs.proofs.Laws.{no-flag, opposite, read, kid}
 use Rattle.mustpairs.specs.Disturbs.{Disturbs}
 use Rattle.mustpairs.specs.Words.{UndisturbedPart}
 
@@ -97,6 +97,16 @@ module _ {from kids order rows : List ℕ} {size n : ℕ} {p : Plan} (g : Pairin
       back (yes y) x = inl y
       back (no n) (inl k) = absurd (n (inl k))
       back (no n) (inr s) = inr (new n (e .1 s))
+
+  -- no pair with c adds a flag, if c must not require one that is not yet known
+  pub none-new : {known pre c : ℕ} {v : Bool} (f : ℕ) → f < 64 → bitAnd (bitXor known ones) pre ≡ 0 → Says pre f (Must p c (ExternalPre p f v))
+      → Says known f (T (bit known f) ⊎ ((d : ℕ) × Child p n d × MustPair p n f v c d))
+  none-new {known} {pre} {c} {v} f l e s = record { to = inl; from = back (says-dec (says-self known f)) }
+    where
+      back : Dec (T (bit known f)) → T (bit known f) ⊎ ((d : ℕ) × Child p n d × MustPair p n f v c d) → T (bit known f)
+      back (yes t) x = t
+      back (no k) (inl t) = t
+      back (no k) (inr x) = absurd (no-flag _ f e (says-and {x = bitXor known ones} {y = pre} refl (says-not {x = known} l refl (says-self known f)) s .from (k, x .2 .1 .0 .1)))
 
   -- the pairs so far with the child c; the pairs of the children so far
   abbrev pub WithTo : ℕ → ℕ → Bool → ℕ → Type 0

@@ -92,7 +92,11 @@ fn undisturbed_part(
             return 0;
         }
         let b = wide(kids[i]);
-        left = narrowed(left, disturbs(order, b, c, d), neither(rows, b, ASSERTS, ASSERTS + 1));
+        left = narrowed(
+            left,
+            disturbs(order, b, c, d),
+            neither(rows, b, ASSERTS, ASSERTS + 1),
+        );
         i += 1;
     }
     left
@@ -148,7 +152,7 @@ fn must_pair_word(
     0
 }
 
-// The flags already known, and those that a pair with the child c must clobber.
+// The flags already known, and those that a pair with the child c must clobber: only those that c requires in every completed execution.
 fn must_pairs_of(
     from: &[u8; 129],
     kids: &[u8; 128],
@@ -163,6 +167,9 @@ fn must_pairs_of(
     requires { ⌜ ((Shaped (now from) (now kids) n × (node < n)) × (sign < 2)) × (c < n) ⌝ }
     ensures { λ r. ⌜ WithChildWord (now (from .entry)) (now (kids .entry)) (now (order .entry)) (now (rows .entry)) n node sign known c r ⌝ }
 {
+    if (known ^ ALL) & must_pre(rows, c, sign) == 0 {
+        return known;
+    }
     let mut flags = known;
     let end = wide(from[node + 1]);
     let mut j = wide(from[node]);

@@ -61,7 +61,11 @@ fn between_part(
             return 0;
         }
         let b = wide(kids[i]);
-        left = narrowed(left, stands_between(order, d, b, c), word_at(rows, b, AVOID));
+        left = narrowed(
+            left,
+            stands_between(order, d, b, c),
+            word_at(rows, b, AVOID),
+        );
         i += 1;
     }
     left
