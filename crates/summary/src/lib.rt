@@ -60,7 +60,14 @@ pub fn fill_rows(plan: &[u8], rows: &mut [u64; 2688])
     let mut kids = no_nodes();
     let mut order = no_order();
     let mut conds = no_conditions();
-    fill_tables(plan, &mut kind, &mut from, &mut kids, &mut order, &mut conds);
+    fill_tables(
+        plan,
+        &mut kind,
+        &mut from,
+        &mut kids,
+        &mut order,
+        &mut conds,
+    );
     let n = nodes(plan);
     node_rows(&kind, &from, &kids, &order, &conds, rows, n);
 }

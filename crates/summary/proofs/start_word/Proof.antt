@@ -50,9 +50,9 @@ loop-again c =
     let f = l .loop .f in (
       omega arith,
       ⊎-elim
-      (λ w. start-set _ f (l .loop .inv .1) (w .1 ∙ ap (λ (x : ℕ). bitOr (l .loop .word) x) (one-shl f (omega (arith, l .before .flags .ensures, n)))) (sym s ∙ w .0 .taken))
-      (λ w. rw (w .1) (start-clear _ f (l .loop .inv .1) (sym s ∙ w .0 .left)))
-      (c .if1 .came),
+          (λ w. start-set _ f (l .loop .inv .1) (w .1 ∙ ap (λ (x : ℕ). bitOr (l .loop .word) x) (one-shl f (omega (arith, l .before .flags .ensures, n)))) (sym s ∙ w .0 .taken))
+          (λ w. rw (w .1) (start-clear _ f (l .loop .inv .1) (sym s ∙ w .0 .left)))
+          (c .if1 .came),
     )
 
 returns : tie.Need-returns Inv-loop μ-loop
