@@ -11,84 +11,95 @@ pub struct Shaped {
     pub plan: Plan,
 }
 
+/// All shapes, the slightest first.
 pub fn shapes() -> Vec<Shaped> {
     let mut random = Random::new(102);
-    let mut draw = |conditions, orders, shape| {
-        let sizes = Sizes {
-            conditions,
-            orders,
-            ..LIMITS
-        };
-        plan(&mut random, sizes, shape)
+    let mut all = nested(&mut random);
+    all.extend(flat(&mut random));
+    all.extend(worst());
+    all
+}
+
+fn shaped(name: &'static str, most_work: &'static str, plan: Plan) -> Shaped {
+    Shaped {
+        name,
+        most_work,
+        plan,
+    }
+}
+
+fn drawn(random: &mut Random, conditions: usize, orders: usize, shape: Shape) -> Plan {
+    let sizes = Sizes {
+        conditions,
+        orders,
+        ..LIMITS
     };
-    let found = [
-        (
-            "each node under the one before it",
-            "rules 1 to 14, blank tables",
-            draw(1_024, 512, Shape::Chain),
-        ),
-        (
-            "deep, random",
-            "rules 1 to 14, blank tables",
-            draw(1_024, 512, Shape::Deep),
-        ),
-        (
-            "even, random",
-            "rules 1 to 14, blank tables",
-            draw(1_024, 512, Shape::Even),
-        ),
-        (
-            "bushy, random",
-            "each two siblings of its eight groups",
-            draw(1_024, 512, Shape::Bushy),
-        ),
-        (
-            "flat, bare, no order",
-            "each two siblings",
-            Plan::flat(64, 128),
-        ),
-        (
+    plan(random, sizes, shape)
+}
+
+/// Random plans of groups in groups.
+fn nested(random: &mut Random) -> Vec<Shaped> {
+    let rules = "rules 1 to 14, blank tables";
+    let siblings = "each two siblings of its eight groups";
+    let shapes = [
+        ("each node under the one before it", rules, Shape::Chain),
+        ("deep, random", rules, Shape::Deep),
+        ("even, random", rules, Shape::Even),
+        ("bushy, random", siblings, Shape::Bushy),
+    ];
+    let draw = |(name, most_work, shape)| {
+        let plan = drawn(random, LIMITS.conditions, LIMITS.orders, shape);
+        shaped(name, most_work, plan)
+    };
+    shapes.into_iter().map(draw).collect()
+}
+
+/// One group of 127 tasks.
+fn flat(random: &mut Random) -> Vec<Shaped> {
+    let (siblings, again) = (
+        "each two siblings",
+        "each two siblings, once for each clash found",
+    );
+    vec![
+        shaped("flat, bare, no order", siblings, Plan::flat(64, 128)),
+        shaped("flat, one chain, bare", siblings, chain(127, 0, 0)),
+        shaped(
             "flat, 1,024 random conditions, no order",
-            "each two siblings, once for each clash found",
-            draw(1_024, 0, Shape::Flat),
+            again,
+            drawn(random, 1_024, 0, Shape::Flat),
         ),
-        (
+        shaped(
             "flat, 1,024 random conditions, 512 random orders",
-            "each two siblings, once for each clash found",
-            draw(1_024, 512, Shape::Flat),
+            again,
+            drawn(random, 1_024, 512, Shape::Flat),
         ),
-        (
-            "flat, one chain, bare",
-            "each two siblings",
-            chain(127, 0, 0),
-        ),
-        (
-            "flat, one chain, each needs what the last left",
-            "for each two siblings, all that stand between",
-            chain(127, 4, 0),
-        ),
-        (
+    ]
+}
+
+/// One group of 127 tasks, made so that the search has much to do.
+fn worst() -> Vec<Shaped> {
+    vec![
+        shaped(
             "flat, 84 tasks, one after them all, 42 after that one",
             "for each two siblings, all that stand between",
             funnel(84, 42),
         ),
-        (
+        shaped(
+            "flat, one chain, each needs what the last left",
+            "for each two siblings, all that stand between",
+            chain(127, 4, 0),
+        ),
+        shaped(
             "flat, no order, 126 clashes, all with the last child",
             "each two siblings, once for each clash",
             unordered(chain(126, 0, 63)),
         ),
-        (
+        shaped(
             "such a chain and 122 such clashes",
             "for each two siblings, all between, for each clash",
             chain(126, 3, 61),
         ),
-    ];
-    let shaped = |(name, most_work, plan)| Shaped {
-        name,
-        most_work,
-        plan,
-    };
-    found.into_iter().map(shaped).collect()
+    ]
 }
 
 /// An all-of root with so many tasks in a chain.
