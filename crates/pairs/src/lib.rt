@@ -152,13 +152,7 @@ fn pair_words(
 }
 
 // The position of the first child to pair with c: past them all, if c requires no wanted literal.
-fn first_partner(
-    rows: &[u64; 2688],
-    wanted: Literals,
-    c: usize,
-    start: usize,
-    end: usize,
-) -> usize
+fn first_partner(rows: &[u64; 2688], wanted: Literals, c: usize, start: usize, end: usize) -> usize
     requires { ⌜ c < 128 ⌝ }
     ensures { λ r. ⌜ FirstPartner (now (rows .entry)) wanted c start end r ⌝ }
 {

@@ -9,8 +9,11 @@ use Rattle.pairs.proofs.first_partner.Tie as tie
 returns : tie.Need-returns
 returns c =
     let w = c .before .before .before in
-    inr (refl, none-required _ _ _ _ _ _ _ (w .before .before .before .word-at .ensures) (w .before .before .word-at2 .ensures) (w .before .word-at3 .ensures) (w .word-at4 .ensures)
-    (c .if1 .taken))
+    inr (
+      refl,
+      none-required _ _ _ _ _ _ _ (w .before .before .before .word-at .ensures) (w .before .before .word-at2 .ensures) (w .before .word-at3 .ensures) (w .word-at4 .ensures)
+          (c .if1 .taken),
+    )
 
 returns-2 : tie.Need-returns-2
 returns-2 c = inl refl
