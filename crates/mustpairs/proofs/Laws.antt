@@ -19,7 +19,7 @@ use Rattle.words.specs.Segments.{Some}
 use Rattle.words.proofs.Segments.{some-next, every-child, some-child}
 use Rattle.words.proofs.Sibling.{silent-cell}
 use Rattle.pairs.specs.Pairs.{Undisturbed, MustPair, SomePair, Pairing}
-use Rattle.pairs.proofs.Laws.{no-flag, opposite, read, kid}
+use Rattle.pairs.proofs.Laws.{no-flag, opposite, read, kid, part-all}
 use Rattle.mustpairs.specs.Disturbs.{Disturbs}
 use Rattle.mustpairs.specs.Words.{UndisturbedPart}
 
@@ -63,17 +63,13 @@ right {K} {A} {B} e = (to, from)
 
 module _ {from kids order rows : List ℕ} {size n : ℕ} {p : Plan} (g : Pairing from kids order rows size n p) where
   module _ {c d : ℕ} (hc : Child p n c) (hd : Child p n d) where
-    -- over the whole segment
     pub undisturbed-all : (flags : ℕ) {r : ℕ} → UndisturbedPart kids order rows (getD from n 0) (getD from (n + 1) 0) flags c d r → (f : ℕ) → f < 64
         → Says r f (T (bit flags f) × Undisturbed p n f c d)
-    undisturbed-all flags s f l = let every = every-child (g .group .tree) (g .group .node) (λ b hb. at b hb (silent-cell (g .group .children b hb) l)) in
-        says-map (λ x. (x .0, every .0 (x .1)), λ x. (x .0, every .1 (x .1))) (s .says f l)
-      where
-        at : (b : ℕ) → Child p n b → {X Y : Type 0} → X ↔ Y → (Disturbs order b c d → X) ↔ (b ≢ c → b ≢ d → ¬ Before p b d → ¬ Before p c b → Y)
-        at b hb e = let before = g .orders .before b d (hb .node) (hd .node) in let after = g .orders .after b c (hb .node) (hc .node) in (
+    undisturbed-all flags s f l = part-all g s f l (λ b hb. let e = silent-cell (g .group .children b hb) l in
+        let before = g .orders .before b d (hb .node) (hd .node) in let after = g .orders .after b c (hb .node) (hc .node) in (
           λ y w₁ w₂ w₃ w₄. e .0 (y (record { not-c = w₁; not-d = w₂; not-before = λ z. w₃ (before .0 z); not-after = λ z. w₄ (after .0 z) })),
           λ y x. e .1 (y (x .not-c) (x .not-d) (λ u. x .not-before (before .1 u)) (λ u. x .not-after (after .1 u))),
-        )
+        ))
 
     module _ {f : ℕ} {v : Bool} {W : Type 0} where
       pub must-pair : Before p d c → ((W × (Must p d (ExternalPost p f (not v)) × Must p c (ExternalPre p f v))) × Undisturbed p n f c d) ↔ (W × MustPair p n f v c d)

@@ -11,7 +11,7 @@ use lib.Dec.{T}
 use lib.ListN.{getD}
 use Rattle.bits.specs.Bits.{bit, Says}
 use Rattle.bits.proofs.Equations.{bit-none}
-use Rattle.bits.proofs.Says.{says-map, says-eq, says-self, says-and, says-none}
+use Rattle.bits.proofs.Says.{says-map, says-eq, says-self, says-and, says-or, says-none}
 use Rattle.runs.specs.Plan.{Plan, Child, Before, Unordered}
 use Rattle.runs.specs.Summary.{MayClobber, ClobberByPairs, in-child, unordered-pair, passed-on}
 use Rattle.words.specs.Tables.{signNum, Position, Shaped}
@@ -21,7 +21,7 @@ use Rattle.words.specs.Siblings.{Narrows}
 use Rattle.words.proofs.Segments.{listed, every-next, every-child}
 use Rattle.words.proofs.Sibling.{cell}
 use Rattle.pairs.specs.declared.Literals.{Literals}
-use Rattle.pairs.specs.Pairs.{Between, Pair, SomePair, Pairing, Part, PartWord, BetweenPart, BetweenWord, wordOf, PairWords, Unclobbered, Search}
+use Rattle.pairs.specs.Pairs.{Between, Pair, SomePair, Pairing, Part, PartWord, BetweenPart, BetweenWord, wordOf, PairWords, NoneRequired, FirstPartner, Unclobbered, Search}
 
 pub opposite : (v : Bool) (s : ℕ) → s ≡ signNum v → 1 - s ≡ signNum (not v)
 opposite true s e = rw e
@@ -46,6 +46,22 @@ says-of a b = says-map (λ x. (a .to (x .0), x .1), λ x. (a .from (x .0), x .1)
 
 pub or-zero : (x y : ℕ) → bitOr x y ≡ 0 → (x ≡ 0) × (y ≡ 0)
 or-zero x y e = omega (arith, or-add-and x y, and-le-l x y, and-le-r x y)
+
+-- c requires no wanted literal
+pub none-required : (rows : List ℕ) (wanted : Literals) (c a b x y : ℕ) → a ≡ wordAt rows c 11 → b ≡ wordAt rows c 5 → x ≡ wordAt rows c 12 → y ≡ wordAt rows c 6
+    → bitOr (bitAnd (wanted .clear) (bitOr a b)) (bitAnd (wanted .set) (bitOr x y)) ≡ 0 → NoneRequired rows wanted c
+none-required rows wanted c a b x y ea eb ex ey e = record { none = λ v f l. at v f }
+  where
+    none : (w s t : ℕ) → bitAnd w (bitOr s t) ≡ 0 → (f : ℕ) → T (bit w f) → ¬ (T (bit s f) ⊎ T (bit t f))
+    none w s t q f h z = no-flag (bitAnd w (bitOr s t)) f q
+        (says-and {x = w} {y = bitOr s t} refl (says-self w f) (says-or {x = s} {y = t} refl (says-self s f) (says-self t f)) .from (h, z))
+
+    both : (bitAnd (wanted .clear) (bitOr a b) ≡ 0) × (bitAnd (wanted .set) (bitOr x y) ≡ 0)
+    both = or-zero (bitAnd (wanted .clear) (bitOr a b)) (bitAnd (wanted .set) (bitOr x y)) e
+
+    at : (v : Bool) (f : ℕ) → T (bit (wordOf wanted v) f) → ¬ (T (bit (wordAt rows c (indexOf (requires v))) f) ⊎ T (bit (wordAt rows c (indexOf (may-pre v))) f))
+    at false f = rw (ea, eb) at (none (wanted .clear) a b (both .0) f)
+    at true f = rw (ex, ey) at (none (wanted .set) x y (both .1) f)
 
 -- a part of the children and the part after it
 pub joined : {kids : List ℕ} {low high : ℕ} {Q : ℕ → Type 0} (middle : ℕ) → Every kids low middle Q → Every kids middle high Q → Every kids low high Q
@@ -94,21 +110,24 @@ module _ {kids : List ℕ} {flags low : ℕ} {Q : ℕ → ℕ → Type 0} where
   }
 
 -- the children between, by the tables and by the plan
-curried : {C D E B F A : Type 0} → C ↔ (D × E) → A ↔ B → (D ↔ F) → {G : Type 0} → (E ↔ G) → (C → A) ↔ (F → G → B)
-curried c a d e = (λ h x y. a .0 (h (c .1 (d .1 x, e .1 y))), λ h x. let z = c .0 x in a .1 (h (d .0 (z .0)) (e .0 (z .1))))
+curried : {A B D E F G : Type 0} → A ↔ B → (D ↔ F) → (E ↔ G) → ((D × E) → A) ↔ (F → G → B)
+curried a d e = (λ h x y. a .0 (h (d .1 x, e .1 y)), λ h x. a .1 (h (d .0 (x .0)) (e .0 (x .1))))
 
 module _ {from kids order rows : List ℕ} {size n : ℕ} {p : Plan} (g : Pairing from kids order rows size n p) where
   -- the child at a position of the segment
   pub kid : (i : ℕ) → getD from n 0 ≤ i → i < getD from (n + 1) 0 → Child p n (getD kids i 0)
   kid i a b = listed (g .group .tree) (g .group .node) i a b
 
+  -- the part that is the whole segment: every child
+  pub part-all : {flags r : ℕ} {Q : ℕ → ℕ → Type 0} {P : ℕ → Type 0} → PartWord kids (getD from n 0) (getD from (n + 1) 0) flags Q r → (f : ℕ) → f < 64
+      → ((b : ℕ) → Child p n b → Q f b ↔ P b) → Says r f (T (bit flags f) × ((b : ℕ) → Child p n b → P b))
+  part-all s f l e = let every = every-child (g .group .tree) (g .group .node) e in says-map (λ x. (x .0, every .0 (x .1)), λ x. (x .0, every .1 (x .1))) (s .says f l)
+
   module _ {c d : ℕ} (hc : Child p n c) (hd : Child p n d) where
-    -- over the whole segment
     between-all : (flags : ℕ) {r : ℕ} → BetweenPart kids order rows (getD from n 0) (getD from (n + 1) 0) flags c d r → (f : ℕ) → f < 64
         → Says r f (T (bit flags f) × Between p n f c d)
-    between-all flags s f l = let every = every-child (g .group .tree) (g .group .node) (λ b hb. curried (λ x. x, λ x. x) (cell (g .group .children _ hb) l avoid)
-        (g .orders .before d b (hd .node) (hb .node)) (g .orders .before b c (hb .node) (hc .node))) in
-        says-map (λ x. (x .0, every .0 (x .1)), λ x. (x .0, every .1 (x .1))) (s .says f l)
+    between-all flags s f l = part-all s f l (λ b hb. curried (cell (g .group .children _ hb) l avoid)
+        (g .orders .before d b (hd .node) (hb .node)) (g .orders .before b c (hb .node) (hc .node)))
 
     -- the words that a pair is judged by
     module _ (v : Bool) (s w x y f : ℕ) (e : s ≡ signNum v) (l : f < 64) where
@@ -197,8 +216,16 @@ module _ (from kids order rows : List ℕ) (size n : ℕ) (wanted : Literals) wh
   word-zero r e false = (or-zero (r .clear) (r .set) e) .0
   word-zero r e true = (or-zero (r .clear) (r .set) e) .1
 
-  pub inner-none : (c j : ℕ) → j ≡ getD from n 0 → InnerNone c j
-  inner-none c j e p g = record { each = λ k a b. absurd (omega (arith, e)) }
+  -- where the pairs with the child at i begin, none that is passed over clobbers a wanted literal
+  pub partners : (i j start end : ℕ) → getD from n 0 ≤ i → i < getD from (n + 1) 0 → start ≡ getD from n 0 → end ≡ getD from (n + 1) 0
+      → FirstPartner rows wanted (getD kids i 0) start end j → ((getD from n 0 ≤ j) × (j ≤ getD from (n + 1) 0)) × InnerNone (getD kids i 0) j
+  partners i j start end a b m o (inl e) = (omega (arith, e, m), λ p g. record { each = λ k x y. absurd (omega (arith, e, m)) })
+  partners i j start end a b m o (inr h) = (omega (arith, h .0, o), λ p g. record { each = λ k x y v f l t z. h .1 .none v f l t (required p g v f l z) })
+    where
+      required : (p : Plan) → Pairing from kids order rows size n p → (v : Bool) (f : ℕ) → f < 64 → {d : ℕ} → Pair p n f v (getD kids i 0) d
+          → T (bit (wordAt rows (getD kids i 0) (indexOf (requires v))) f) ⊎ T (bit (wordAt rows (getD kids i 0) (indexOf (may-pre v))) f)
+      required p g v f l (inl x) = inl ((cell (g .group .children _ (kid g i a b)) l (requires v)) .1 (x .1 .0))
+      required p g v f l (inr x) = inr ((cell (g .group .children _ (kid g i a b)) l (may-pre v)) .1 (x .1 .0 .1))
 
   pub outer-none : (first : ℕ) → OuterNone first first
   outer-none first p g = record { each = λ j a b. absurd (omega arith) }

@@ -12,7 +12,7 @@ use Rattle.runs.specs.Plan.{Plan, Child, Before, Unordered}
 use Rattle.runs.specs.Summary.{Must, ExternalPre, ExternalPost, Silent}
 use Rattle.words.specs.Tables.{signNum, code, RepresentsOrder}
 use Rattle.words.specs.Columns.{avoid, may-pre, may-post, requires, asserts}
-use Rattle.words.specs.Columns.{Fact, wordAt}
+use Rattle.words.specs.Columns.{indexOf, Fact, wordAt}
 use Rattle.words.specs.Groups.{Group}
 use Rattle.words.specs.Segments.{Every}
 use Rattle.pairs.specs.declared.Found.{Found}
@@ -88,6 +88,15 @@ pub record PairWords (from kids order rows : List ℕ) (size n : ℕ) (wanted : 
   pub among : (v : Bool) (f : ℕ) → f < 64 → T (bit (wordOf r v) f) → T (bit (wordOf wanted v) f)
   pub says : (p : Plan) → Pairing from kids order rows size n p → Child p n c → Child p n d → (v : Bool) (f : ℕ) → f < 64
       → Says (wordOf r v) f (T (bit (wordOf wanted v) f) × Pair p n f v c d)
+
+-- no wanted literal is one that c requires, or that may be its external precondition
+pub record NoneRequired (rows : List ℕ) (wanted : Literals) (c : ℕ) : Type 0 where
+  pub none : (v : Bool) (f : ℕ) → f < 64 → T (bit (wordOf wanted v) f)
+      → ¬ (T (bit (wordAt rows c (indexOf (requires v))) f) ⊎ T (bit (wordAt rows c (indexOf (may-pre v))) f))
+
+-- where the pairs with c begin: at the start, or at the end if none is required
+abbrev pub FirstPartner : List ℕ → Literals → ℕ → ℕ → ℕ → ℕ → Type 0
+FirstPartner rows wanted c start end r = (r ≡ start) ⊎ ((r ≡ end) × NoneRequired rows wanted c)
 
 -- the child c clobbers no wanted literal in a pair with any child
 abbrev pub Unclobbered : Plan → ℕ → Literals → ℕ → Type 0

@@ -6,7 +6,7 @@ ghost use lib.Dec.{T};
 ghost use lib.ListN.{getD};
 ghost use Rattle.bits.specs.Bits.{bit};
 ghost use Rattle.words.specs.Tables.{code, Position, Shaped};
-ghost use Rattle.pairs.specs.Pairs.{Part, BetweenPart, BetweenWord, PairWord, PairWords, Search, AllPairs};
+ghost use Rattle.pairs.specs.Pairs.{Part, BetweenPart, BetweenWord, PairWord, PairWords, FirstPartner, Search, AllPairs};
 use words::apart;
 use words::narrowed;
 use words::wide;
@@ -151,6 +151,19 @@ fn pair_words(
     }
 }
 
+// The position of the first child to pair with c: past them all, if c requires no wanted literal.
+fn first_partner(rows: &[u64; 2688], wanted: Literals, c: usize, start: usize, end: usize) -> usize
+    requires { ⌜ c < 128 ⌝ }
+    ensures { λ r. ⌜ FirstPartner (now (rows .entry)) wanted c start end r ⌝ }
+{
+    let clear = word_at(rows, c, REQUIRES) | word_at(rows, c, MAY_PRE);
+    let set = word_at(rows, c, REQUIRES + 1) | word_at(rows, c, MAY_PRE + 1);
+    if ((wanted.clear & clear) | (wanted.set & set)) == 0 {
+        return end;
+    }
+    start
+}
+
 // The literals of a pair that a search found, and the position of the pair's first child; with no literal, the end of the children.
 pub struct Found {
     pub literals: Literals,
@@ -177,7 +190,7 @@ pub fn clobbering_pair(
     let mut i = first;
     'search: while i < end {
         let c = wide(kids[i]);
-        let mut j = start;
+        let mut j = first_partner(rows, wanted, c, start, end);
         while j < end {
             let pair = pair_words(from, kids, order, rows, n, node, wanted, c, j);
             if (pair.clear | pair.set) != 0 {

@@ -2,7 +2,7 @@
 use mathlib.Core.Path.{_≡_, refl}
 use Prim.Native.Nat.{_+_, _≤_, _<_, _-_}
 use lib.ListN.{getD}
-use Rattle.pairs.proofs.Laws.{InnerNone, OuterNone, inner-none, outer-none, inner-more, outer-more, nothing-found, pair-found}
+use Rattle.pairs.proofs.Laws.{kid-below, InnerNone, OuterNone, partners, outer-none, inner-more, outer-more, nothing-found, pair-found}
 use native.Mathlib.Omega.{arith}
 use Rattle.pairs.proofs.clobbering_pair.Statement.{statement}
 use Rattle.pairs.proofs.clobbering_pair.Tie as tie
@@ -34,25 +34,38 @@ element-copy-out-wide-3 c =
     let end = s .pre .0 .0 .ends (s .args .node) (s .pre .0 .1) in
     omega (arith, m .search .inv .0 .1 .1)
 
+first-partner-requires : tie.Need-first-partner-requires Inv-loop μ-loop Inv-search μ-search
+first-partner-requires c κs =
+    let m = c .before .before .before in
+    let s = m .before .before .before .before .before in
+    let kid = kid-below (s .pre .0) (record { low = omega (arith, s .pre .1, m .search .inv .0 .0); high = omega (arith, m .search .inv .0 .1 .1) }) (c .wide3 .ensures) in
+    omega (arith, s .pre .0 .0 .small, kid)
+
 loop-holds : tie.Need-loop-holds Inv-loop μ-loop Inv-search μ-search
 loop-holds c =
-    let m = c .before .before .before in
-    (omega (arith, m .search .inv .0), (m .search .inv .1 .0, inner-none _ _ _ _ _ _ _ _ _ (m .search .inv .0 .1 .0)))
+    let m = c .before .before .before .before in
+    let s = m .before .before .before .before .before in
+    let e = c .before .wide3 .ensures in
+    let low : getD (s .args .from .now) (s .args .node) 0 ≤ m .search .i = omega (arith, s .pre .1, m .search .inv .0 .0) in
+    let high : m .search .i < getD (s .args .from .now) (s .args .node + 1) 0 = omega (arith, m .search .inv .0 .1 .1) in
+    let from-j = partners (s .args .from .now) (s .args .kids .now) (s .args .order .now) (s .args .rows .now) (s .args .n) (s .args .node) (s .args .wanted) (m .search .i)
+    (c .first-partner .result) _ _ low high (m .search .inv .0 .1 .0) (m .search .inv .0 .1 .1) (rw e at (c .first-partner .ensures)) in
+    (omega (arith, from-j .0, m .search .inv .0 .1), (m .search .inv .1 .0, rw e (from-j .1)))
 
 pair-words-requires : tie.Need-pair-words-requires Inv-loop μ-loop Inv-search μ-search
 pair-words-requires c κs =
     let l = c .before in
-    let m = l .before .before .before .before in
+    let m = l .before .before .before .before .before in
     let s = m .before .before .before .before .before in
-    let kid-i = s .pre .0 .0 .rises (s .args .node) (m .search .i) (s .pre .0 .1) (record { low = omega (arith, s .pre .1, m .search .inv .0 .0); high = omega (arith, m .search .inv .0 .1 .1) }) in
-    (s .pre .0, (omega (arith, kid-i .1, l .before .wide3 .ensures), record { low = l .loop .inv .0 .0; high = omega (arith, m .search .inv .0 .1 .1) }))
+    let kid = kid-below (s .pre .0) (record { low = omega (arith, s .pre .1, m .search .inv .0 .0); high = omega (arith, m .search .inv .0 .1 .1) }) (l .before .before .wide3 .ensures) in
+    (s .pre .0, (kid, record { low = l .loop .inv .0 .0; high = omega (arith, m .search .inv .0 .1 .1) }))
 
 loop-again : tie.Need-loop-again Inv-loop μ-loop Inv-search μ-search
 loop-again c =
     let l = c .before .before .before .before in
-    let m = l .before .before .before .before in
+    let m = l .before .before .before .before .before in
     let s = m .before .before .before .before .before in
-    let e = l .before .wide3 .ensures in
+    let e = l .before .before .wide3 .ensures in
     let last : l .loop .j < getD (s .args .from .now) (s .args .node + 1) 0 = omega (arith, m .search .inv .0 .1 .1) in
     let low : getD (s .args .from .now) (s .args .node) 0 ≤ m .search .i = omega (arith, s .pre .1, m .search .inv .0 .0) in
     let high : m .search .i < getD (s .args .from .now) (s .args .node + 1) 0 = omega (arith, m .search .inv .0 .1 .1) in (
@@ -67,9 +80,9 @@ loop-again c =
 search-again : tie.Need-search-again Inv-loop μ-loop Inv-search μ-search
 search-again c =
     let l = c .before in
-    let m = l .before .before .before .before in
+    let m = l .before .before .before .before .before in
     let s = m .before .before .before .before .before in
-    let e = l .before .wide3 .ensures in
+    let e = l .before .before .wide3 .ensures in
     let z : l .loop .j ≡ getD (s .args .from .now) (s .args .node + 1) 0 = omega (arith, m .search .inv .0 .1 .1) in (
       (omega arith, m .search .inv .0 .1),
       (l .loop .inv .1 .0, outer-more _ _ _ _ _ _ _ _ (m .search .i) (m .search .inv .0 .0 .0) (rw (e, z) at (l .loop .inv .1 .1)) (m .search .inv .1 .1)),
@@ -86,9 +99,9 @@ returns c =
 returns-2 : tie.Need-returns-2 Inv-loop μ-loop Inv-search μ-search
 returns-2 c =
     let l = c .before .before .before .before in
-    let m = l .before .before .before .before in
+    let m = l .before .before .before .before .before in
     let s = m .before .before .before .before .before in
-    let e = l .before .wide3 .ensures in
+    let e = l .before .before .wide3 .ensures in
     pair-found _ _ _ _ _ _ _ _ (m .search .i) (l .loop .j) _ (s .pre .1 .0) (m .search .inv .0 .0 .0) (omega (arith, m .search .inv .0 .1 .1)) (l .loop .inv .0 .0)
     (omega (arith, m .search .inv .0 .1 .1)) (rw e at (c .before .before .pair-words .ensures)) (c .if1 .taken) (m .search .inv .1 .1)
 
@@ -108,6 +121,7 @@ clobbering-pair-spec =
     search-holds
     element-copy-out-wide-3
     (λ c κs. omega arith)
+    first-partner-requires
     loop-holds
     pair-words-requires
     (λ c. omega arith)
