@@ -11,16 +11,15 @@ use lib.ListN.{getD}
 use Rattle.bits.specs.Bits.{bit, ones, Says}
 use Rattle.bits.proofs.Says.{says-map, says-dec, says-self, says-and, says-or, says-not}
 use Rattle.runs.specs.Plan.{Plan, Node, Child, Before, WellFormed}
-use Rattle.runs.specs.Summary.{Must, ExternalPre, ExternalPost, Silent}
+use Rattle.runs.specs.Summary.{Must, ExternalPre, ExternalPost}
 use Rattle.runs.proofs.Summary.ByChildren.{must-pre-node, must-post-node}
 use Rattle.words.specs.Tables.{signNum}
 use Rattle.words.specs.Columns.{avoid, quiet, covered, may-post, wordAt, Right}
 use Rattle.words.specs.Segments.{Some}
-use Rattle.words.proofs.Segments.{some-next, every-child, some-child}
+use Rattle.words.proofs.Segments.{some-next, some-child}
 use Rattle.words.proofs.Sibling.{silent-cell}
 use Rattle.pairs.specs.Pairs.{Undisturbed, MustPair, SomePair, Pairing}
-use Rattle.pairs.proofs.Laws.{no-flag, opposite, read, kid, part-all}
-use Rattle.mustpairs.specs.Disturbs.{Disturbs}
+use Rattle.pairs.proofs.Laws.{no-flag, opposite, read, part-all}
 use Rattle.mustpairs.specs.Words.{UndisturbedPart}
 
 pub not-two : (x : ℕ) → T (not (eqb x 2)) ↔ (x ≢ 2)
