@@ -1,0 +1,1 @@
+// Lengths and longest waits of an accepted plan.
