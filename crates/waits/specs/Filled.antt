@@ -52,8 +52,18 @@ pub record Worked (b lengths waits lengths' waits' : List ℕ) (n : ℕ) : Type 
   pub kept : (m : ℕ) → Done b lengths waits m → Done b lengths' waits' m
   pub right : (m : ℕ) → Under (planOf b) n m → Done b lengths' waits' m
 
--- the length of the root, and the longest waits of all nodes
-pub record Waited (b waits : List ℕ) (root : ℕ) : Type 0 where
+-- every node's wait within its group
+pub record Within (b waits : List ℕ) : Type 0 where
   pub long : length waits ≡ 128
-  pub length : root ≡ lengthOf b 0
+  pub is : (n : ℕ) → n < nodeCount b → getD waits n 0 ≡ waitWithin b n
+
+-- every node's longest wait
+pub record Longest (b waits : List ℕ) : Type 0 where
+  pub long : length waits ≡ 128
   pub is : (n : ℕ) → n < nodeCount b → getD waits n 0 ≡ longestWait b n
+
+-- all groups are worked out
+pub record AllWorked (b lengths waits : List ℕ) : Type 0 where
+  pub lengths-long : length lengths ≡ 128
+  pub root : getD lengths 0 0 ≡ lengthOf b 0
+  pub within : Within b waits
