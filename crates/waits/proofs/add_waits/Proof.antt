@@ -1,6 +1,6 @@
 -- `add_waits` meets its contract: the longest waits below c, the waits within their groups from c on. Assumes nothing.
-use mathlib.Core.Path.{_≡_, refl, sym, _∙_}
-use Prim.Native.Nat.{_+_, _-_, _<_, _≤_}
+use mathlib.Core.Path.{_≡_, _∙_}
+use Prim.Native.Nat.{_-_, _≤_}
 use Rattle.format.specs.Format.{nodeCount}
 use Rattle.plan.proofs.Accepted.{clean}
 use Rattle.waits.proofs.Filling.{Down, down-none, down-sum, down-more, down-all}
@@ -9,11 +9,6 @@ use native.Mathlib.Omega.{arith}
 use borrow.Author.Needs.{needs}
 use Rattle.waits.proofs.add_waits.Statement.{statement}
 use Rattle.waits.proofs.add_waits.Tie as tie
-use Rattle.waits.proofs.add_waits.Reads as reads
-use Rattle.waits.proofs.add_waits.Lts as lts
-use Rattle.format.proofs.fields.nodes.Reads as nodes-reads
-use Rattle.format.proofs.fields.parent.Reads as parent-reads
-use Rattle.rules.proofs.tests.wide.Reads as wide-reads
 
 abbrev Inv-loop : tie.InvT-loop
 Inv-loop plan waits₀ n c₀ waits c = ((n ≡ nodeCount plan) × (n ≤ 128)) × Down plan waits c
@@ -21,44 +16,23 @@ Inv-loop plan waits₀ n c₀ waits c = ((n ≡ nodeCount plan) × (n ≤ 128)) 
 abbrev μ-loop : tie.MeasureT-loop
 μ-loop plan waits₀ n c₀ waits c = n - c
 
--- src/lib.rt:196:9
 nodes-requires : tie.Need-nodes-requires Inv-loop μ-loop
 nodes-requires c κs = clean _ (c .before .pre .0) .fits .limits .long
 
--- src/lib.rt:198:5
 loop-holds : tie.Need-loop-holds Inv-loop μ-loop
 loop-holds c =
     let s = c .before .before in
     let ok = clean _ (s .pre .0) in
     ((c .nodes .ensures, omega (arith, ok .fits .limits .nodes, c .nodes .ensures)), down-none ok (s .pre .1))
 
--- src/lib.rt:199:22
 parent-requires : tie.Need-parent-requires Inv-loop μ-loop
 parent-requires c κs = (omega arith, clean _ (c .before .before .before .before .pre .0) .fits)
 
--- src/lib.rt:199:13
-wide-requires : tie.Need-wide-requires Inv-loop μ-loop
-wide-requires c κs = search needs
-
--- src/lib.rt:200:21
-mul-above : tie.Need-mul-above Inv-loop μ-loop
-mul-above c = omega arith
-
--- src/lib.rt:200:21
 element-copy-out-above : tie.Need-element-copy-out-above Inv-loop μ-loop
 element-copy-out-above c =
     let l = c .before .before .before in
     down-sum (clean _ (l .before .before .before .pre .0)) (c .wide .ensures .0 ∙ c .before .parent .ensures) (omega arith) (l .loop .inv .1) .0
 
--- src/lib.rt:201:19
-mul-own : tie.Need-mul-own Inv-loop μ-loop
-mul-own c = omega arith
-
--- src/lib.rt:201:19
-element-copy-out-own : tie.Need-element-copy-out-own Inv-loop μ-loop
-element-copy-out-own c = omega arith
-
--- src/lib.rt:202:20
 add-waits : tie.Need-add-waits Inv-loop μ-loop
 add-waits c =
     let l = c .before .before .before .before .before in
@@ -66,23 +40,6 @@ add-waits c =
     let s = down-sum ok (c .before .before .wide .ensures .0 ∙ c .before .before .before .parent .ensures) (omega arith) (l .loop .inv .1) in
     omega (arith, s .1, end-limit _ ok (l .loop .c) (omega arith))
 
--- src/lib.rt:202:9
-mul-waits : tie.Need-mul-waits Inv-loop μ-loop
-mul-waits c = omega arith
-
--- src/lib.rt:202:9
-element-write-waits : tie.Need-element-write-waits Inv-loop μ-loop
-element-write-waits c = omega arith
-
--- src/lib.rt:203:9
-add-c : tie.Need-add-c Inv-loop μ-loop
-add-c c = omega arith
-
--- src/lib.rt:198:5
-loop-less : tie.Need-loop-less Inv-loop μ-loop
-loop-less c = omega arith
-
--- src/lib.rt:198:5
 loop-again : tie.Need-loop-again Inv-loop μ-loop
 loop-again c =
     let l = c .before .before .before .before .before in
@@ -90,7 +47,6 @@ loop-again c =
     let s = down-sum ok (c .before .before .wide .ensures .0 ∙ c .before .before .before .parent .ensures) (omega arith) (l .loop .inv .1) in
     (l .loop .inv .0, down-more ok (omega arith) (s .1) (l .loop .inv .1))
 
--- src/lib.rt:192:1
 returns : tie.Need-returns Inv-loop μ-loop
 returns c = down-all (clean _ (c .before .before .before .before .pre .0)) (omega arith) (c .before .loop .inv .1)
 
@@ -103,15 +59,15 @@ add-waits-spec =
     nodes-requires
     loop-holds
     parent-requires
-    wide-requires
-    mul-above
+    (λ c κs. search needs)
+    (λ c. omega arith)
     element-copy-out-above
-    mul-own
-    element-copy-out-own
+    (λ c. omega arith)
+    (λ c. omega arith)
     add-waits
-    mul-waits
-    element-write-waits
-    add-c
-    loop-less
+    (λ c. omega arith)
+    (λ c. omega arith)
+    (λ c. omega arith)
+    (λ c. omega arith)
     loop-again
     returns)

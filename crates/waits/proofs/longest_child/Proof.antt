@@ -1,8 +1,8 @@
 -- `longest_child` meets its contract: the greatest length of the children below c. Assumes nothing.
-use mathlib.Core.Path.{_≡_, refl, sym, _∙_}
+use mathlib.Core.Path.{_≡_, sym, _∙_}
 use mathlib.Core.Logic.{⊎-elim}
-use Prim.Native.Nat.{_+_, _-_, _<_, _≤_}
-use Rattle.format.specs.Format.{nodeCount, parentOf}
+use Prim.Native.Nat.{_-_, _<_, _≤_}
+use Rattle.format.specs.Format.{nodeCount}
 use Rattle.plan.proofs.Accepted.{clean}
 use Rattle.waits.specs.Waits.{lengthOf}
 use Rattle.waits.proofs.Laws.{length-any}
@@ -11,12 +11,6 @@ use native.Mathlib.Omega.{arith}
 use borrow.Author.Needs.{needs}
 use Rattle.waits.proofs.longest_child.Statement.{statement}
 use Rattle.waits.proofs.longest_child.Tie as tie
-use Rattle.waits.proofs.longest_child.Reads as reads
-use Rattle.waits.proofs.longest_child.Lts as lts
-use Rattle.format.proofs.fields.nodes.Reads as nodes-reads
-use Rattle.format.proofs.fields.parent.Reads as parent-reads
-use Rattle.rules.proofs.tests.wide.Reads as wide-reads
-use Rattle.waits.proofs.greater.Reads as greater-reads
 
 abbrev Inv-loop : tie.InvT-loop
 Inv-loop plan lengths node n longest₀ c₀ longest c = ((n ≡ nodeCount plan) × (n ≤ 128)) × (((node < c) × (c ≤ n)) × GreatestTo plan node (lengthOf plan) c longest)
@@ -24,50 +18,21 @@ Inv-loop plan lengths node n longest₀ c₀ longest c = ((n ≡ nodeCount plan)
 abbrev μ-loop : tie.MeasureT-loop
 μ-loop plan lengths node n longest₀ c₀ longest c = n - c
 
--- src/lib.rt:89:9
 nodes-requires : tie.Need-nodes-requires Inv-loop μ-loop
 nodes-requires c κs = clean _ (c .before .pre .0) .fits .limits .long
 
--- src/lib.rt:91:17
 add-c : tie.Need-add-c Inv-loop μ-loop
 add-c c = omega (arith, clean _ (c .before .before .pre .0) .fits .limits .nodes, c .before .before .pre .1)
 
--- src/lib.rt:92:5
 loop-holds : tie.Need-loop-holds Inv-loop μ-loop
 loop-holds c =
     let s = c .before .before in
     let ok = clean _ (s .pre .0) in
     ((c .nodes .ensures, omega (arith, ok .fits .limits .nodes, c .nodes .ensures)), ((omega arith, omega (arith, s .pre .1, c .nodes .ensures)), greatest-start ok))
 
--- src/lib.rt:93:17
 parent-requires : tie.Need-parent-requires Inv-loop μ-loop
 parent-requires c κs = (omega arith, clean _ (c .before .before .before .before .pre .0) .fits)
 
--- src/lib.rt:93:12
-wide-requires : tie.Need-wide-requires Inv-loop μ-loop
-wide-requires c κs = search needs
-
--- src/lib.rt:94:40
-mul-greater : tie.Need-mul-greater Inv-loop μ-loop
-mul-greater c = omega arith
-
--- src/lib.rt:94:40
-element-copy-out-greater : tie.Need-element-copy-out-greater Inv-loop μ-loop
-element-copy-out-greater c = omega arith
-
--- src/lib.rt:94:13
-greater-requires : tie.Need-greater-requires Inv-loop μ-loop
-greater-requires c κs = search needs
-
--- src/lib.rt:96:9
-add-c-2 : tie.Need-add-c-2 Inv-loop μ-loop
-add-c-2 c = omega arith
-
--- src/lib.rt:92:5
-loop-less : tie.Need-loop-less Inv-loop μ-loop
-loop-less c = omega arith
-
--- src/lib.rt:92:5
 loop-again : tie.Need-loop-again Inv-loop μ-loop
 loop-again c =
     let l = c .before .before .before .before in
@@ -87,7 +52,6 @@ loop-again c =
       ),
     )
 
--- src/lib.rt:85:1
 returns : tie.Need-returns Inv-loop μ-loop
 returns c =
     let l = c .before in
@@ -105,11 +69,11 @@ longest-child-spec =
     add-c
     loop-holds
     parent-requires
-    wide-requires
-    mul-greater
-    element-copy-out-greater
-    greater-requires
-    add-c-2
-    loop-less
+    (λ c κs. search needs)
+    (λ c. omega arith)
+    (λ c. omega arith)
+    (λ c κs. search needs)
+    (λ c. omega arith)
+    (λ c. omega arith)
     loop-again
     returns)

@@ -1,44 +1,27 @@
 -- `work_out` meets its contract: all is under the root. Assumes nothing.
-use mathlib.Core.Path.{_≡_, sym, _∙_}
-use Prim.Native.Nat.{_<_}
+use mathlib.Core.Path.{sym, _∙_}
 use Rattle.plan.proofs.Accepted.{clean}
 use Rattle.waits.proofs.Filling.{root-worked, root-task}
 use borrow.Author.Needs.{needs}
 use borrow.Author.Needs.{needs}
 use Rattle.waits.proofs.work_out.Statement.{statement}
 use Rattle.waits.proofs.work_out.Tie as tie
-use Rattle.waits.proofs.work_out.Reads as reads
-use Rattle.waits.proofs.work_out.Lts as lts
-use Rattle.format.proofs.fields.kind.Reads as kind-reads
-use Rattle.waits.proofs.all_length.Reads as all-length-reads
-use Rattle.waits.proofs.any_length.Reads as any-length-reads
-use Rattle.waits.proofs.task_lengths.Reads as task-lengths-reads
 
--- src/lib.rt:182:5
-task-lengths-requires : tie.Need-task-lengths-requires
-task-lengths-requires c κs = search needs
-
--- src/lib.rt:183:9
 kind-requires : tie.Need-kind-requires
 kind-requires c κs = let ok = clean _ (c .before .before .before .before .pre .0) in (ok .fits .limits .some-node, ok .fits)
 
--- src/lib.rt:185:9
 all-length-requires : tie.Need-all-length-requires
 all-length-requires c κs = let s = c .before .before .before .before .before .before .before .before in ((s .pre .0, clean _ (s .pre .0) .fits .limits .some-node), (sym (c .before .before .before .kind .ensures) ∙ c .before .before .if1 .taken, c .before .before .before .before .task-lengths .ensures))
 
--- src/lib.rt:187:9
 any-length-requires : tie.Need-any-length-requires
 any-length-requires c κs = let s = c .before .before .before .before .before .before .before .before .before in ((s .pre .0, clean _ (s .pre .0) .fits .limits .some-node), (sym (c .before .before .before .before .kind .ensures) ∙ c .before .before .if2 .taken, c .before .before .before .before .before .task-lengths .ensures))
 
--- src/lib.rt:178:1
 returns : tie.Need-returns
 returns c = root-worked (c .before .before .before .before .before .before .before .before .before .pre .0) (c .all-length .ensures)
 
--- src/lib.rt:178:1
 returns-2 : tie.Need-returns-2
 returns-2 c = root-worked (c .before .before .before .before .before .before .before .before .before .before .pre .0) (c .any-length .ensures)
 
--- src/lib.rt:178:1
 returns-3 : tie.Need-returns-3
 returns-3 c = root-task (c .before .before .before .before .before .before .before .pre .0) (c .before .before .before .task-lengths .ensures) (λ z. c .before .if1 .left (c .before .before .kind .ensures ∙ z)) (λ z. c .if2 .left (c .before .before .kind .ensures ∙ z))
 
@@ -46,7 +29,7 @@ pub work-out-spec : {M : Type 1} → statement M
 work-out-spec =
     tie.close
     (tie.spec
-    task-lengths-requires
+    (λ c κs. search needs)
     kind-requires
     all-length-requires
     any-length-requires
