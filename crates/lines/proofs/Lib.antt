@@ -1,0 +1,2 @@
+-- The order of the task lines, and their text.
+pub mod Order
