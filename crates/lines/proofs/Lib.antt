@@ -1,2 +1,3 @@
 -- The order of the task lines, and their text.
 pub mod Order
+pub mod Places
