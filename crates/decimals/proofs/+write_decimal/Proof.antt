@@ -1,10 +1,9 @@
 -- `write_decimal` meets its contract, n falling. Assumes nothing.
-use mathlib.Core.Path.{_≡_, ap, _∙_}
-use lib.ListN.{length, length-append}
+use mathlib.Core.Path.{sym, _∙_}
 use Prim.Native.Nat.{ℕ, _<_}
 use native.Mathlib.Omega.{arith}
 use Rattle.decimals.proofs.Laws.{decimal-digit, decimal-more, length-digit, length-more}
-use Rattle.decimals.proofs.Written.{written-append, length-written}
+use Rattle.decimals.proofs.Written.{wrote-long, wrote-then, wrote-same}
 use borrow.Fn.Kinds.{In}
 use borrow.Fn.PlainCycle.{Measures, is, falls, and}
 use Rattle.decimals.proofs.write_decimal.Reads as write-decimal
@@ -30,10 +29,10 @@ put-requires : (t : ℕ) → lts.Need-put-requires (claims t) (at t) write-decim
 put-requires t c κs = let s = c .before .before .before in omega (arith, s .pre .1, length-digit (s .args .n) (omega arith))
 
 same-length : (t : ℕ) → lts.Need-same-length (claims t) (at t) write-decimal.Post
-same-length t c = ap length (c .before .before .put .ensures .0) ∙ length-written _ _ _
+same-length t c = wrote-long (c .before .before .put .ensures)
 
 returns : (t : ℕ) → lts.Need-returns (claims t) (at t) write-decimal.Post
-returns t c = let s = c .before .before .before .before .before .before in rw (decimal-digit (s .args .n) (omega arith)) (c .before .before .put .ensures)
+returns t c = let s = c .before .before .before .before .before .before in wrote-same (sym (decimal-digit (s .args .n) (omega arith))) (c .before .before .put .ensures)
 
 write-decimal-requires : (t : ℕ) → lts.Need-write-decimal-requires (claims t) (at t) write-decimal.Post
 write-decimal-requires t c κs = let s = c .before .before .before in (omega (arith, s .pre .0), omega (arith, s .pre .1, length-more (s .args .n) (omega arith)))
@@ -42,17 +41,15 @@ put-requires-2 : (t : ℕ) → lts.Need-put-requires-2 (claims t) (at t) write-d
 put-requires-2 t c κs =
     let s = c .before .before .before .before .before .before .before in
     let w = c .before .before .before .write-decimal .ensures in
-    omega (arith, w .1, ap length (w .0) ∙ length-written _ _ _, s .pre .1, length-more (s .args .n) (omega arith))
+    omega (arith, w .next, wrote-long w, s .pre .1, length-more (s .args .n) (omega arith))
 
 same-length-2 : (t : ℕ) → lts.Need-same-length-2 (claims t) (at t) write-decimal.Post
-same-length-2 t c = ap length (c .before .before .put2 .ensures .0) ∙ length-written _ _ _ ∙ ap length (c .before .before .before .before .before .before .write-decimal .ensures .0) ∙ length-written _ _ _
+same-length-2 t c = wrote-long (c .before .before .put2 .ensures) ∙ wrote-long (c .before .before .before .before .before .before .write-decimal .ensures)
 
 returns-2 : (t : ℕ) → lts.Need-returns-2 (claims t) (at t) write-decimal.Post
 returns-2 t c =
     let s = c .before .before .before .before .before .before .before .before .before .before in
-    let w = c .before .before .before .before .before .before .write-decimal .ensures in
-    let p = c .before .before .put2 .ensures in
-    rw (decimal-more (s .args .n) (omega arith)) (rw (w .0, w .1) at (p .0) ∙ written-append _ _ _ _, simp length-append (omega (arith, p .1, w .1)))
+    wrote-same (sym (decimal-more (s .args .n) (omega arith))) (wrote-then (c .before .before .before .before .before .before .write-decimal .ensures) (c .before .before .put2 .ensures))
 
 pub +write-decimal-spec : {M : Type 1} → statement M
 +write-decimal-spec = close μ-write-decimal λ t. lts.spec (claims t)
