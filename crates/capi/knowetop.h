@@ -1,4 +1,5 @@
-/* Knowetop: the calls on a plan, a byte string of plan_len bytes. */
+/* Knowetop: the calls on a plan, a byte string of plan_len bytes. Every call makes all its checks, lowest number first, on any bytes of any length, and a refused call changes no
+   lent byte. Pointers are not null, even where a length is 0; a slice that a call may write overlaps no other. */
 #ifndef KNOWETOP_H
 #define KNOWETOP_H
 
@@ -9,8 +10,31 @@
 extern "C" {
 #endif
 
-/* The first cause, 1 to 14, for which the plan is refused, or 0 if it is accepted. Any bytes of any length are allowed; plan is not null, even where plan_len is 0. */
+/* The first cause, 1 to 14, for which the plan is refused, or 0 if it is accepted. */
 uint32_t knowetop_refusal(const uint8_t *plan, size_t plan_len);
+
+/* The answer for the plan: a refusal, 1 to 14, or one of these. */
+#define KNOWETOP_CLEAR 128
+#define KNOWETOP_DOOMED 129
+#define KNOWETOP_OPEN 130
+uint32_t knowetop_verdict(const uint8_t *plan, size_t plan_len);
+
+/* Writes the summary of a node to the first 16 V bytes of out, V the plan's number of flags, and keeps the rest: entry 2 f + sign of 8 bytes is for the literal of flag f with that
+   sign; its bytes are 0 or 1: may need, must need, may leave, must leave, may hold, must hold, may clash, doom. Returns 0, or 1 to 14, 15 (out_len under 16 V) or 17 (no such node). */
+uint32_t knowetop_summary(const uint8_t *plan, size_t plan_len, size_t node, uint8_t *out, size_t out_len);
+
+/* A state is 8 bytes of flags and a byte for each node; later bytes are never changed. Writes the state of a run that has not begun. Returns 0, or 1 to 14 or 15 (state_len under 8 + N). */
+uint32_t knowetop_fresh(const uint8_t *plan, size_t plan_len, uint8_t *state, size_t state_len);
+
+/* Start and finish of a task. Returns 0, and the task's byte and its literals are written; or 1 to 15, 16 (malformed state), 17 (no task), 18 (start: not waiting; finish: not running),
+   for a start 19 (another branch of a choice above is taken), 20 (an order's earlier node is not complete), 21 (a need is unmet), and 22 (a hold of another running task would be broken). */
+uint32_t knowetop_start(const uint8_t *plan, size_t plan_len, uint8_t *state, size_t state_len, size_t task);
+uint32_t knowetop_finish(const uint8_t *plan, size_t plan_len, uint8_t *state, size_t state_len, size_t task);
+
+/* Whether the root is complete: a refusal, 1 to 16, or one of these. */
+#define KNOWETOP_COMPLETE 128
+#define KNOWETOP_UNFINISHED 129
+uint32_t knowetop_status(const uint8_t *plan, size_t plan_len, const uint8_t *state, size_t state_len);
 
 #ifdef __cplusplus
 }

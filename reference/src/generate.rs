@@ -1,5 +1,7 @@
 //! Random valid plans.
 
+pub mod clear;
+
 use std::collections::BTreeSet;
 
 use crate::format::{

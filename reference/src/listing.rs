@@ -5,7 +5,7 @@ use std::fmt::Write;
 
 use crate::format::Plan;
 use crate::rules::accept;
-use crate::verdict::verdict;
+use crate::verdict::{verdict, Verdict};
 use crate::waits::Waits;
 
 /// The bytes that the call must be lent, however short the text is.
@@ -13,13 +13,18 @@ pub const LISTING_LEN: usize = 2048;
 
 /// The text for an accepted plan.
 pub fn text(plan: &Plan) -> String {
+    text_with(plan, verdict(plan))
+}
+
+/// The text, once the verdict is known.
+fn text_with(plan: &Plan, verdict: Verdict) -> String {
     let waits = Waits::new(plan);
     let mut lines: Vec<(u32, usize)> = plan
         .tasks()
         .map(|task| (waits.longest(plan, task), task))
         .collect();
     lines.sort_by_key(|&(wait, task)| (Reverse(wait), task));
-    let mut text = format!("{} {}\n", verdict(plan).word(), waits.length(0));
+    let mut text = format!("{} {}\n", verdict.word(), waits.length(0));
     for (wait, task) in lines {
         let name = String::from_utf8_lossy(&plan.nodes[task].name);
         writeln!(text, "{name} {wait}").expect("a text takes in any line");
@@ -27,13 +32,17 @@ pub fn text(plan: &Plan) -> String {
     text
 }
 
-/// The call: writes the text and answers its length, or meets the first of refusals 1 to 15.
-pub fn listing(plan: &[u8], out: &mut [u8]) -> Result<usize, u32> {
-    let plan = accept(plan)?;
+/// The call on an accepted plan with this verdict: writes the text and answers its length, or
+/// meets refusal 15.
+pub fn listing(
+    plan: &Plan,
+    verdict: impl FnOnce() -> Verdict,
+    out: &mut [u8],
+) -> Result<usize, u32> {
     if out.len() < LISTING_LEN {
         return Err(15);
     }
-    let text = text(&plan);
+    let text = text_with(plan, verdict());
     out[..text.len()].copy_from_slice(text.as_bytes());
     Ok(text.len())
 }

@@ -3,7 +3,6 @@
 use crate::events::{Event, Status, Statuses};
 use crate::format::{Plan, INCONDITION, PRECONDITION, SET};
 use crate::literal::Literal;
-use crate::rules::accept;
 
 /// What the bytes of a well-formed state say.
 #[derive(Clone, Debug, PartialEq, Eq, Hash)]
@@ -24,26 +23,24 @@ pub fn state_len(plan: &Plan) -> usize {
     8 + plan.nodes.len()
 }
 
-/// The call: writes the first state, or meets the first of refusals 1 to 15.
-pub fn fresh(plan: &[u8], state: &mut [u8]) -> Result<(), u32> {
-    let plan = accept(plan)?;
-    long_enough(&plan, state)?;
-    State::fresh(&plan).write(state);
+/// The call on an accepted plan: writes the first state, or meets refusal 15.
+pub fn fresh(plan: &Plan, state: &mut [u8]) -> Result<(), u32> {
+    long_enough(plan, state)?;
+    State::fresh(plan).write(state);
     Ok(())
 }
 
-/// The call: takes in the start or finish of a task, or meets the first of refusals 1 to 22.
-pub fn happen(plan: &[u8], state: &mut [u8], event: Event) -> Result<(), u32> {
-    let plan = accept(plan)?;
-    let before = State::read(&plan, state)?;
-    before.step(&plan, event)?.write(state);
+/// The call on an accepted plan: takes in the start or finish of a task, or meets the first of
+/// refusals 15 to 22.
+pub fn happen(plan: &Plan, state: &mut [u8], event: Event) -> Result<(), u32> {
+    let before = State::read(plan, state)?;
+    before.step(plan, event)?.write(state);
     Ok(())
 }
 
-/// The call: how far the root is, or the first of refusals 1 to 16.
-pub fn status(plan: &[u8], state: &[u8]) -> Result<Progress, u32> {
-    let plan = accept(plan)?;
-    Ok(State::read(&plan, state)?.progress(&plan))
+/// The call on an accepted plan: how far the root is, or refusal 15 or 16.
+pub fn status(plan: &Plan, state: &[u8]) -> Result<Progress, u32> {
+    Ok(State::read(plan, state)?.progress(plan))
 }
 
 /// 15: lent state too short.

@@ -2,9 +2,13 @@
 
 use std::collections::HashSet;
 
+use crate::calls::{Answers, Call};
 use crate::events::Event;
 use crate::format::Plan;
-use crate::monitor::{Progress, State};
+use crate::monitor::state_len;
+
+/// What the status call returns then.
+const COMPLETE: u32 = 128;
 
 /// What some list of start and finish calls, from the fresh state, can bring about.
 #[derive(Clone, Copy, Debug, PartialEq, Eq)]
@@ -15,27 +19,33 @@ pub struct Outcome {
     pub completable: bool,
 }
 
-/// Goes through every reachable state. Numbers beyond the nodes only ever return 17.
+/// By the reference.
 pub fn search(plan: &Plan) -> Outcome {
+    let answers = Answers::by_rules(&plan.bytes());
+    search_by(plan, |call, _, lent| answers.make(call, lent))
+}
+
+/// Goes through every state that these calls reach. Numbers beyond the nodes only ever return 17.
+pub fn search_by(plan: &Plan, make: impl Fn(Call, &mut [u8], &mut [u8]) -> u32) -> Outcome {
     let mut outcome = Outcome {
         conflict: false,
         completable: false,
     };
-    let fresh = State::fresh(plan);
+    let mut bytes = plan.bytes();
+    let mut make = |call, state: &mut [u8]| make(call, &mut bytes, state);
+    let mut fresh = vec![0; state_len(plan)];
+    assert_eq!(make(Call::Fresh, &mut fresh), 0);
     let mut seen = HashSet::from([fresh.clone()]);
     let mut open = vec![fresh];
-    while let Some(state) = open.pop() {
-        outcome.completable |= state.progress(plan) == Progress::Complete;
+    while let Some(mut state) = open.pop() {
+        outcome.completable |= make(Call::Status, &mut state) == COMPLETE;
         for number in 0..plan.nodes.len() {
             for event in [Event::Start(number), Event::Finish(number)] {
-                match state.step(plan, event) {
-                    Ok(after) => {
-                        if seen.insert(after.clone()) {
-                            open.push(after);
-                        }
-                    }
-                    Err(21 | 22) => outcome.conflict = true,
-                    Err(_) => {}
+                let mut after = state.clone();
+                match make(Call::Event(event), &mut after) {
+                    0 if seen.insert(after.clone()) => open.push(after),
+                    21 | 22 => outcome.conflict = true,
+                    _ => {}
                 }
             }
         }

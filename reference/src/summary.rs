@@ -1,8 +1,7 @@
 //! The summary of a node (01: sheet).
 
 use crate::format::Plan;
-use crate::marks::{marks, Marks};
-use crate::rules::accept;
+use crate::marks::Marks;
 
 /// The length of a summary: 16V.
 pub fn summary_len(plan: &Plan) -> usize {
@@ -15,16 +14,21 @@ pub fn bytes(entries: &[Marks]) -> Vec<u8> {
     marks.map(u8::from).collect()
 }
 
-/// The call: writes a node's summary, or meets the first of refusals 1 to 15 and 17.
-pub fn summary(plan: &[u8], node: usize, out: &mut [u8]) -> Result<(), u32> {
-    let plan = accept(plan)?;
-    let len = summary_len(&plan);
+/// The call on an accepted plan with these marks: writes a node's summary, or meets refusal 15 or
+/// 17.
+pub fn summary<'a>(
+    plan: &Plan,
+    marks: impl FnOnce() -> &'a [Vec<Marks>],
+    node: usize,
+    out: &mut [u8],
+) -> Result<(), u32> {
+    let len = summary_len(plan);
     if out.len() < len {
         return Err(15);
     }
     if node >= plan.nodes.len() {
         return Err(17);
     }
-    out[..len].copy_from_slice(&bytes(&marks(&plan)[node]));
+    out[..len].copy_from_slice(&bytes(&marks()[node]));
     Ok(())
 }

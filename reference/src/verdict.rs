@@ -1,7 +1,7 @@
 //! The answer for a plan.
 
 use crate::format::{Plan, SET};
-use crate::marks::marks;
+use crate::marks::{marks, Marks};
 
 #[derive(Clone, Copy, Debug, PartialEq, Eq)]
 pub enum Verdict {
@@ -20,11 +20,15 @@ impl Verdict {
     }
 }
 
-/// The verdict on an accepted plan, from the marks at its root.
+/// The verdict on an accepted plan.
 pub fn verdict(plan: &Plan) -> Verdict {
-    let root = marks(plan).swap_remove(0);
+    from_marks(plan, &marks(plan)[0])
+}
+
+/// The verdict, from the marks at the root.
+pub fn from_marks(plan: &Plan, root: &[Marks]) -> Verdict {
     let (mut may_fail, mut doomed) = (false, false);
-    for (literal, marks) in plan.literals().zip(&root) {
+    for (literal, marks) in plan.literals().zip(root) {
         let set_at_start = plan.starts_set(usize::from(literal.flag));
         let false_at_start = set_at_start != (literal.sign == SET);
         may_fail |= marks.may_clobber || false_at_start && marks.may_pre;

@@ -6,6 +6,7 @@ use std::fs;
 use std::path::{Path, PathBuf};
 
 use reference::archive;
+use reference::calls::Call;
 use reference::rules::refusal;
 use reference::text::{make, show, Error, Source};
 
@@ -64,7 +65,8 @@ fn lengths_and_refusals() {
         let mut plan = plan_of(name);
         assert_eq!(plan.len(), len, "{name}");
         assert_eq!(refusal(&plan), want, "{name}");
-        assert_eq!(archive::refusal(&mut plan), want, "{name}");
+        let found = archive::make(Call::Refusal, &mut plan, &mut []);
+        assert_eq!(found, want, "{name}");
     }
 }
 

@@ -1,10 +1,87 @@
 // The C interface: knowetop.h.
 ghost use mathlib.Core.Path.{_≡_};
 ghost use Rattle.rules.specs.Rules.{refusal};
+ghost use Rattle.summary.specs.Summary.{Summarised};
+ghost use Rattle.summary.specs.Verdict as verdict;
+ghost use Rattle.runs.specs.Execution as execution;
+ghost use Rattle.state.specs.Fresh.{Freshened};
+ghost use Rattle.monitor.specs.Events.{Called};
+ghost use Rattle.monitor.specs.Status as progress;
+ghost use Rattle.capi.specs.Numbers.{verdictNumber, VerdictNumber, statusNumber, StatusNumber};
+use monitor::Progress;
+use summary::Answer;
+use summary::Verdict;
 
 #[no_mangle]
 pub extern "C" fn knowetop_refusal(plan: &[u8]) -> u32
     ensures { λ r. ⌜ r ≡ refusal (now (plan .entry)) ⌝ }
 {
     plan::check(plan)
+}
+
+fn verdict_number(answer: Answer) -> u32
+    ensures { λ r. ⌜ r ≡ verdictNumber (verdict.said answer) ⌝ }
+{
+    match answer {
+        Answer::Refused(n) => n,
+        Answer::Judged(verdict) => match verdict {
+            Verdict::Clear => 128,
+            Verdict::Doomed => 129,
+            Verdict::Open => 130,
+        },
+    }
+}
+
+#[no_mangle]
+pub extern "C" fn knowetop_verdict(plan: &[u8]) -> u32
+    ensures { λ r. ⌜ VerdictNumber (now (plan .entry)) r ⌝ }
+{
+    let answer = summary::assess(plan);
+    verdict_number(answer)
+}
+
+#[no_mangle]
+pub extern "C" fn knowetop_summary(plan: &[u8], node: usize, out: &mut [u8]) -> u32
+    ensures { λ r. ⌜ Summarised (now (plan .entry)) node (now (out .entry)) r (now (out .exit)) ⌝ }
+{
+    summary::summary(plan, node, out)
+}
+
+#[no_mangle]
+pub extern "C" fn knowetop_fresh(plan: &[u8], state: &mut [u8]) -> u32
+    ensures { λ r. ⌜ Freshened (now (plan .entry)) (now (state .entry)) r (now (state .exit)) ⌝ }
+{
+    state::fresh(plan, state)
+}
+
+#[no_mangle]
+pub extern "C" fn knowetop_start(plan: &[u8], state: &mut [u8], task: usize) -> u32
+    ensures { λ r. ⌜ Called (now (plan .entry)) (now (state .entry)) (execution.start task) r (now (state .exit)) ⌝ }
+{
+    monitor::start(plan, state, task)
+}
+
+#[no_mangle]
+pub extern "C" fn knowetop_finish(plan: &[u8], state: &mut [u8], task: usize) -> u32
+    ensures { λ r. ⌜ Called (now (plan .entry)) (now (state .entry)) (execution.finish task) r (now (state .exit)) ⌝ }
+{
+    monitor::finish(plan, state, task)
+}
+
+fn status_number(answer: Progress) -> u32
+    ensures { λ r. ⌜ r ≡ statusNumber (progress.said answer) ⌝ }
+{
+    match answer {
+        Progress::Refused(n) => n,
+        Progress::Complete => 128,
+        Progress::Unfinished => 129,
+    }
+}
+
+#[no_mangle]
+pub extern "C" fn knowetop_status(plan: &[u8], state: &[u8]) -> u32
+    ensures { λ r. ⌜ StatusNumber (now (plan .entry)) (now (state .entry)) r ⌝ }
+{
+    let answer = monitor::status(plan, state);
+    status_number(answer)
 }

@@ -1,30 +1,54 @@
 -- The chain of refusals 17 to 22, and the answers of whole calls. Assumes nothing.
 use mathlib.Core.Path.{_≡_, refl, sym, ap, _∙_}
-use mathlib.Core.Logic.{⊎-elim, inl, inr}
+use mathlib.Core.Logic.{⊎-elim, _↔_}
 use mathlib.Core.Bool.{Bool, true, false, cond, not}
 use mathlib.Core.List.{List}
-use Prim.Native.Nat.{ℕ, zero, suc, _≤_}
+use Prim.Native.Nat.{ℕ, zero, suc, _<_, _≤_}
 use native.Mathlib.Omega.{arith}
 use lib.Dec.{eqb}
+use lib.ListN.{replicate}
 use borrow.Author.Tests.{eq-eqb, ne-eqb}
-use Rattle.format.specs.Format.{kindOf, isKind}
+use Rattle.flags.specs.Flags.{allByte}
+use Rattle.format.specs.Format.{nodeCount, kindOf, isKind, condCount}
+use Rattle.rules.specs.Search.{someBelow}
 use Rattle.rules.proofs.Laws.{either}
 use mathlib.Core.Option.{none}
-use Rattle.plan.specs.Meaning.{planOf, kindAt, signIn}
+use Rattle.plan.specs.Meaning.{planOf, kindAt, placeNumber, signIn}
 use Rattle.plan.proofs.Meaning.{kind-is, kind-of, kind-task, kind-limit}
-use Rattle.runs.specs.Plan.{task, inc}
-use Rattle.runs.specs.Execution.{start, waiting, asserts}
-use Rattle.runs.specs.Calls.{one, no-task, wrong-status, branch-begun, order-open, pre-unmet, inc-broken}
-use Rattle.runs.specs.Model.Monitor.{returned, refusalOf, firstOf, orElse, code, appliesB, completeB, taskB, statusB, branchBegunB, orderOpenB, preUnmetB, incBrokenB}
+use Rattle.runs.specs.Plan.{task}
+use Rattle.runs.specs.Execution.{Status, waiting, running, done, Event, start, finish, nodeOf, statusOf, asserts}
+use Rattle.runs.specs.Calls.{one, asks, statusByte, no-task, wrong-status, branch-begun, order-open, pre-unmet, inc-broken}
+use Rattle.runs.specs.Model.Monitor.{returned, refusalOf, firstOf, orElse, code, appliesB, taskB, statusB, branchBegunB, orderOpenB, preUnmetB, incBrokenB}
 use Rattle.runs.specs.Tests.{negate}
 use Rattle.runs.proofs.Reflect.{r-eq, r-map, clash}
 use Rattle.runs.proofs.Calls.Reflect.{r-task, r-status}
 use Rattle.answers.specs.Answers.{first}
+use Rattle.answers.proofs.First.{first-none, first-some}
 use Rattle.state.specs.State.{byteOf, stateRefusal, statusIn, flagShown, worldOf}
-use Rattle.progress.proofs.Sound.{true-T, T-true, same-test, is-node, node-is, plan-kind, has-room, well-formed, byte-waiting}
-use Rattle.answers.proofs.First.{first-some}
-use Rattle.monitor.specs.Start.{treeRefusal, conditionRefusal, eventState, startReturn, startState}
-use Rattle.monitor.specs.Status.{Word, COMPLETE, UNFINISHED, wordFor, refusedOr, statusAnswer}
+use Rattle.progress.proofs.Sound.{true-T, T-true, same-test, is-node, node-is, plan-kind, has-room, well-formed, byte-waiting, byte-running, byte-done}
+use Rattle.conditions.specs.Conditions.{made, brokenAt}
+use Rattle.conditions.proofs.Refusals.{broken-is}
+use Rattle.monitor.specs.declared.Move.{Move}
+use Rattle.monitor.specs.declared.Move.the-variants.{Start, Finish}
+use Rattle.monitor.specs.Events.{eventOf, placeOf, treeRefusal, beginRefusal, withEvent, eventReturn, eventState, Called}
+
+-- ---- moves
+-- what does not depend on the task
+pub asks-of : (m : Move) (t : ℕ) → asks (eventOf m 0) ≡ asks (eventOf m t)
+asks-of Start t = refl
+asks-of Finish t = refl
+
+pub place-is : (m : Move) (t : ℕ) → placeOf (eventOf m 0) ≡ placeOf (eventOf m t)
+place-is Start t = refl
+place-is Finish t = refl
+
+pub status-of : (m : Move) (t : ℕ) → statusOf (eventOf m 0) ≡ statusOf (eventOf m t)
+status-of Start t = refl
+status-of Finish t = refl
+
+pub node-of : (m : Move) (t : ℕ) → nodeOf (eventOf m t) ≡ t
+node-of Start t = refl
+node-of Finish t = refl
 
 none-kind : (k : ℕ) → k ≤ 2 → kindAt k ≡ task → k ≡ 0
 unfolding kindAt
@@ -33,53 +57,98 @@ none-kind (suc zero) l e = clash cc
 none-kind (suc (suc zero)) l e = clash cc
 none-kind (suc (suc (suc k))) l e = absurd (omega arith)
 
-chain-of : (a b c d e f : Bool) →
+start-chain : (a b c d e f : Bool) →
     code (orElse a no-task (λ u. orElse b wrong-status (λ u. orElse c branch-begun (λ u. orElse d order-open (λ u. orElse e pre-unmet (λ u. orElse f inc-broken (λ u. none)))))))
-    ≡ cond a 17 (cond b 18 (first (cond c 19 (cond d 20 0)) (cond e 21 (cond f 22 0))))
-chain-of true b c d e f = refl
-chain-of false true c d e f = refl
-chain-of false false true d e f = refl
-chain-of false false false true e f = refl
-chain-of false false false false true f = refl
-chain-of false false false false false true = refl
-chain-of false false false false false false = refl
+    ≡ cond a 17 (cond b 18 (first (first (cond c 19 (cond d 20 0)) (cond e 21 0)) (cond f 22 0)))
+start-chain true b c d e f = refl
+start-chain false true c d e f = refl
+start-chain false false true d e f = refl
+start-chain false false false true e f = refl
+start-chain false false false false true f = refl
+start-chain false false false false false true = refl
+start-chain false false false false false false = refl
 
-module _ (b s : List ℕ) (ok : stateRefusal b s ≡ 0) (t : ℕ) where
-  task-is : isKind b t 0 ≡ taskB (planOf b) t
-  task-is =
+finish-chain : (a b f : Bool) → code (orElse a no-task (λ u. orElse b wrong-status (λ u. orElse f inc-broken (λ u. none)))) ≡ cond a 17 (cond b 18 (first 0 (cond f 22 0)))
+finish-chain true b f = refl
+finish-chain false true f = refl
+finish-chain false false true = refl
+finish-chain false false false = refl
+
+module _ (b s : List ℕ) (ok : stateRefusal b s ≡ 0) where
+  task-is : (t : ℕ) → isKind b t 0 ≡ taskB (planOf b) t
+  task-is t =
       same-test _ _ (record {
         to = λ y. let w = kind-is b t 0 (T-true (isKind b t 0) y) in record { node = is-node b t (w .0); is-task = plan-kind b t ∙ kind-task (kindOf b t) (w .1) };
         from = λ x. let l = node-is b t (x .node) in true-T (isKind b t 0) (kind-of b t 0 l (none-kind (kindOf b t) (kind-limit b (has-room b s ok .plan) t l) (sym (plan-kind b t) ∙ x .is-task)));
       }) (r-task (planOf b) (well-formed b s ok) t)
 
-  abbrev start-returned : ℕ
-  start-returned = returned (planOf b) (worldOf b s) (one (start t))
+  byte-status : (t : ℕ) → t < nodeCount b → kindOf b t ≡ 0 → (a : Status) → (byteOf s t ≡ statusByte a) ↔ (statusIn b s t ≡ a)
+  byte-status t l k waiting = byte-waiting b s ok t l k
+  byte-status t l k running = byte-running b s ok t l k
+  byte-status t l k done = byte-done b s ok t l k
 
-  chain : start-returned ≡ cond (not (taskB (planOf b) t)) 17 (cond (not (statusB (statusIn b s t) waiting)) 18 (first (treeRefusal b s t) (conditionRefusal b s t)))
-  unfolding returned refusalOf firstOf appliesB worldOf negate treeRefusal conditionRefusal
-  chain = chain-of (not (taskB (planOf b) t)) (not (statusB (statusIn b s t) waiting)) (branchBegunB (planOf b) (statusIn b s) t) (orderOpenB (planOf b) (statusIn b s) t) (preUnmetB (planOf b) (flagShown s) (start t)) (incBrokenB (planOf b) (statusIn b s) (start t))
+  -- the end of the chain: 22
+  abbrev broken : Event → ℕ
+  broken e = cond (incBrokenB (planOf b) (statusIn b s) e) 22 0
 
-  pub start-17 : isKind b t 0 ≡ false → 17 ≡ start-returned
-  start-17 y = rw (chain, ← task-is, y)
+  chain-of : (e : Event) → returned (planOf b) (worldOf b s) (one e)
+      ≡ cond (not (taskB (planOf b) (nodeOf e))) 17 (cond (not (statusB (statusIn b s (nodeOf e)) (asks e))) 18 (first (beginRefusal b s e) (broken e)))
+  unfolding returned refusalOf firstOf appliesB worldOf negate treeRefusal beginRefusal
+  chain-of (start t) = start-chain (not (taskB (planOf b) t)) (not (statusB (statusIn b s t) waiting)) (branchBegunB (planOf b) (statusIn b s) t) (orderOpenB (planOf b) (statusIn b s) t) (preUnmetB (planOf b) (flagShown s) (start t)) (incBrokenB (planOf b) (statusIn b s) (start t))
+  chain-of (finish t) = finish-chain (not (taskB (planOf b) t)) (not (statusB (statusIn b s t) running)) (incBrokenB (planOf b) (statusIn b s) (finish t))
 
-  module _ (y : isKind b t 0 ≡ true) where
-    status-is : eqb (byteOf s t) 0 ≡ statusB (statusIn b s t) waiting
-    status-is = let w = kind-is b t 0 y in same-test _ _ (r-map (byte-waiting b s ok t (w .0) (w .1)) (r-eq (byteOf s t) 0)) (r-status (statusIn b s t) waiting)
+  module _ (t : ℕ) (e : Event) (of : nodeOf e ≡ t) where
+    abbrev answer : ℕ
+    answer = returned (planOf b) (worldOf b s) (one e)
 
-    pub start-18 : (byteOf s t ≡ 0 → ⊥) → 18 ≡ start-returned
-    start-18 n = rw (chain, ← task-is, y, ← status-is, ne-eqb (byteOf s t) 0 n)
+    chain : answer ≡ cond (not (isKind b t 0)) 17 (cond (not (statusB (statusIn b s t) (asks e))) 18 (first (beginRefusal b s e) (broken e)))
+    chain = chain-of e ∙ rw (of, task-is t)
 
-    pub start-rest : byteOf s t ≡ 0 → first (treeRefusal b s t) (conditionRefusal b s t) ≡ start-returned
-    start-rest e = rw (chain, ← task-is, y, ← status-is, eq-eqb (byteOf s t) 0 e)
+    pub answer-17 : isKind b t 0 ≡ false → 17 ≡ answer
+    answer-17 y = sym (chain ∙ rw y)
 
-  -- an accepted start is of a task that waits
-  pub start-task : start-returned ≡ 0 → isKind b t 0 ≡ true
-  start-task e =
-      ⊎-elim (λ (y : isKind b t 0 ≡ true). y)
-      (λ (y : isKind b t 0 ≡ false). absurd (omega (arith, start-17 y, e)))
-      (either (isKind b t 0))
+    module _ (y : isKind b t 0 ≡ true) where
+      status-is : eqb (byteOf s t) (statusByte (asks e)) ≡ statusB (statusIn b s t) (asks e)
+      status-is = let w = kind-is b t 0 y in same-test _ _ (r-map (byte-status t (w .0) (w .1) (asks e)) (r-eq (byteOf s t) (statusByte (asks e)))) (r-status (statusIn b s t) (asks e))
 
-  -- ---- the parts
+      chain-18 : answer ≡ cond (not (eqb (byteOf s t) (statusByte (asks e)))) 18 (first (beginRefusal b s e) (broken e))
+      chain-18 = chain ∙ rw (y, status-is)
+
+      pub answer-18 : (byteOf s t ≡ statusByte (asks e) → ⊥) → 18 ≡ answer
+      answer-18 n = sym (chain-18 ∙ rw (ne-eqb (byteOf s t) (statusByte (asks e)) n))
+
+      module _ (h : byteOf s t ≡ statusByte (asks e)) where
+        rest : first (beginRefusal b s e) (broken e) ≡ answer
+        rest = sym (chain-18 ∙ rw (eq-eqb (byteOf s t) (statusByte (asks e)) h))
+
+        pub answer-begin : (r : ℕ) → r ≡ beginRefusal b s e → (r ≡ 0 → ⊥) → r ≡ answer
+        answer-begin r q n = q ∙ first-some (beginRefusal b s e) (broken e) (λ z. n (q ∙ z)) ∙ rest
+
+        pub answer-broken : beginRefusal b s e ≡ 0 → (z : Bool) → incBrokenB (planOf b) (statusIn b s) e ≡ z → cond z 22 0 ≡ answer
+        answer-broken q z d = ap (λ (x : Bool). cond x 22 0) (sym d) ∙ first-none (beginRefusal b s e) (broken e) q ∙ rest
+
+    -- an accepted event is of a task
+    pub answer-task : answer ≡ 0 → isKind b t 0 ≡ true
+    answer-task z =
+        ⊎-elim (λ (y : isKind b t 0 ≡ true). y)
+        (λ (y : isKind b t 0 ≡ false). absurd (omega (arith, answer-17 y, z)))
+        (either (isKind b t 0))
+
+  -- what an event asserts
+  pub event-does : (e : Event) (f : ℕ) → asserts (planOf b) e f ≡ signIn b (placeOf e) (nodeOf e) f
+  unfolding planOf
+  event-does (start t) f = refl
+  event-does (finish t) f = refl
+
+  -- the test of 22, by what the function has at hand
+  pub broken-by : (t : ℕ) (e : Event) → nodeOf e ≡ t → (q : ℕ) → q ≡ placeNumber (placeOf e) → (r : Bool)
+      → r ≡ someBelow (condCount b) (brokenAt b s (made b q t (replicate 8 (allByte false))) (made b q t (replicate 8 (allByte true))) t) → r ≡ incBrokenB (planOf b) (statusIn b s) e
+  broken-by t e of q k r h =
+      let g : (f : ℕ) → asserts (planOf b) e f ≡ signIn b (placeOf e) t f = λ f. event-does e f ∙ ap (λ (n : ℕ). signIn b (placeOf e) n f) of in
+      h ∙ ap (λ (q : ℕ). someBelow (condCount b) (brokenAt b s (made b q t (replicate 8 (allByte false))) (made b q t (replicate 8 (allByte true))) t)) k ∙ broken-is b s ok t (placeOf e) e of g
+
+-- ---- the parts
+module _ (b s : List ℕ) (t : ℕ) where
   pub tree-19 : branchBegunB (planOf b) (statusIn b s) t ≡ true → 19 ≡ treeRefusal b s t
   unfolding treeRefusal
   tree-19 y = rw y
@@ -92,50 +161,52 @@ module _ (b s : List ℕ) (ok : stateRefusal b s ≡ 0) (t : ℕ) where
   unfolding treeRefusal
   tree-none x y = rw (x, y)
 
-  pub conditions-21 : preUnmetB (planOf b) (flagShown s) (start t) ≡ true → 21 ≡ conditionRefusal b s t
-  unfolding conditionRefusal
-  conditions-21 y = rw y
+  pub begin-tree : (r : ℕ) → r ≡ treeRefusal b s t → (r ≡ 0 → ⊥) → r ≡ beginRefusal b s (start t)
+  unfolding beginRefusal
+  begin-tree r q n = q ∙ first-some (treeRefusal b s t) (cond (preUnmetB (planOf b) (flagShown s) (start t)) 21 0) (λ z. n (q ∙ z))
 
-  pub conditions-22 : preUnmetB (planOf b) (flagShown s) (start t) ≡ false → incBrokenB (planOf b) (statusIn b s) (start t) ≡ true → 22 ≡ conditionRefusal b s t
-  unfolding conditionRefusal
-  conditions-22 x y = rw (x, y)
+  pub begin-unmet : treeRefusal b s t ≡ 0 → (z : Bool) → preUnmetB (planOf b) (flagShown s) (start t) ≡ z → cond z 21 0 ≡ beginRefusal b s (start t)
+  unfolding beginRefusal
+  begin-unmet q z d = ap (λ (x : Bool). cond x 21 0) (sym d) ∙ first-none (treeRefusal b s t) (cond (preUnmetB (planOf b) (flagShown s) (start t)) 21 0) q
 
-  pub conditions-none : preUnmetB (planOf b) (flagShown s) (start t) ≡ false → incBrokenB (planOf b) (statusIn b s) (start t) ≡ false → 0 ≡ conditionRefusal b s t
-  unfolding conditionRefusal
-  conditions-none x y = rw (x, y)
+pub begin-start : (b s : List ℕ) (m : Move) (t : ℕ) → m ≡ Start → beginRefusal b s (start t) ≡ beginRefusal b s (eventOf m t)
+begin-start b s m t e = rw e
 
-  pub start-does : (f : ℕ) → asserts (planOf b) (start t) f ≡ signIn b inc t f
-  unfolding planOf
-  start-does f = refl
+pub begin-finish : (b s : List ℕ) (m : Move) (t : ℕ) → m ≡ Finish → 0 ≡ beginRefusal b s (eventOf m t)
+unfolding beginRefusal
+begin-finish b s m t e = rw e
 
 -- ---- whole calls
-module _ (b s : List ℕ) (t : ℕ) where
-  pub refused-16 : (stateRefusal b s ≡ 0 → ⊥) → (stateRefusal b s ≡ startReturn b s t) × (s ≡ startState b s t)
-  unfolding startReturn startState
-  refused-16 n = let e = first-some (stateRefusal b s) (returned (planOf b) (worldOf b s) (one (start t))) n in (e, rw (ne-eqb (first (stateRefusal b s) (returned (planOf b) (worldOf b s) (one (start t)))) 0 (λ z. n (e ∙ z))))
+module _ (b s : List ℕ) (e : Event) where
+  abbrev asked : ℕ
+  asked = returned (planOf b) (worldOf b s) (one e)
+
+  abbrev written : List ℕ
+  written = withEvent b (placeNumber (placeOf e)) (nodeOf e) (statusByte (statusOf e)) s
+
+  pub refused-16 : (stateRefusal b s ≡ 0 → ⊥) → (stateRefusal b s ≡ eventReturn b s e) × (s ≡ eventState b s e)
+  unfolding eventReturn eventState
+  refused-16 n = let z = first-some (stateRefusal b s) asked n in (z, rw (ne-eqb (first (stateRefusal b s) asked) 0 (λ y. n (z ∙ y))))
 
   module _ (ok : stateRefusal b s ≡ 0) where
-    pub refused-22 : (returned (planOf b) (worldOf b s) (one (start t)) ≡ 0 → ⊥) → (returned (planOf b) (worldOf b s) (one (start t)) ≡ startReturn b s t) × (s ≡ startState b s t)
-    unfolding startReturn startState
-    refused-22 n = (rw ok, rw (ok, ne-eqb (returned (planOf b) (worldOf b s) (one (start t))) 0 n))
+    pub refused-22 : (asked ≡ 0 → ⊥) → (asked ≡ eventReturn b s e) × (s ≡ eventState b s e)
+    unfolding eventReturn eventState
+    refused-22 n = (rw ok, rw (ok, ne-eqb asked 0 n))
 
-    pub accepted : returned (planOf b) (worldOf b s) (one (start t)) ≡ 0 → (0 ≡ startReturn b s t) × (eventState b 1 t 1 s ≡ startState b s t)
-    unfolding startReturn startState
-    accepted e = (rw (ok, e), rw (ok, e))
+    pub accepted : asked ≡ 0 → (0 ≡ eventReturn b s e) × (written ≡ eventState b s e)
+    unfolding eventReturn eventState
+    accepted z = (rw (ok, z), rw (ok, z))
 
-module _ (b s : List ℕ) where
-  pub answer-refused : (r : ℕ) → r ≡ stateRefusal b s → (r ≡ 0 → ⊥) → inl r ≡ statusAnswer b s
-  unfolding statusAnswer
-  answer-refused r e n = rw (← e) (at r n (wordFor (completeB (planOf b) (statusIn b s) 0)))
-    where
-      at : (r : ℕ) → (r ≡ 0 → ⊥) → (w : Word) → inl r ≡ refusedOr r w
-      at zero n w = absurd (n refl)
-      at (suc r) n w = refl
+-- the same, by what the function has at hand
+pub called-16 : (b s : List ℕ) (e : Event) (r : ℕ) → r ≡ stateRefusal b s → (r ≡ 0 → ⊥) → Called b s e r s
+called-16 b s e r q n = let w = refused-16 b s e (λ z. n (q ∙ z)) in record { returns = q ∙ w .0; leaves = w .1 }
 
-  pub answer-complete : stateRefusal b s ≡ 0 → completeB (planOf b) (statusIn b s) 0 ≡ true → inr COMPLETE ≡ statusAnswer b s
-  unfolding statusAnswer
-  answer-complete e y = rw (e, y)
+pub called-22 : (b s : List ℕ) (e : Event) → stateRefusal b s ≡ 0 → (r : ℕ) → r ≡ returned (planOf b) (worldOf b s) (one e) → (r ≡ 0 → ⊥) → Called b s e r s
+called-22 b s e ok r q n = let w = refused-22 b s e ok (λ z. n (q ∙ z)) in record { returns = q ∙ w .0; leaves = w .1 }
 
-  pub answer-unfinished : stateRefusal b s ≡ 0 → completeB (planOf b) (statusIn b s) 0 ≡ false → inr UNFINISHED ≡ statusAnswer b s
-  unfolding statusAnswer
-  answer-unfinished e y = rw (e, y)
+pub called-0 : (b s : List ℕ) (m : Move) (t : ℕ) → stateRefusal b s ≡ 0 → returned (planOf b) (worldOf b s) (one (eventOf m t)) ≡ 0
+    → (q : ℕ) → q ≡ placeNumber (placeOf (eventOf m 0)) → (x : ℕ) → x ≡ statusByte (statusOf (eventOf m 0)) → (s′ : List ℕ) → s′ ≡ withEvent b q t x s → Called b s (eventOf m t) 0 s′
+called-0 b s m t ok z q eq x ex s′ h =
+    let w = accepted b s (eventOf m t) ok z in
+    let y : withEvent b q t x s ≡ withEvent b (placeNumber (placeOf (eventOf m t))) (nodeOf (eventOf m t)) (statusByte (statusOf (eventOf m t))) s = rw (eq, ex, place-is m t, status-of m t, node-of m t) in
+    record { returns = w .0; leaves = h ∙ y ∙ w .1 }

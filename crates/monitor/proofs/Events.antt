@@ -7,9 +7,9 @@ use mathlib.Core.Option.{Option, some, none, Option·getD}
 use Prim.Native.Nat.{ℕ, _+_, _/_, _<_, _≤_}
 use native.Mathlib.Decide.{ℕ-discrete, decLt}
 use native.Mathlib.Omega.{arith}
-use lib.ListN.{length, getD, set, take, drop, length-set, length-append, length-drop, List·getD-append}
+use lib.ListN.{length, getD, take, drop, length-set, length-append, length-drop, List·getD-append}
 use lib.Seq.{getD-set-same, getD-set-other, getD-append-add, getD-drop, length-take-le}
-use lib.Dec.{eqb, ltb, leb}
+use lib.Dec.{eqb, leb}
 use borrow.Author.Tests.{eq-eqb, ne-eqb, lt-ltb, le-ltb, leb-true}
 use Rattle.flags.specs.Flags.{flagIn}
 use Rattle.flags.proofs.Laws.{same-byte, in-first}
@@ -18,17 +18,17 @@ use Rattle.rules.specs.Search.{someBelow}
 use Rattle.rules.proofs.Laws.{and-both, and-of, not-passed, found-at, none-at, or-none}
 use Rattle.plan.specs.Meaning.{planOf, placeNumber, signIn}
 use Rattle.plan.proofs.Meaning.{kind-is, means}
-use Rattle.runs.specs.Plan.{Place, inc}
-use Rattle.runs.specs.Execution.{start, moved}
-use Rattle.runs.specs.Calls.{one, no-task, wrong-status, branch-begun, order-open, pre-unmet, inc-broken, Refusal, World}
+use Rattle.runs.specs.Plan.{Place}
+use Rattle.runs.specs.Execution.{Status, waiting, running, done, Event, nodeOf, statusOf, moved, asserts}
+use Rattle.runs.specs.Calls.{one, statusByte, no-task, wrong-status, branch-begun, order-open, pre-unmet, inc-broken, Refusal, World}
 use Rattle.runs.specs.Model.Monitor.{returned, refusalOf, step, code, settle}
 use Rattle.state.specs.State.{byteOf, badFlag, badByte, malformed, stateRefusal, statusAt, statusIn, flagShown, worldOf}
 use Rattle.state.proofs.Refused.{room-long, state-good, state-well}
 use Rattle.progress.proofs.Sound.{has-room}
 use Rattle.conditions.specs.Conditions.{made}
 use Rattle.conditions.proofs.Laws.{length-literals, made-flag}
-use Rattle.monitor.specs.Start.{eventState, startState}
-use Rattle.monitor.proofs.Chain.{start-task, refused-22, accepted}
+use Rattle.monitor.specs.Events.{placeOf, withEvent, eventState}
+use Rattle.monitor.proofs.Chain.{answer-task, event-does, refused-22, accepted}
 
 module _ (b s : List ℕ) (ok : stateRefusal b s ≡ 0) (k : Place) (t x : ℕ) (task : isKind b t 0 ≡ true) where
   abbrev flags : List ℕ
@@ -42,32 +42,35 @@ module _ (b s : List ℕ) (ok : stateRefusal b s ≡ 0) (k : Place) (t x : ℕ) 
   flags-eight = length-literals b (placeNumber k) t (take 8 s) _ ∙ eight
 
   abbrev next : List ℕ
-  next = eventState b (placeNumber k) t x s
+  next = withEvent b (placeNumber k) t x s
 
   joined-length : length (flags ++ drop 8 s) ≡ length s
   joined-length = simp (length-append, length-drop) (omega (arith, flags-eight, has-room b s ok .room))
 
   pub next-length : length next ≡ length s
-  unfolding eventState
+  unfolding withEvent
   next-length = length-set (flags ++ drop 8 s) (8 + t) x ∙ joined-length
 
   byte-own : byteOf next t ≡ x
-  unfolding eventState byteOf
+  unfolding withEvent byteOf
   byte-own = getD-set-same (flags ++ drop 8 s) (8 + t) x 0 (omega (arith, joined-length, has-room b s ok .room, kind-is b t 0 task .0))
 
-  byte-other : (n : ℕ) → (n ≡ t → ⊥) → byteOf next n ≡ byteOf s n
-  unfolding eventState byteOf
+  pub byte-other : (n : ℕ) → (n ≡ t → ⊥) → byteOf next n ≡ byteOf s n
+  unfolding withEvent byteOf
   byte-other n h =
       getD-set-other (flags ++ drop 8 s) (8 + t) (8 + n) x 0 (λ e. h (omega arith))
       ∙ ap (λ (m : ℕ). getD (flags ++ drop 8 s) (m + n) 0) (sym flags-eight)
       ∙ getD-append-add flags (drop 8 s) n 0
       ∙ getD-drop 8 s n 0
 
+  -- the bytes of the flags
+  pub byte-flags : (i : ℕ) → i < 8 → getD next i 0 ≡ getD flags i 0
+  unfolding withEvent
+  byte-flags i l = getD-set-other (flags ++ drop 8 s) (8 + t) i x 0 (λ e. omega arith) ∙ List·getD-append flags (drop 8 s) 0 i (omega (arith, flags-eight))
+
   flag-next : (f : ℕ) → f < 64 → flagIn next f ≡ Option·getD (signIn b k t f) (flagIn s f)
-  unfolding eventState
   flag-next f l =
-      same-byte (set (flags ++ drop 8 s) (8 + t) x) flags f
-      (getD-set-other (flags ++ drop 8 s) (8 + t) (f / 8) x 0 (λ e. omega arith) ∙ List·getD-append flags (drop 8 s) 0 (f / 8) (omega (arith, flags-eight)))
+      same-byte next flags f (byte-flags (f / 8) (omega arith))
       ∙ made-flag b (has-room b s ok .accepted) k t (take 8 s) (omega (arith, eight)) f
       ∙ ap (λ (v : Bool). Option·getD (signIn b k t f) v) (in-first s f l)
 
@@ -117,7 +120,7 @@ module _ (b s : List ℕ) (ok : stateRefusal b s ≡ 0) (k : Place) (t x : ℕ) 
       none-found : (n : ℕ) (p : ℕ → Bool) → (someBelow n p ≡ true → ⊥) → someBelow n p ≡ false
       none-found n p h = not-passed (someBelow n p) h
 
--- ---- the step of a start
+-- ---- the step of an event
 code-none : (o : Option Refusal) → code o ≡ 0 → o ≡ none
 code-none none e = refl
 code-none (some no-task) e = absurd (omega arith)
@@ -131,31 +134,43 @@ settled : (o : Option Refusal) (old new : World) → (code o ≡ 0 → ⊥) → 
 settled none old new h = absurd (h refl)
 settled (some r) old new h = refl
 
--- after a start, accepted or refused with 17 to 22, the state passes all checks and shows the states that 01 works out
-pub record Stepped (b s : List ℕ) (t : ℕ) : Type 0 where
-  pub well-formed : stateRefusal b (startState b s t) ≡ 0
-  pub shows : worldOf b (startState b s t) ≡ step (planOf b) (worldOf b s) (one (start t))
+status-byte : (a : Status) → (statusAt (statusByte a) ≡ a) × (statusByte a ≤ 2)
+unfolding statusAt
+status-byte waiting = (refl, omega arith)
+status-byte running = (refl, omega arith)
+status-byte done = (refl, omega arith)
 
-module _ (b s : List ℕ) (ok : stateRefusal b s ≡ 0) (t : ℕ) where
-  same : returned (planOf b) (worldOf b s) (one (start t)) ≡ 0 → isKind b t 0 ≡ true → worldOf b (eventState b 1 t 1 s) ≡ step (planOf b) (worldOf b s) (one (start t))
-  unfolding returned step worldOf planOf statusAt
-  same e y =
-      let fs : statusIn b (eventState b 1 t 1 s) ≡ moved (statusIn b s) (start t) = fun-ext (status-next b s ok inc t 1 y) in
-      let ff : flagShown (eventState b 1 t 1 s) ≡ (λ f. Option·getD (signIn b inc t f) (flagShown s f)) = fun-ext (shown-next b s ok inc t 1 y) in
-      let n : refusalOf (planOf b) (worldOf b s) (one (start t)) ≡ none = code-none (refusalOf (planOf b) (worldOf b s) (one (start t))) e in
+-- after a start or a finish, accepted or refused with 17 to 22, the state passes all checks and shows the states that 01 works out
+pub record Stepped (b s : List ℕ) (e : Event) : Type 0 where
+  pub well-formed : stateRefusal b (eventState b s e) ≡ 0
+  pub shows : worldOf b (eventState b s e) ≡ step (planOf b) (worldOf b s) (one e)
+
+module _ (b s : List ℕ) (ok : stateRefusal b s ≡ 0) (e : Event) where
+  abbrev asked : ℕ
+  asked = returned (planOf b) (worldOf b s) (one e)
+
+  abbrev written : List ℕ
+  written = withEvent b (placeNumber (placeOf e)) (nodeOf e) (statusByte (statusOf e)) s
+
+  same : asked ≡ 0 → isKind b (nodeOf e) 0 ≡ true → worldOf b written ≡ step (planOf b) (worldOf b s) (one e)
+  unfolding returned step worldOf
+  same z y =
+      let fs : statusIn b written ≡ moved (statusIn b s) e = fun-ext (λ n. status-next b s ok (placeOf e) (nodeOf e) (statusByte (statusOf e)) y n ∙ ap (λ (a : Status). cond (eqb n (nodeOf e)) a (statusIn b s n)) (status-byte (statusOf e) .0)) in
+      let ff : flagShown written ≡ (λ f. Option·getD (asserts (planOf b) e f) (flagShown s f)) = fun-ext (λ f. shown-next b s ok (placeOf e) (nodeOf e) (statusByte (statusOf e)) y f ∙ ap (λ (o : Option Bool). Option·getD o (flagShown s f)) (sym (event-does b s ok e f))) in
+      let n : refusalOf (planOf b) (worldOf b s) (one e) ≡ none = code-none (refusalOf (planOf b) (worldOf b s) (one e)) z in
       rw n (cc (fs, ff))
 
-  started : returned (planOf b) (worldOf b s) (one (start t)) ≡ 0 → Stepped b s t
-  started e =
-      let y = start-task b s ok t e in
-      let q = sym (accepted b s t ok e .1) in
-      record { well-formed = ap (stateRefusal b) q ∙ still-well b s ok inc t 1 y (omega arith); shows = ap (worldOf b) q ∙ same e y }
+  moves : asked ≡ 0 → Stepped b s e
+  moves z =
+      let y = answer-task b s ok (nodeOf e) e refl z in
+      let q = sym (accepted b s e ok z .1) in
+      record { well-formed = ap (stateRefusal b) q ∙ still-well b s ok (placeOf e) (nodeOf e) (statusByte (statusOf e)) y (status-byte (statusOf e) .1); shows = ap (worldOf b) q ∙ same z y }
 
-  refused : (returned (planOf b) (worldOf b s) (one (start t)) ≡ 0 → ⊥) → Stepped b s t
+  refused : (asked ≡ 0 → ⊥) → Stepped b s e
   unfolding step returned
   refused n =
-      let e = refused-22 b s t ok n .1 in
-      record { well-formed = ap (stateRefusal b) (sym e) ∙ ok; shows = ap (worldOf b) (sym e) ∙ sym (settled (refusalOf (planOf b) (worldOf b s) (one (start t))) (worldOf b s) _ n) }
+      let q = refused-22 b s e ok n .1 in
+      record { well-formed = ap (stateRefusal b) (sym q) ∙ ok; shows = ap (worldOf b) (sym q) ∙ sym (settled (refusalOf (planOf b) (worldOf b s) (one e)) (worldOf b s) _ n) }
 
-  pub start-steps : Stepped b s t
-  start-steps = by-cases (ℕ-discrete (returned (planOf b) (worldOf b s) (one (start t))) 0) (λ e. started e) (λ n. refused n)
+  pub event-steps : Stepped b s e
+  event-steps = by-cases (ℕ-discrete asked 0) (λ z. moves z) (λ n. refused n)

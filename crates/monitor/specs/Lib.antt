@@ -1,2 +1,2 @@
 pub mod Status
-pub mod Start
+pub mod Events

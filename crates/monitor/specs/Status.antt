@@ -1,9 +1,12 @@
 -- The answer of `status`: a refusal up to 16, or a word for the root.
-use Prim.Native.Nat.{ℕ, zero, suc}
-use mathlib.Core.Logic.{_⊎_, inl, inr}
+use Prim.Native.Nat.{ℕ}
+use mathlib.Core.Path.{_≡_}
+use mathlib.Core.Logic.{_⊎_, inl, inr, _↔_}
 use mathlib.Core.Bool.{Bool, true, false}
 use mathlib.Core.List.{List}
+use Rattle.answers.specs.Answers.{refusedOr}
 use Rattle.plan.specs.Meaning.{planOf}
+use Rattle.runs.specs.Execution as execution
 use Rattle.runs.specs.Model.Monitor.{completeB}
 use Rattle.state.specs.State.{stateRefusal, statusIn}
 use Rattle.monitor.specs.declared.Progress.{Progress}
@@ -22,9 +25,10 @@ abbrev pub wordFor : Bool → Word
 wordFor true = COMPLETE
 wordFor false = UNFINISHED
 
-abbrev pub refusedOr : ℕ → Word → ℕ ⊎ Word
-refusedOr zero w = inr w
-refusedOr (suc n) w = inl (suc n)
-
 unfoldable pub statusAnswer : List ℕ → List ℕ → ℕ ⊎ Word
 statusAnswer b s = refusedOr (stateRefusal b s) (wordFor (completeB (planOf b) (statusIn b s) 0))
+
+-- what `status` answers: COMPLETE exactly if the state passes 1 to 16 and shows the root complete
+pub record Told (b s : List ℕ) (r : Progress) : Type 0 where
+  pub answer : said r ≡ statusAnswer b s
+  pub complete : (said r ≡ inr COMPLETE) ↔ ((stateRefusal b s ≡ 0) × execution.Complete (planOf b) (statusIn b s) 0)

@@ -1,27 +1,27 @@
 -- The words of a pair of children say what the pair must clobber. Assumes nothing.
 use mathlib.Core.Path.{_≡_, refl}
-use mathlib.Core.Logic.{_≢_, _⊎_, inl, inr, ⊎-elim, _↔_, Iff·trans, Iff·symm}
+use mathlib.Core.Logic.{_≢_, _⊎_, inl, inr, ⊎-elim, _↔_, Iff·symm}
 use mathlib.Core.Bool.{Bool, true, false, not}
 use mathlib.Core.List.{List}
 use Prim.Native.Nat.{ℕ, _+_, _-_, _≤_, _<_}
 use native.Mathlib.Omega.{arith}
-use lib.Bits.{bitOr, bitXor}
+use lib.Bits.{bitAnd, bitOr, bitXor}
 use lib.Dec.{T, eqb, eqb→eq, eqb-refl}
 use lib.ListN.{getD}
 use Rattle.bits.specs.Bits.{bit, ones, Says}
-use Rattle.bits.proofs.Says.{says-map, says-dec, says-self, says-or, says-not}
+use Rattle.bits.proofs.Says.{says-map, says-dec, says-self, says-and, says-or, says-not}
 use Rattle.runs.specs.Plan.{Plan, Node, Child, Before, WellFormed}
 use Rattle.runs.specs.Summary.{Must, ExternalPre, ExternalPost, Silent}
 use Rattle.runs.proofs.Summary.ByChildren.{must-pre-node, must-post-node}
 use Rattle.words.specs.Tables.{signNum}
 use Rattle.words.specs.Columns.{avoid, quiet, covered, may-post, wordAt, Right}
-use Rattle.words.specs.Segments.{Every, Some}
-use Rattle.words.specs.Siblings.{Narrows}
-use Rattle.words.proofs.Segments.{some-next, every-none, every-child, some-child}
-use Rattle.words.proofs.Sibling.{silent-cell, narrows-more, neither}
+use Rattle.words.specs.Segments.{Some}
+use Rattle.words.proofs.Segments.{some-next, every-child, some-child}
+use Rattle.words.proofs.Sibling.{silent-cell}
 use Rattle.pairs.specs.Pairs.{Undisturbed, MustPair, SomePair, Pairing}
-use Rattle.pairs.proofs.Laws.{opposite, read, kid}
+use Rattle.pairs.proofs.Laws.{no-flag, opposite, read, kid, part-all}
 use Rattle.mustpairs.specs.Disturbs.{Disturbs}
+use Rattle.mustpairs.specs.Words.{UndisturbedPart}
 
 pub not-two : (x : ℕ) → T (not (eqb x 2)) ↔ (x ≢ 2)
 not-two x = (λ t e. no (eqb x 2) t (rw e (eqb-refl 2)), λ k. yes-not (eqb x 2) (λ t. k (eqb→eq x 2 t)))
@@ -63,26 +63,13 @@ right {K} {A} {B} e = (to, from)
 
 module _ {from kids order rows : List ℕ} {size n : ℕ} {p : Plan} (g : Pairing from kids order rows size n p) where
   module _ {c d : ℕ} (hc : Child p n c) (hd : Child p n d) where
-    -- no child so far disturbs the pair
-    abbrev pub UndisturbedTo : ℕ → ℕ → Type 0
-    UndisturbedTo i f = Every kids (getD from n 0) i (λ b. b ≢ c → b ≢ d → ¬ Before p b d → ¬ Before p c b → Silent p f b)
-
-    pub undisturbed-more : {i w r x : ℕ} {C : Type 0} → getD from n 0 ≤ i → i < getD from (n + 1) 0 → C ↔ Disturbs order (getD kids i 0) c d
-        → x ≡ bitXor (bitOr (wordAt rows (getD kids i 0) 13) (wordAt rows (getD kids i 0) 14)) ones
-        → Narrows w r C (λ f. T (bit x f)) → ((f : ℕ) → f < 64 → Says w f (UndisturbedTo i f)) → (f : ℕ) → f < 64 → Says r f (UndisturbedTo (i + 1) f)
-    undisturbed-more {i} {C = C} a b e q m h = let hb = kid g i a b in
-        let before = g .orders .before (getD kids i 0) d (hb .node) (hd .node) in
-        let after = g .orders .after (getD kids i 0) c (hb .node) (hc .node) in
-        narrows-more a m (λ f l. let s = Iff·trans (rw q (neither _ _ f l)) (silent-cell (g .group .children _ hb) l) in (
-          λ y w₁ w₂ w₃ w₄. s .0 (y (e .1 (record { not-c = w₁; not-d = w₂; not-before = λ z. w₃ (before .0 z); not-after = λ z. w₄ (after .0 z) }))),
-          λ y z. let x = e .0 z in s .1 (y (x .not-c) (x .not-d) (λ u. x .not-before (before .1 u)) (λ u. x .not-after (after .1 u))),
-        )) h
-
-    pub undisturbed-none : {w f : ℕ} → f < 64 → w ≡ ones → Says w f (UndisturbedTo (getD from n 0) f)
-    undisturbed-none l e = every-none (omega arith) l e
-
-    pub undisturbed-all : {w f : ℕ} → Says w f (UndisturbedTo (getD from (n + 1) 0) f) → Says w f (Undisturbed p n f c d)
-    undisturbed-all s = says-map (every-child (g .group .tree) (g .group .node) (λ b hb. (λ x. x, λ x. x))) s
+    pub undisturbed-all : (flags : ℕ) {r : ℕ} → UndisturbedPart kids order rows (getD from n 0) (getD from (n + 1) 0) flags c d r → (f : ℕ) → f < 64
+        → Says r f (T (bit flags f) × Undisturbed p n f c d)
+    undisturbed-all flags s f l = part-all g s f l (λ b hb. let e = silent-cell (g .group .children b hb) l in
+        let before = g .orders .before b d (hb .node) (hd .node) in let after = g .orders .after b c (hb .node) (hc .node) in (
+          λ y w₁ w₂ w₃ w₄. e .0 (y (record { not-c = w₁; not-d = w₂; not-before = λ z. w₃ (before .0 z); not-after = λ z. w₄ (after .0 z) })),
+          λ y x. e .1 (y (x .not-c) (x .not-d) (λ u. x .not-before (before .1 u)) (λ u. x .not-after (after .1 u))),
+        ))
 
     module _ {f : ℕ} {v : Bool} {W : Type 0} where
       pub must-pair : Before p d c → ((W × (Must p d (ExternalPost p f (not v)) × Must p c (ExternalPre p f v))) × Undisturbed p n f c d) ↔ (W × MustPair p n f v c d)
@@ -106,6 +93,16 @@ module _ {from kids order rows : List ℕ} {size n : ℕ} {p : Plan} (g : Pairin
       back (yes y) x = inl y
       back (no n) (inl k) = absurd (n (inl k))
       back (no n) (inr s) = inr (new n (e .1 s))
+
+  -- no pair with c adds a flag, if c must not require one that is not yet known
+  pub none-new : {known pre c : ℕ} {v : Bool} (f : ℕ) → f < 64 → bitAnd (bitXor known ones) pre ≡ 0 → Says pre f (Must p c (ExternalPre p f v))
+      → Says known f (T (bit known f) ⊎ ((d : ℕ) × Child p n d × MustPair p n f v c d))
+  none-new {known} {pre} {c} {v} f l e s = record { to = inl; from = back (says-dec (says-self known f)) }
+    where
+      back : Dec (T (bit known f)) → T (bit known f) ⊎ ((d : ℕ) × Child p n d × MustPair p n f v c d) → T (bit known f)
+      back (yes t) x = t
+      back (no k) (inl t) = t
+      back (no k) (inr x) = absurd (no-flag _ f e (says-and {x = bitXor known ones} {y = pre} refl (says-not {x = known} l refl (says-self known f)) s .from (k, x .2 .1 .0 .1)))
 
   -- the pairs so far with the child c; the pairs of the children so far
   abbrev pub WithTo : ℕ → ℕ → Bool → ℕ → Type 0

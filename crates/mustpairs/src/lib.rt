@@ -4,10 +4,12 @@ ghost use mathlib.Core.Logic.{_↔_};
 ghost use Prim.Native.Nat.{_+_, _*_, _<_};
 ghost use lib.Bits.{bitOr, bitXor};
 ghost use lib.Dec.{T};
+ghost use lib.ListN.{getD};
 ghost use Rattle.bits.specs.Bits.{ones};
-ghost use Rattle.words.specs.Tables.{Shaped};
+ghost use Rattle.words.specs.Tables.{Position, Shaped};
 ghost use Rattle.words.specs.Columns.{wordAt};
-ghost use Rattle.mustpairs.specs.Words.{MustPreWord, MustPostWord, UndisturbedWord, MustPairWord, WithChildWord, MustPairsWord};
+ghost use Rattle.pairs.specs.Pairs.{Part};
+ghost use Rattle.mustpairs.specs.Words.{MustPreWord, MustPostWord, UndisturbedPart, UndisturbedWord, MustPairWord, WithChildWord, MustPairsWord};
 ghost use Rattle.mustpairs.specs.Disturbs.{Disturbs};
 use words::narrowed;
 use words::wide;
@@ -69,7 +71,39 @@ fn disturbs(order: &[u8; 16384], b: usize, c: usize, d: usize) -> bool
     order[b * 128 + c] != 2
 }
 
-// The flags that no child asserts that may disturb the pair c, d.
+// Of the given flags, those that no child asserts that may disturb the pair c, d, in a part of the table of children; it ends as soon as none is left.
+fn undisturbed_part(
+    kids: &[u8; 128],
+    order: &[u8; 16384],
+    rows: &[u64; 2688],
+    low: usize,
+    high: usize,
+    flags: u64,
+    c: usize,
+    d: usize,
+) -> u64
+    requires { ⌜ Part (now kids) low high × ((c < 128) × (d < 128)) ⌝ }
+    ensures { λ r. ⌜ UndisturbedPart (now (kids .entry)) (now (order .entry)) (now (rows .entry)) low high flags c d r ⌝ }
+{
+    let mut left = flags;
+    let mut i = low;
+    while i < high {
+        if left == 0 {
+            return 0;
+        }
+        let b = wide(kids[i]);
+        left = narrowed(
+            left,
+            disturbs(order, b, c, d),
+            neither(rows, b, ASSERTS, ASSERTS + 1),
+        );
+        i += 1;
+    }
+    left
+}
+
+// Of the given flags, those that no child asserts that may disturb the pair of c and the child at j. The children after that one in the table come first:
+// there the flags are soonest settled.
 fn undisturbed(
     from: &[u8; 129],
     kids: &[u8; 128],
@@ -77,28 +111,21 @@ fn undisturbed(
     rows: &[u64; 2688],
     n: usize,
     node: usize,
+    flags: u64,
     c: usize,
-    d: usize,
+    j: usize,
 ) -> u64
-    requires { ⌜ (Shaped (now from) (now kids) n × (node < n)) × ((c < n) × (d < n)) ⌝ }
-    ensures { λ r. ⌜ UndisturbedWord (now (from .entry)) (now (kids .entry)) (now (order .entry)) (now (rows .entry)) n node c d r ⌝ }
+    requires { ⌜ (Shaped (now from) (now kids) n × (node < n)) × ((c < n) × Position (now from) node j) ⌝ }
+    ensures { λ r. ⌜ UndisturbedWord (now (from .entry)) (now (kids .entry)) (now (order .entry)) (now (rows .entry)) n node flags c (getD (now (kids .entry)) j 0) r ⌝ }
 {
-    let mut flags = ALL;
+    let d = wide(kids[j]);
     let end = wide(from[node + 1]);
-    let mut i = wide(from[node]);
-    while i < end {
-        let b = wide(kids[i]);
-        flags = narrowed(
-            flags,
-            disturbs(order, b, c, d),
-            neither(rows, b, ASSERTS, ASSERTS + 1),
-        );
-        i += 1;
-    }
-    flags
+    let start = wide(from[node]);
+    let left = undisturbed_part(kids, order, rows, j + 1, end, flags, c, d);
+    undisturbed_part(kids, order, rows, start, j + 1, left, c, d)
 }
 
-// The wanted flags of one sign that the children c and d must clobber.
+// The wanted flags of one sign that the child c and the child at j must clobber.
 fn must_pair_word(
     from: &[u8; 129],
     kids: &[u8; 128],
@@ -109,22 +136,23 @@ fn must_pair_word(
     sign: usize,
     wanted: u64,
     c: usize,
-    d: usize,
+    j: usize,
 ) -> u64
-    requires { ⌜ ((Shaped (now from) (now kids) n × (node < n)) × (sign < 2)) × ((c < n) × (d < n)) ⌝ }
-    ensures { λ r. ⌜ MustPairWord (now (from .entry)) (now (kids .entry)) (now (order .entry)) (now (rows .entry)) n node sign wanted c d r ⌝ }
+    requires { ⌜ ((Shaped (now from) (now kids) n × (node < n)) × (sign < 2)) × ((c < n) × Position (now from) node j) ⌝ }
+    ensures { λ r. ⌜ MustPairWord (now (from .entry)) (now (kids .entry)) (now (order .entry)) (now (rows .entry)) n node sign wanted c (getD (now (kids .entry)) j 0) r ⌝ }
 {
+    let d = wide(kids[j]);
     if order[d * 128 + c] == 1 {
         let shared = wanted & (must_post(rows, d, 1 - sign) & must_pre(rows, c, sign));
         if shared == 0 {
             return 0;
         }
-        return shared & undisturbed(from, kids, order, rows, n, node, c, d);
+        return undisturbed(from, kids, order, rows, n, node, shared, c, j);
     }
     0
 }
 
-// The flags already known, and those that a pair with the child c must clobber.
+// The flags already known, and those that a pair with the child c must clobber: only those that c requires in every completed execution.
 fn must_pairs_of(
     from: &[u8; 129],
     kids: &[u8; 128],
@@ -139,12 +167,14 @@ fn must_pairs_of(
     requires { ⌜ ((Shaped (now from) (now kids) n × (node < n)) × (sign < 2)) × (c < n) ⌝ }
     ensures { λ r. ⌜ WithChildWord (now (from .entry)) (now (kids .entry)) (now (order .entry)) (now (rows .entry)) n node sign known c r ⌝ }
 {
+    if (known ^ ALL) & must_pre(rows, c, sign) == 0 {
+        return known;
+    }
     let mut flags = known;
     let end = wide(from[node + 1]);
     let mut j = wide(from[node]);
     while j < end {
-        let d = wide(kids[j]);
-        flags = flags | must_pair_word(from, kids, order, rows, n, node, sign, flags ^ ALL, c, d);
+        flags = flags | must_pair_word(from, kids, order, rows, n, node, sign, flags ^ ALL, c, j);
         j += 1;
     }
     flags

@@ -3,18 +3,22 @@ use mathlib.Core.Path.{_≡_, refl}
 use mathlib.Core.Logic.{_≢_, _⊎_, inl, inr, _↔_}
 use mathlib.Core.Bool.{Bool, true, false}
 use mathlib.Core.List.{List}
-use Prim.Native.Nat.{ℕ, _+_, _^_, _<_}
+use Prim.Native.Nat.{ℕ, _+_, _^_, _≤_, _<_}
 use native.Mathlib.Decide.{ℕ-discrete}
 use native.Mathlib.Omega.{arith}
 use lib.Bits.{bitAnd, bitOr, bitXor}
 use lib.Dec.{T}
+use lib.ListN.{getD}
 use Rattle.bits.specs.Bits.{bit, Says}
 use Rattle.bits.proofs.Says.{says-dec, says-self, says-and, says-or, says-less}
 use Rattle.bits.proofs.Words.{no-bits, less-add}
-use Rattle.runs.specs.Plan.{Plan}
+use Rattle.runs.specs.Plan.{Plan, Child}
+use Rattle.words.specs.Segments.{Every}
+use Rattle.words.proofs.Segments.{every-child}
+use Rattle.pairs.specs.declared.Found.{Found}
 use Rattle.pairs.specs.declared.Literals.{Literals}
-use Rattle.pairs.specs.Pairs.{Pair, SomePair, Pairing, wordOf, Search, AllPairs}
-use Rattle.pairs.proofs.Laws.{no-flag}
+use Rattle.pairs.specs.Pairs.{Pair, SomePair, Pairing, wordOf, Unclobbered, Search, AllPairs}
+use Rattle.pairs.proofs.Laws.{no-flag, joined}
 
 -- one literal word more, one less
 abbrev pub gained : Literals → Literals → Literals
@@ -31,30 +35,53 @@ lost-says : (a b : Literals) (v : Bool) (f : ℕ) → Says (wordOf (lost a b) v)
 lost-says a b false f = says-less {x = a .clear} {y = b .clear} refl (says-self _ f) (says-self _ f)
 lost-says a b true f = says-less {x = a .set} {y = b .set} refl (says-self _ f) (says-self _ f)
 
+-- what no child clobbers, when fewer literals are wanted
+fewer-wanted : {p : Plan} {n : ℕ} (wanted left : Literals) {kids : List ℕ} {low high : ℕ} → ((v : Bool) (f : ℕ) → T (bit (wordOf left v) f) → T (bit (wordOf wanted v) f))
+    → Every kids low high (Unclobbered p n wanted) → Every kids low high (Unclobbered p n left)
+fewer-wanted wanted left e h = record { each = λ i a b d hd v f l t. h .each i a b d hd v f l (e v f t) }
+
 module _ (from kids order rows : List ℕ) (size n : ℕ) (wanted : Literals) where
-  -- the literals still wanted, and those found
-  pub record Progress (left found : Literals) : Type 0 where
+  -- the literals still wanted, those found, and where the search goes on: the children before clobber no literal that is still wanted
+  pub record Progress (left found : Literals) (first : ℕ) : Type 0 where
     pub still : (v : Bool) (f : ℕ) → T (bit (wordOf left v) f) ↔ (T (bit (wordOf wanted v) f) × (¬ T (bit (wordOf found v) f)))
     pub sound : (p : Plan) → Pairing from kids order rows size n p → (v : Bool) (f : ℕ) → f < 64 → T (bit (wordOf found v) f)
         → T (bit (wordOf wanted v) f) × SomePair p n f v (Pair p n f v)
+    pub low : getD from n 0 ≤ first
+    pub high : first ≤ getD from (n + 1) 0
+    pub passed : (p : Plan) → Pairing from kids order rows size n p → Every kids (getD from n 0) first (Unclobbered p n left)
 
   no-literal : (v : Bool) (f : ℕ) → ¬ T (bit (wordOf (record { clear = 0; set = 0 }) v) f)
   no-literal false f t = no-flag 0 f refl t
   no-literal true f t = no-flag 0 f refl t
 
-  pub at-first : Progress wanted (record { clear = 0; set = 0 })
-  at-first = record { still = λ v f. (λ t. (t, no-literal v f), λ x. x .0); sound = λ p g v f l t. absurd (no-literal v f t) }
+  pub at-first : getD from n 0 ≤ getD from (n + 1) 0 → Progress wanted (record { clear = 0; set = 0 }) (getD from n 0)
+  at-first h = record {
+    still = λ v f. (λ t. (t, no-literal v f), λ x. x .0);
+    sound = λ p g v f l t. absurd (no-literal v f t);
+    low = omega arith;
+    high = h;
+    passed = λ p g. record { each = λ i a b. absurd (omega arith) };
+  }
 
-  module _ {left found : Literals} (pair : Literals) (h : Progress left found) (s : Search from kids order rows size n left pair) where
-    pub found-more : Progress (lost left pair) (gained found pair)
+  module _ {left found : Literals} {first : ℕ} (next : Found) (h : Progress left found first) (s : Search from kids order rows size n left first next) where
+    abbrev pair : Literals
+    pair = next .literals
+
+    pub found-more : Progress (lost left (next .literals)) (gained found (next .literals)) (next .at)
     found-more = record {
       still = λ v f. (
         λ t. let x = lost-says left pair v f .to t in let y = (h .still v f) .0 (x .0) in (y .0, λ u. both v f (y .1) (x .1) (gained-says found pair v f .to u)),
         λ x. lost-says left pair v f .from ((h .still v f) .1 (x .0, λ t. x .1 (gained-says found pair v f .from (inl t))), λ t. x .1 (gained-says found pair v f .from (inr t))),
       );
       sound = λ p g v f l t. at p g v f l (gained-says found pair v f .to t);
+      low = omega (arith, h .low, s .low);
+      high = s .high;
+      passed = λ p g. joined first (fewer-wanted left (lost left pair) fewer-left (h .passed p g)) (fewer-wanted left (lost left pair) fewer-left (s .passed p g));
     }
       where
+        fewer-left : (v : Bool) (f : ℕ) → T (bit (wordOf (lost left pair) v) f) → T (bit (wordOf left v) f)
+        fewer-left v f t = (lost-says left pair v f .to t) .0
+
         both : (v : Bool) (f : ℕ) → ¬ T (bit (wordOf found v) f) → ¬ T (bit (wordOf pair v) f) → ¬ (T (bit (wordOf found v) f) ⊎ T (bit (wordOf pair v) f))
         both v f k l (inl t) = k t
         both v f k l (inr t) = l t
@@ -64,7 +91,7 @@ module _ (from kids order rows : List ℕ) (size n : ℕ) (wanted : Literals) wh
         at p g v f l (inl t) = h .sound p g v f l t
         at p g v f l (inr t) = (((h .still v f) .0 (s .among v f l t)) .0, s .sound p g v f l t)
 
-    pub all-found : bitOr (pair .clear) (pair .set) ≡ 0 → AllPairs from kids order rows size n wanted found
+    pub all-found : bitOr (next .literals .clear) (next .literals .set) ≡ 0 → AllPairs from kids order rows size n wanted found
     all-found e = record {
       says = λ p g v f l. record {
         to = h .sound p g v f l;
@@ -72,22 +99,25 @@ module _ (from kids order rows : List ℕ) (size n : ℕ) (wanted : Literals) wh
       };
     }
       where
+        none : (p : Plan) → Pairing from kids order rows size n p → (c : ℕ) → Child p n c → Unclobbered p n left c
+        none p g = (every-child (g .group .tree) (g .group .node) (λ c hc. (λ x. x, λ x. x))) .0 (joined first (h .passed p g) (rw (s .ended e) at (s .passed p g)))
+
         at : (p : Plan) → Pairing from kids order rows size n p → (v : Bool) (f : ℕ) → f < 64 → T (bit (wordOf wanted v) f) × SomePair p n f v (Pair p n f v)
             → Dec (T (bit (wordOf found v) f)) → T (bit (wordOf found v) f)
         at p g v f l x (yes t) = t
-        at p g v f l x (no k) = absurd (s .complete e p g v f l ((h .still v f) .1 (x .0, k)) (x .1))
+        at p g v f l x (no k) = absurd (none p g (x .1 .0) (x .1 .1) (x .1 .2 .0) (x .1 .2 .1) v f l ((h .still v f) .1 (x .0, k)) (x .1 .2 .2))
 
 -- what is found is taken away: one word less, the other not more
 common : (x y : ℕ) → y < 2 ^ 64 → ((f : ℕ) → f < 64 → T (bit y f) → T (bit x f)) → bitAnd x y ≡ 0 → y ≡ 0
 common x y l h e = no-bits y l (λ f m t. no-flag (bitAnd x y) f e (says-and {x = x} {y = y} refl (says-self x f) (says-self y f) .from (h f m t, t)))
 
-pub fewer : (from kids order rows : List ℕ) (size n : ℕ) (left pair : Literals) → Search from kids order rows size n left pair
+pub fewer : (left pair : Literals) → ((v : Bool) (f : ℕ) → f < 64 → T (bit (wordOf pair v) f) → T (bit (wordOf left v) f))
     → left .clear < 2 ^ 64 → left .set < 2 ^ 64 → pair .clear < 2 ^ 64 → pair .set < 2 ^ 64 → bitOr (pair .clear) (pair .set) ≢ 0
     → bitXor (left .clear) (bitAnd (left .clear) (pair .clear)) + bitXor (left .set) (bitAnd (left .set) (pair .set)) < left .clear + left .set
-fewer from kids order rows size n left pair s a b c d ne = at (ℕ-discrete (bitAnd (left .clear) (pair .clear)) 0) (ℕ-discrete (bitAnd (left .set) (pair .set)) 0)
+fewer left pair s a b c d ne = at (ℕ-discrete (bitAnd (left .clear) (pair .clear)) 0) (ℕ-discrete (bitAnd (left .set) (pair .set)) 0)
   where
     at : Dec (bitAnd (left .clear) (pair .clear) ≡ 0) → Dec (bitAnd (left .set) (pair .set) ≡ 0)
         → bitXor (left .clear) (bitAnd (left .clear) (pair .clear)) + bitXor (left .set) (bitAnd (left .set) (pair .set)) < left .clear + left .set
-    at (yes e) (yes q) = absurd (ne (rw (common (left .clear) (pair .clear) c (s .among false) e, common (left .set) (pair .set) d (s .among true) q)))
+    at (yes e) (yes q) = absurd (ne (rw (common (left .clear) (pair .clear) c (s false) e, common (left .set) (pair .set) d (s true) q)))
     at (no k) z = omega (arith, k, less-add (left .clear) (pair .clear) a, less-add (left .set) (pair .set) b)
     at (yes e) (no k) = omega (arith, k, less-add (left .clear) (pair .clear) a, less-add (left .set) (pair .set) b)

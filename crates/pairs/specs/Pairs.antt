@@ -3,16 +3,19 @@ use mathlib.Core.Path.{_≡_}
 use mathlib.Core.Logic.{_≢_, _⊎_}
 use mathlib.Core.Bool.{Bool, true, false, not}
 use mathlib.Core.List.{List}
-use Prim.Native.Nat.{ℕ, _<_}
+use Prim.Native.Nat.{ℕ, _+_, _≤_, _<_}
 use lib.Bits.{bitOr}
 use lib.Dec.{T}
+use lib.ListN.{getD}
 use Rattle.bits.specs.Bits.{bit, Says}
 use Rattle.runs.specs.Plan.{Plan, Child, Before, Unordered}
 use Rattle.runs.specs.Summary.{Must, ExternalPre, ExternalPost, Silent}
-use Rattle.words.specs.Tables.{signNum, RepresentsOrder}
+use Rattle.words.specs.Tables.{signNum, code, RepresentsOrder}
 use Rattle.words.specs.Columns.{avoid, may-pre, may-post, requires, asserts}
-use Rattle.words.specs.Columns.{Fact}
+use Rattle.words.specs.Columns.{indexOf, Fact, wordAt}
 use Rattle.words.specs.Groups.{Group}
+use Rattle.words.specs.Segments.{Every}
+use Rattle.pairs.specs.declared.Found.{Found}
 use Rattle.pairs.specs.declared.Literals.{Literals}
 
 module _ (p : Plan) (n f : ℕ) where
@@ -51,10 +54,24 @@ OfPlans from kids order rows size n Q = (p : Plan) → Pairing from kids order r
 abbrev pub SaysOf : ℕ → ℕ → (ℕ → Bool → Type 0) → Type 0
 SaysOf s r A = (v : Bool) → s ≡ signNum v → (f : ℕ) → f < 64 → Says r f (A f v)
 
--- the flags that the children between d and c can avoid
-abbrev pub BetweenWord : List ℕ → List ℕ → List ℕ → List ℕ → ℕ → ℕ → ℕ → ℕ → ℕ → Type 0
-BetweenWord from kids order rows size n c d r = OfPlans from kids order rows size n
-    (λ p. Child p n c → Child p n d → (f : ℕ) → f < 64 → Says r f (Between p n f c d))
+-- a part of the table of children
+pub record Part (kids : List ℕ) (low high : ℕ) : Type 0 where
+  pub rises : low ≤ high
+  pub ends : high ≤ 128
+  pub nodes : Every kids low high (λ b. b < 128)
+
+-- of the given flags, those for which every child in the part has Q
+pub record PartWord (kids : List ℕ) (low high flags : ℕ) (Q : ℕ → ℕ → Type 0) (r : ℕ) : Type 0 where
+  pub says : (f : ℕ) → f < 64 → Says r f (T (bit flags f) × Every kids low high (Q f))
+
+-- of the given flags, those that every child between d and c in the part can avoid, by the tables; that every child between d and c can avoid
+abbrev pub BetweenPart : List ℕ → List ℕ → List ℕ → ℕ → ℕ → ℕ → ℕ → ℕ → ℕ → Type 0
+BetweenPart kids order rows low high flags c d r = PartWord kids low high flags
+    (λ f b. (code order d b ≡ 1) × (code order b c ≡ 1) → T (bit (wordAt rows b 0) f)) r
+
+abbrev pub BetweenWord : List ℕ → List ℕ → List ℕ → List ℕ → ℕ → ℕ → ℕ → ℕ → ℕ → ℕ → Type 0
+BetweenWord from kids order rows size n flags c d r = OfPlans from kids order rows size n
+    (λ p. Child p n c → Child p n d → (f : ℕ) → f < 64 → Says r f (T (bit flags f) × Between p n f c d))
 
 -- the wanted flags of one sign that the pair c, d clobbers
 abbrev pub PairWord : List ℕ → List ℕ → List ℕ → List ℕ → ℕ → ℕ → ℕ → ℕ → ℕ → ℕ → ℕ → Type 0
@@ -72,12 +89,29 @@ pub record PairWords (from kids order rows : List ℕ) (size n : ℕ) (wanted : 
   pub says : (p : Plan) → Pairing from kids order rows size n p → Child p n c → Child p n d → (v : Bool) (f : ℕ) → f < 64
       → Says (wordOf r v) f (T (bit (wordOf wanted v) f) × Pair p n f v c d)
 
--- What a search answers: wanted literals that some pair clobbers; none only if no wanted literal is clobbered by a pair.
-pub record Search (from kids order rows : List ℕ) (size n : ℕ) (wanted r : Literals) : Type 0 where
-  pub among : (v : Bool) (f : ℕ) → f < 64 → T (bit (wordOf r v) f) → T (bit (wordOf wanted v) f)
-  pub sound : (p : Plan) → Pairing from kids order rows size n p → (v : Bool) (f : ℕ) → f < 64 → T (bit (wordOf r v) f) → SomePair p n f v (Pair p n f v)
-  pub complete : bitOr (r .clear) (r .set) ≡ 0 → (p : Plan) → Pairing from kids order rows size n p → (v : Bool) (f : ℕ) → f < 64
-      → T (bit (wordOf wanted v) f) → ¬ SomePair p n f v (Pair p n f v)
+-- no wanted literal is one that c requires, or that may be its external precondition
+pub record NoneRequired (rows : List ℕ) (wanted : Literals) (c : ℕ) : Type 0 where
+  pub none : (v : Bool) (f : ℕ) → f < 64 → T (bit (wordOf wanted v) f)
+      → ¬ (T (bit (wordAt rows c (indexOf (requires v))) f) ⊎ T (bit (wordAt rows c (indexOf (may-pre v))) f))
+
+-- where the pairs with c begin: at the start, or at the end if none is required
+abbrev pub FirstPartner : List ℕ → Literals → ℕ → ℕ → ℕ → ℕ → Type 0
+FirstPartner rows wanted c start end r = (r ≡ start) ⊎ ((r ≡ end) × NoneRequired rows wanted c)
+
+-- the child c clobbers no wanted literal in a pair with any child
+abbrev pub Unclobbered : Plan → ℕ → Literals → ℕ → Type 0
+Unclobbered p n wanted c = (d : ℕ) → Child p n d → (v : Bool) (f : ℕ) → f < 64 → T (bit (wordOf wanted v) f) → ¬ Pair p n f v c d
+
+-- What a search from a position on answers: wanted literals that some pair clobbers, and where it stands; no child passed clobbers a wanted literal, and with
+-- no literal it has passed all.
+pub record Search (from kids order rows : List ℕ) (size n : ℕ) (wanted : Literals) (first : ℕ) (r : Found) : Type 0 where
+  pub among : (v : Bool) (f : ℕ) → f < 64 → T (bit (wordOf (r .literals) v) f) → T (bit (wordOf wanted v) f)
+  pub sound : (p : Plan) → Pairing from kids order rows size n p → (v : Bool) (f : ℕ) → f < 64 → T (bit (wordOf (r .literals) v) f)
+      → SomePair p n f v (Pair p n f v)
+  pub low : first ≤ r .at
+  pub high : r .at ≤ getD from (n + 1) 0
+  pub passed : (p : Plan) → Pairing from kids order rows size n p → Every kids first (r .at) (Unclobbered p n wanted)
+  pub ended : bitOr (r .literals .clear) (r .literals .set) ≡ 0 → r .at ≡ getD from (n + 1) 0
 
 -- the wanted literals that some pair clobbers
 pub record AllPairs (from kids order rows : List ℕ) (size n : ℕ) (wanted r : Literals) : Type 0 where

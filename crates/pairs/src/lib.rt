@@ -1,17 +1,16 @@
 // The pairs of children of an all-of group that may clobber, or must clobber, a literal: for all flags at once, from the rows of the children.
 ghost use mathlib.Core.Path.{_≡_};
 ghost use mathlib.Core.Logic.{_↔_};
-ghost use Prim.Native.Nat.{ℕ, _+_, _*_, _<_};
+ghost use Prim.Native.Nat.{ℕ, _+_, _*_, _≤_, _<_};
 ghost use lib.Dec.{T};
+ghost use lib.ListN.{getD};
 ghost use Rattle.bits.specs.Bits.{bit};
-ghost use Rattle.words.specs.Tables.{code, Shaped};
-ghost use Rattle.pairs.specs.Pairs.{BetweenWord, PairWord, PairWords, Search, AllPairs};
+ghost use Rattle.words.specs.Tables.{code, Position, Shaped};
+ghost use Rattle.pairs.specs.Pairs.{Part, BetweenPart, BetweenWord, PairWord, PairWords, FirstPartner, Search, AllPairs};
 use words::apart;
 use words::narrowed;
 use words::wide;
 use words::word_at;
-
-const ALL: u64 = 18446744073709551615;
 
 // The first word of some columns; a column but the first has a word for each sign, clear and set.
 const AVOID: usize = 0;
@@ -41,7 +40,39 @@ fn stands_between(order: &[u8; 16384], d: usize, b: usize, c: usize) -> bool
     false
 }
 
-// The flags that every child between d and c can avoid.
+// Of the given flags, those that every child between d and c in a part of the table of children can avoid; it ends as soon as none is left.
+fn between_part(
+    kids: &[u8; 128],
+    order: &[u8; 16384],
+    rows: &[u64; 2688],
+    low: usize,
+    high: usize,
+    flags: u64,
+    c: usize,
+    d: usize,
+) -> u64
+    requires { ⌜ Part (now kids) low high × ((c < 128) × (d < 128)) ⌝ }
+    ensures { λ r. ⌜ BetweenPart (now (kids .entry)) (now (order .entry)) (now (rows .entry)) low high flags c d r ⌝ }
+{
+    let mut left = flags;
+    let mut i = low;
+    while i < high {
+        if left == 0 {
+            return 0;
+        }
+        let b = wide(kids[i]);
+        left = narrowed(
+            left,
+            stands_between(order, d, b, c),
+            word_at(rows, b, AVOID),
+        );
+        i += 1;
+    }
+    left
+}
+
+// Of the given flags, those that every child between d and c can avoid; d is the child at j. The children after d in the table come first: there the flags
+// are soonest settled.
 fn between(
     from: &[u8; 129],
     kids: &[u8; 128],
@@ -49,28 +80,22 @@ fn between(
     rows: &[u64; 2688],
     n: usize,
     node: usize,
+    flags: u64,
     c: usize,
-    d: usize,
+    j: usize,
 ) -> u64
-    requires { ⌜ (Shaped (now from) (now kids) n × (node < n)) × ((c < n) × (d < n)) ⌝ }
-    ensures { λ r. ⌜ BetweenWord (now (from .entry)) (now (kids .entry)) (now (order .entry)) (now (rows .entry)) n node c d r ⌝ }
+    requires { ⌜ (Shaped (now from) (now kids) n × (node < n)) × ((c < n) × Position (now from) node j) ⌝ }
+    ensures among { λ r. ⌜ ((f : ℕ) → f < 64 → T (bit r f) → T (bit flags f)) ⌝ }
+    ensures says { λ r. ⌜ BetweenWord (now (from .entry)) (now (kids .entry)) (now (order .entry)) (now (rows .entry)) n node flags c (getD (now (kids .entry)) j 0) r ⌝ }
 {
-    let mut flags = ALL;
+    let d = wide(kids[j]);
     let end = wide(from[node + 1]);
-    let mut i = wide(from[node]);
-    while i < end {
-        let b = wide(kids[i]);
-        flags = narrowed(
-            flags,
-            stands_between(order, d, b, c),
-            word_at(rows, b, AVOID),
-        );
-        i += 1;
-    }
-    flags
+    let start = wide(from[node]);
+    let left = between_part(kids, order, rows, j + 1, end, flags, c, d);
+    between_part(kids, order, rows, start, j + 1, left, c, d)
 }
 
-// The wanted flags of one sign that the children c and d clobber.
+// The wanted flags of one sign that the child c and the child at j clobber.
 fn pair_word(
     from: &[u8; 129],
     kids: &[u8; 128],
@@ -81,19 +106,20 @@ fn pair_word(
     sign: usize,
     wanted: u64,
     c: usize,
-    d: usize,
+    j: usize,
 ) -> u64
-    requires { ⌜ ((Shaped (now from) (now kids) n × (node < n)) × (sign < 2)) × ((c < n) × (d < n)) ⌝ }
+    requires { ⌜ ((Shaped (now from) (now kids) n × (node < n)) × (sign < 2)) × ((c < n) × Position (now from) node j) ⌝ }
     ensures among { λ r. ⌜ ((f : ℕ) → f < 64 → T (bit r f) → T (bit wanted f)) ⌝ }
-    ensures says { λ r. ⌜ PairWord (now (from .entry)) (now (kids .entry)) (now (order .entry)) (now (rows .entry)) n node sign wanted c d r ⌝ }
+    ensures says { λ r. ⌜ PairWord (now (from .entry)) (now (kids .entry)) (now (order .entry)) (now (rows .entry)) n node sign wanted c (getD (now (kids .entry)) j 0) r ⌝ }
 {
+    let d = wide(kids[j]);
     if order[d * 128 + c] == 1 {
         let passed = word_at(rows, d, MAY_POST + (1 - sign)) & word_at(rows, c, MAY_PRE + sign);
         let shared = wanted & passed;
         if shared == 0 {
             return 0;
         }
-        return shared & between(from, kids, order, rows, n, node, c, d);
+        return between(from, kids, order, rows, n, node, shared, c, j);
     }
     if apart(order, c, d) {
         return wanted
@@ -102,7 +128,7 @@ fn pair_word(
     0
 }
 
-// The wanted literals that the children c and d clobber.
+// The wanted literals that the child c and the child at j clobber.
 fn pair_words(
     from: &[u8; 129],
     kids: &[u8; 128],
@@ -112,20 +138,39 @@ fn pair_words(
     node: usize,
     wanted: Literals,
     c: usize,
-    d: usize,
+    j: usize,
 ) -> Literals
-    requires { ⌜ (Shaped (now from) (now kids) n × (node < n)) × ((c < n) × (d < n)) ⌝ }
-    ensures { λ r. ⌜ PairWords (now (from .entry)) (now (kids .entry)) (now (order .entry)) (now (rows .entry)) n node wanted c d r ⌝ }
+    requires { ⌜ (Shaped (now from) (now kids) n × (node < n)) × ((c < n) × Position (now from) node j) ⌝ }
+    ensures { λ r. ⌜ PairWords (now (from .entry)) (now (kids .entry)) (now (order .entry)) (now (rows .entry)) n node wanted c (getD (now (kids .entry)) j 0) r ⌝ }
 {
-    let clear = pair_word(from, kids, order, rows, n, node, 0, wanted.clear, c, d);
-    let set = pair_word(from, kids, order, rows, n, node, 1, wanted.set, c, d);
+    let clear = pair_word(from, kids, order, rows, n, node, 0, wanted.clear, c, j);
+    let set = pair_word(from, kids, order, rows, n, node, 1, wanted.set, c, j);
     Literals {
         clear: clear,
         set: set,
     }
 }
 
-// Looks for a pair of children that clobbers a wanted literal; the search ends as soon as one is found, and answers the literals of that pair.
+// The position of the first child to pair with c: past them all, if c requires no wanted literal.
+fn first_partner(rows: &[u64; 2688], wanted: Literals, c: usize, start: usize, end: usize) -> usize
+    requires { ⌜ c < 128 ⌝ }
+    ensures { λ r. ⌜ FirstPartner (now (rows .entry)) wanted c start end r ⌝ }
+{
+    let clear = word_at(rows, c, REQUIRES) | word_at(rows, c, MAY_PRE);
+    let set = word_at(rows, c, REQUIRES + 1) | word_at(rows, c, MAY_PRE + 1);
+    if ((wanted.clear & clear) | (wanted.set & set)) == 0 {
+        return end;
+    }
+    start
+}
+
+// The literals of a pair that a search found, and the position of the pair's first child; with no literal, the end of the children.
+pub struct Found {
+    pub literals: Literals,
+    pub at: usize,
+}
+
+// Looks for a pair of children that clobbers a wanted literal, from a position of the first child on; the search ends as soon as one is found.
 pub fn clobbering_pair(
     from: &[u8; 129],
     kids: &[u8; 128],
@@ -134,19 +179,20 @@ pub fn clobbering_pair(
     n: usize,
     node: usize,
     wanted: Literals,
-) -> Literals
-    requires { ⌜ Shaped (now from) (now kids) n × (node < n) ⌝ }
-    ensures { λ r. ⌜ Search (now (from .entry)) (now (kids .entry)) (now (order .entry)) (now (rows .entry)) n node wanted r ⌝ }
+    first: usize,
+) -> Found
+    requires { ⌜ (Shaped (now from) (now kids) n × (node < n)) × ((getD (now from) node 0 ≤ first) × (first ≤ getD (now from) (node + 1) 0)) ⌝ }
+    ensures { λ r. ⌜ Search (now (from .entry)) (now (kids .entry)) (now (order .entry)) (now (rows .entry)) n node wanted first r ⌝ }
 {
     let end = wide(from[node + 1]);
     let start = wide(from[node]);
     let mut found = Literals { clear: 0, set: 0 };
-    let mut i = start;
+    let mut i = first;
     'search: while i < end {
         let c = wide(kids[i]);
-        let mut j = start;
+        let mut j = first_partner(rows, wanted, c, start, end);
         while j < end {
-            let pair = pair_words(from, kids, order, rows, n, node, wanted, c, wide(kids[j]));
+            let pair = pair_words(from, kids, order, rows, n, node, wanted, c, j);
             if (pair.clear | pair.set) != 0 {
                 found = pair;
                 break 'search;
@@ -155,10 +201,13 @@ pub fn clobbering_pair(
         }
         i += 1;
     }
-    found
+    Found {
+        literals: found,
+        at: i,
+    }
 }
 
-// The wanted literals that some pair of children clobbers: the search is asked again for those still wanted.
+// The wanted literals that some pair of children clobbers: the search is asked again for those still wanted, and goes on at the child where it stood.
 pub fn clobbering_pairs(
     from: &[u8; 129],
     kids: &[u8; 128],
@@ -173,11 +222,14 @@ pub fn clobbering_pairs(
 {
     let mut left = wanted;
     let mut found = Literals { clear: 0, set: 0 };
+    let mut first = wide(from[node]);
     loop {
-        let pair = clobbering_pair(from, kids, order, rows, n, node, left);
+        let next = clobbering_pair(from, kids, order, rows, n, node, left, first);
+        let pair = next.literals;
         if (pair.clear | pair.set) == 0 {
             return found;
         }
+        first = next.at;
         found.clear = found.clear | pair.clear;
         found.set = found.set | pair.set;
         left.clear = left.clear ^ (left.clear & pair.clear);

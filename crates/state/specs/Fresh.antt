@@ -1,5 +1,6 @@
 -- The state that `fresh` writes: the start flags of the plan and a 0 for each node; later bytes are kept.
 use Prim.Native.Nat.{ℕ, _+_}
+use mathlib.Core.Path.{_≡_}
 use mathlib.Core.Bool.{cond}
 use mathlib.Core.List.{List}
 use lib.ListN.{getD}
@@ -14,3 +15,8 @@ freshByte b i = cond (ltb i 8) (getD b (8 + i) 0) 0
 -- the bytes after the call: as they were, if it is refused
 unfoldable pub freshState : List ℕ → List ℕ → List ℕ
 freshState b s = cond (eqb (roomRefusal b s) 0) (overlay (freshByte b) (8 + nodeCount b) s) s
+
+-- what `fresh` returns and the bytes that it leaves
+pub record Freshened (b s : List ℕ) (r : ℕ) (s′ : List ℕ) : Type 0 where
+  pub returns : r ≡ roomRefusal b s
+  pub leaves : s′ ≡ freshState b s

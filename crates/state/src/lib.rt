@@ -11,7 +11,7 @@ ghost use lib.ListN.{length};
 ghost use Rattle.format.specs.Format.{Whole, nodeCount, flagCount};
 ghost use Rattle.rules.specs.Search.{someBelow};
 ghost use Rattle.state.specs.State.{byteOf, badFlag, badByte, malformed, roomRefusal, stateRefusal};
-ghost use Rattle.state.specs.Fresh.{freshByte, freshState};
+ghost use Rattle.state.specs.Fresh.{freshByte, Freshened};
 
 // A bit for a flag of number v or higher.
 fn flags_bad(plan: &[u8], state: &[u8]) -> bool
@@ -97,8 +97,7 @@ fn fresh_byte(plan: &[u8], i: usize) -> u8
 
 // A state in which every task waits and each flag is as its start bit says; refused with 1 to 15, nothing changes.
 pub fn fresh(plan: &[u8], state: &mut [u8]) -> u32
-    ensures number { λ r. ⌜ r ≡ roomRefusal (now (plan .entry)) (now (state .entry)) ⌝ }
-    ensures bytes { λ r. ⌜ now (state .exit) ≡ freshState (now (plan .entry)) (now (state .entry)) ⌝ }
+    ensures { λ r. ⌜ Freshened (now (plan .entry)) (now (state .entry)) r (now (state .exit)) ⌝ }
 {
     let r = check_room(plan, state);
     if r != 0 {

@@ -51,7 +51,7 @@ fn no_rows() -> [u64; 2688]
 }
 
 // The rows of all nodes.
-pub fn fill_rows(plan: &[u8], rows: &mut [u64; 2688])
+fn fill_rows(plan: &[u8], rows: &mut [u64; 2688])
     requires { ⌜ (refusal (now plan) ≡ 0) × (length (now rows) ≡ 2688) ⌝ }
     ensures { λ r. ⌜ RowsOf (now (plan .entry)) (now (rows .exit)) ⌝ }
 {
@@ -60,12 +60,20 @@ pub fn fill_rows(plan: &[u8], rows: &mut [u64; 2688])
     let mut kids = no_nodes();
     let mut order = no_order();
     let mut conds = no_conditions();
-    fill_tables(plan, &mut kind, &mut from, &mut kids, &mut order, &mut conds);
-    node_rows(&kind, &from, &kids, &order, &conds, rows, nodes(plan));
+    fill_tables(
+        plan,
+        &mut kind,
+        &mut from,
+        &mut kids,
+        &mut order,
+        &mut conds,
+    );
+    let n = nodes(plan);
+    node_rows(&kind, &from, &kids, &order, &conds, rows, n);
 }
 
 // The marks of a node as words.
-pub fn node_words(plan: &[u8], node: usize) -> [u64; 16]
+fn node_words(plan: &[u8], node: usize) -> [u64; 16]
     requires { ⌜ (refusal (now plan) ≡ 0) × (node < nodeCount (now plan)) ⌝ }
     ensures { λ r. ⌜ MarkWords (planOf (now (plan .entry))) node r ⌝ }
 {

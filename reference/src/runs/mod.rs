@@ -7,6 +7,7 @@ mod graph;
 mod history;
 
 use crate::format::Plan;
+use crate::marks::{self, Marks};
 use graph::Graph;
 use history::{histories, History};
 
@@ -18,6 +19,20 @@ pub struct Shown {
     /// In every completed execution a task with this precondition starts after the opposite was
     /// last asserted. The rule for mark 7 is to give no less.
     pub always_clobbered: bool,
+}
+
+/// The marks at every node: 0 to 6 as the runs show them, 7 by its rule.
+pub fn marks(plan: &Plan) -> Vec<Vec<Marks>> {
+    let by_rules = marks::marks(plan);
+    let of_node = |(node, rules): (usize, &Vec<Marks>)| {
+        let entries = shown(plan, node).into_iter().zip(rules);
+        let entry = |(runs, rules): (Shown, &Marks)| {
+            let [a, b, c, d, e, f, g] = runs.marks;
+            Marks::from_order([a, b, c, d, e, f, g, rules.must_clobber])
+        };
+        entries.map(entry).collect()
+    };
+    by_rules.iter().enumerate().map(of_node).collect()
 }
 
 /// What is shown of every literal at the node, in the order of a summary's entries.

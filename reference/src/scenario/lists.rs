@@ -30,6 +30,32 @@ pub fn list(random: &mut Random, plan: &Plan, calls: usize) -> Vec<Event> {
     list
 }
 
+/// Calls that go on until none is accepted any more, others among them: on a plan that is CLEAR, to
+/// its end.
+pub fn long_list(random: &mut Random, plan: &Plan) -> Vec<Event> {
+    let mut state = State::fresh(plan);
+    let mut list = Vec::new();
+    loop {
+        let events = plan
+            .tasks()
+            .flat_map(|task| [Event::Start(task), Event::Finish(task)]);
+        let afters = events.map(|event| (event, state.step(plan, event)));
+        let accepted = afters.filter_map(|(event, after)| Some((event, after.ok()?)));
+        let mut accepted: Vec<(Event, State)> = accepted.collect();
+        if accepted.is_empty() {
+            return list;
+        }
+        let (event, after) = accepted.swap_remove(random.below(accepted.len()));
+        list.push(event);
+        state = after;
+        if random.below(2) == 0 {
+            let other = any_event(random, plan);
+            state = state.step(plan, other).unwrap_or(state);
+            list.push(other);
+        }
+    }
+}
+
 pub fn any_event(random: &mut Random, plan: &Plan) -> Event {
     let number = any_number(random, plan);
     random.pick(&[Event::Start(number), Event::Finish(number)])

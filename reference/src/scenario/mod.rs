@@ -7,8 +7,9 @@ pub mod cases;
 pub mod lists;
 pub mod memory;
 pub mod states;
+pub mod tally;
 
-use crate::calls::{self, Call};
+use crate::calls::{self, Answers, Call};
 use crate::format::Plan;
 use crate::random::Random;
 use memory::{hex, Lent};
@@ -38,7 +39,20 @@ impl Case {
     /// The reference's return. The other calls must return and leave the same.
     #[track_caller]
     pub fn compare(&self, other: impl FnOnce(Call, &mut [u8], &mut [u8]) -> u32) -> u32 {
-        let want = self.make(reference);
+        match self.compared(&Answers::by_rules(&self.plan), other) {
+            Ok(after) => after.returned,
+            Err(message) => panic!("{message}"),
+        }
+    }
+
+    /// What these answers to the plan return and leave, or how the other calls return or leave
+    /// something else.
+    pub fn compared(
+        &self,
+        answers: &Answers,
+        other: impl FnOnce(Call, &mut [u8], &mut [u8]) -> u32,
+    ) -> Result<After, String> {
+        let want = self.make(|call, _, lent| answers.make(call, lent));
         let found = self.make(other);
         let wrong = if found.returned != want.returned {
             format!("returns {}, not {}", found.returned, want.returned)
@@ -47,10 +61,12 @@ impl Case {
         } else if found.lent != want.lent {
             format!("leaves {}, not {}", hex(&found.lent), hex(&want.lent))
         } else {
-            return want.returned;
+            return Ok(want);
         };
-        let (plan, lent) = (hex(&self.plan), hex(&self.lent));
-        panic!("{:?} {wrong}; lent were plan {plan} and {lent}", self.call)
+        let (call, plan, lent) = (self.call, hex(&self.plan), hex(&self.lent));
+        Err(format!(
+            "{call:?} {wrong}; lent were plan {plan} and {lent}"
+        ))
     }
 
     /// Makes the call. The memory around the lent pieces must not change.

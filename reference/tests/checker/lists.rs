@@ -1,7 +1,7 @@
 //! Random lists of calls, against returns and states worked out anew from the plan and the calls
 //! accepted so far, never from a state's bytes.
 
-use reference::calls::{make, Call};
+use reference::calls::Call;
 use reference::events::Event::{self, Finish, Start};
 use reference::format::{
     Condition, Plan, Sizes, ALL_OF, ANY_OF, INCONDITION, POSTCONDITION, PRECONDITION, TASK,
@@ -9,9 +9,8 @@ use reference::format::{
 use reference::generate::{any_plan, dense_plan, LIMITS};
 use reference::random::Random;
 use reference::scenario::lists::{list, replay};
-use reference::scenario::reference;
 
-use crate::shown;
+use crate::{make, shown};
 
 /// A plan and the calls that were accepted, the latest last.
 struct Past<'a> {
@@ -168,7 +167,8 @@ fn check(random: &mut Random, plan: &Plan, calls: usize, counts: &mut [usize; 23
     let extra = random.below(4);
     let lent = random.bytes(state_len + extra);
     let bytes = plan.bytes();
-    let afters = replay(&bytes, &list, lent.clone(), reference);
+    let by_both = |call, plan: &mut [u8], lent: &mut [u8]| make(call, plan, lent);
+    let afters = replay(&bytes, &list, lent.clone(), by_both);
     let mut past = Past {
         plan,
         accepted: Vec::new(),

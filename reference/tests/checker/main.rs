@@ -1,5 +1,5 @@
-//! The reference from marks to listing: expectations made by hand from 01, and its parts against
-//! each other.
+//! Expectations made by hand from 01, put to the reference and to the archive as far as it has the
+//! calls; the parts of the reference against each other.
 
 mod agreement;
 mod clobbering;
@@ -13,15 +13,16 @@ mod waits;
 use std::fs;
 use std::path::Path;
 
-use reference::calls::{make, Call};
+use reference::archive;
+use reference::calls::Call;
 use reference::events::Event;
 use reference::format::Plan;
 use reference::listing;
-use reference::marks::marks;
 use reference::rules::accept;
 use reference::scenario::lists::replay;
-use reference::scenario::reference;
-use reference::{summary, text};
+use reference::scenario::{reference, Case};
+use reference::summary::summary_len;
+use reference::text;
 
 /// What the verdict call returns.
 const CLEAR: u32 = 128;
@@ -40,20 +41,40 @@ fn plan(text: &str) -> Vec<u8> {
     text::make(text).unwrap()
 }
 
+/// Makes the call of the reference, and of the archive if it has it: both must return and leave the
+/// same.
+#[track_caller]
+fn make(call: Call, plan: &[u8], lent: &mut [u8]) -> u32 {
+    let case = Case {
+        call,
+        plan: plan.to_vec(),
+        lent: lent.to_vec(),
+    };
+    if archive::has(call) {
+        case.compare(archive::make);
+    }
+    let after = case.make(reference);
+    lent.copy_from_slice(&after.lent);
+    after.returned
+}
+
 fn verdict(plan: &[u8]) -> u32 {
     make(Call::Verdict, plan, &mut [])
 }
 
 /// The entries of a node's summary.
+#[track_caller]
 fn entries(plan: &[u8], node: usize) -> Vec<[u8; 8]> {
-    let bytes = summary::bytes(&marks(&fields(plan))[node]);
+    let mut out = vec![7; summary_len(&fields(plan))];
+    assert_eq!(make(Call::Summary(node), plan, &mut out), 0);
     let entry = |bytes: &[u8]| bytes.try_into().unwrap();
-    bytes.chunks(8).map(entry).collect()
+    out.chunks(8).map(entry).collect()
 }
 
 /// What each call of a list returns.
 fn returns(plan: &[u8], list: &[Event]) -> Vec<u32> {
-    let afters = replay(plan, list, vec![7; 200], reference);
+    let by_both = |call, plan: &mut [u8], lent: &mut [u8]| make(call, plan, lent);
+    let afters = replay(plan, list, vec![7; 200], by_both);
     let mut returned = afters.iter().map(|after| after.returned);
     assert_eq!(returned.next(), Some(0), "fresh");
     returned.collect()

@@ -1,9 +1,9 @@
 //! Refusals 15 to 22: with several causes at once the lowest number is returned.
 
-use reference::calls::{make, Call};
+use reference::calls::Call;
 use reference::events::Event::{self, Finish, Start};
 
-use crate::{plan, sample};
+use crate::{make, plan, sample};
 
 /// A plan in which task 5 can meet every refusal of a start.
 const PLAN: &str = "flags 2\n0 ROOT all-of\n1 A--- task 0 under 0 holds 0-set leaves 0-clear\n\

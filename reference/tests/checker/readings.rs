@@ -1,12 +1,12 @@
 //! Places of 01 that could be read in two ways, each with a plan that tells the readings apart.
 
-use reference::calls::{make, Call};
+use reference::calls::Call;
 use reference::events::Event::{Finish, Start};
 use reference::listing::printed;
 use reference::rules::refusal;
 use reference::search::search;
 
-use crate::{entries, fields, plan, returns, sample, verdict, CLEAR, DOOMED, OPEN};
+use crate::{entries, fields, make, plan, returns, sample, verdict, CLEAR, DOOMED, OPEN};
 
 /// A task's own start is no earlier event: what it needs and holds is needed from outside.
 #[test]

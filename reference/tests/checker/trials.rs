@@ -1,10 +1,10 @@
 //! The trial rows of 01.
 
-use reference::calls::{make, Call};
+use reference::calls::Call;
 use reference::events::Event::{Finish, Start};
 use reference::listing::printed;
 
-use crate::{entries, listed, returns, sample, verdict, CLEAR, DOOMED, OPEN};
+use crate::{entries, listed, make, returns, sample, verdict, CLEAR, DOOMED, OPEN};
 
 #[test]
 fn verdicts() {

@@ -2,43 +2,42 @@
 
 use std::fmt;
 
-use reference::scenario::memory::{hex, Lent};
-use reference::{archive, rules};
+use reference::calls::{Answers, Call};
+use reference::scenario::memory::hex;
+use reference::scenario::{tally, Case};
 
 pub struct Tally {
     topic: &'static str,
-    counts: [usize; 15],
-    total: usize,
+    comparisons: tally::Tally,
 }
 
 impl Tally {
     pub fn new(topic: &'static str) -> Tally {
         Tally {
             topic,
-            counts: [0; 15],
-            total: 0,
+            comparisons: tally::Tally::default(),
         }
     }
 
     /// How often each refusal from 0 to 14 was met.
     pub fn counts(&self) -> [usize; 15] {
-        self.counts
+        let mut counts = [0; 15];
+        for (refusal, count) in (0..).zip(&mut counts) {
+            *count = self.comparisons.met(Call::Refusal.name(), refusal);
+        }
+        counts
     }
 
     /// Archive and reference agree on the refusal of these bytes, which is returned.
     #[track_caller]
     pub fn compare(&mut self, bytes: &[u8]) -> u32 {
-        let want = rules::refusal(bytes);
-        let found = self.lend(bytes);
-        assert!(
-            found == want,
-            "{}: the archive answers {found}, the reference {want}, for {}",
-            self.topic,
-            hex(bytes)
-        );
-        self.total += 1;
-        self.counts[want as usize] += 1;
-        want
+        let case = Case {
+            call: Call::Refusal,
+            plan: bytes.to_vec(),
+            lent: Vec::new(),
+        };
+        let after = self.comparisons.compare(&Answers::by_rules(bytes), &case);
+        after.returned
     }
 
     /// Archive and reference agree on the refusal, and it is the expected one.
@@ -52,24 +51,11 @@ impl Tally {
             hex(bytes)
         );
     }
-
-    /// The archive's answer, for which it may change no byte.
-    #[track_caller]
-    fn lend(&self, bytes: &[u8]) -> u32 {
-        let mut plan = Lent::new(bytes);
-        let found = archive::refusal(plan.bytes());
-        assert!(
-            plan.back() == bytes,
-            "{}: the archive changed memory, for {}",
-            self.topic,
-            hex(bytes)
-        );
-        found
-    }
 }
 
 impl fmt::Display for Tally {
     fn fmt(&self, f: &mut fmt::Formatter) -> fmt::Result {
-        write!(f, "{:30}{:8} comparisons", self.topic, self.total)
+        let total = self.comparisons.total();
+        write!(f, "{:30}{total:8} comparisons", self.topic)
     }
 }

@@ -1,7 +1,6 @@
 -- `monitor::write_event` meets its contract. Assumes nothing.
-use denote.Ref.{now}
 use Rattle.progress.proofs.Sound.{has-room}
-use Rattle.monitor.specs.Start.{eventState}
+use Rattle.monitor.specs.Events.{withEvent}
 use borrow.Author.Needs.{needs}
 use native.Mathlib.Omega.{arith}
 use Rattle.monitor.proofs.write_event.Statement.{statement}
@@ -14,7 +13,7 @@ slice-write-state : tie.Need-slice-write-state
 slice-write-state c = let s = c .before .before .before .before .before .before .before .before .before in let l = s .pre .0 in let r = has-room _ _ (s .pre .1) .room in omega arith
 
 returns : tie.Need-returns
-unfolding eventState
+unfolding withEvent
 returns c = rw (c .before .before .store .ensures, c .before .before .before .before .with-literals .ensures, c .before .before .before .before .before .load .ensures)
 
 pub write-event-spec : {M : Type 1} → statement M

@@ -143,7 +143,7 @@ unfoldable pub holdsB : Trial → Bool
 holdsB t = both (formB (planOf (t .table))) (λ u. both (decide (Verdict-discrete (verdict (planOf (t .table)) (t .start-flags)) (t .answer)))
     (λ u. both (showsB (planOf (t .table)) (t .marks)) (λ u. sameList (returns (planOf (t .table)) (fresh (t .start-flags)) (t .calls)) (t .returned))))
 
-same-list : (l k : List ℕ) → T (sameList l k) → l ≡ k
+pub same-list : (l k : List ℕ) → T (sameList l k) → l ≡ k
 unfolding sameList
 same-list [] [] t = refl
 same-list [] (y ∷ k) t = absurd t

@@ -31,11 +31,11 @@ module _ (p : Plan) (w : WellFormed p) (F : ℕ → Bool) where
       at h e (precondition nd sp) = pre-flag p w e nd
       at h e (incondition t ne ho ru br) = (w .on-task inc t f v ho) .2
 
-  may-fail-flag : (f : ℕ) (v : Bool) → MayFail p F f v → f < p .cond .flags
+  pub may-fail-flag : (f : ℕ) (v : Bool) → MayFail p F f v → f < p .cond .flags
   may-fail-flag f v (inl x) = clobber-flag f v x
   may-fail-flag f v (inr (q, x)) = pre-flag p w (x .holds .event) (x .holds .needs)
 
-  must-fail-may : (f : ℕ) (v : Bool) → MustFail p F f v → MayFail p F f v
+  pub must-fail-may : (f : ℕ) (v : Bool) → MustFail p F f v → MayFail p F f v
   must-fail-may f v (inl d) = inl (must-clobber-may p w f v (w .root-node) d)
   must-fail-may f v (inr (q, m)) = let (h, x) = completed-execution p w 0 (w .root-node) in inr (q, record { history = h; completed = x; holds = m h x })
 
@@ -56,7 +56,7 @@ module _ (p : Plan) (w : WellFormed p) (F : ℕ → Bool) where
   unfolding mayFailB
   r-may-fail = r-some-literal (MayFail p F) _ (r-fails may-clobber may-pre) may-fail-flag
 
-  r-must-fail : Reflects (mustFailB p F tt) (SomeLiteral (MustFail p F))
+  pub r-must-fail : Reflects (mustFailB p F tt) (SomeLiteral (MustFail p F))
   unfolding mustFailB
   r-must-fail = r-some-literal (MustFail p F) _ (r-fails must-clobber must-pre) (λ f v x. may-fail-flag f v (must-fail-may f v x))
 

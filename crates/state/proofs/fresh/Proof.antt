@@ -32,7 +32,7 @@ returns : tie.Need-returns Inv-loop μ-loop
 returns c =
     let a = c .before .before .before .before .before .args in
     let e = c .before .check-room .ensures in
-    (e, fresh-refused (now (a .plan)) (now (a .state)) (λ z. c .if1 .taken (e ∙ z)))
+    record { returns = e; leaves = fresh-refused (now (a .plan)) (now (a .state)) (λ z. c .if1 .taken (e ∙ z)) }
 
 nodes-requires : tie.Need-nodes-requires Inv-loop μ-loop
 nodes-requires c κs = enough c .plan .fits .limits .long
@@ -67,7 +67,7 @@ returns-2 c =
     let p = passed (l .before .before) in
     let a = l .before .before .before .before .before .before .before .args in
     let e : l .loop .k ≡ 8 + nodeCount (now (a .plan)) = omega arith in
-    (sym p, l .loop .inv .1 ∙ ap (λ (k : ℕ). overlay (freshByte (now (a .plan))) k (now (a .state))) e ∙ fresh-accepted (now (a .plan)) (now (a .state)) p)
+    record { returns = sym p; leaves = l .loop .inv .1 ∙ ap (λ (k : ℕ). overlay (freshByte (now (a .plan))) k (now (a .state))) e ∙ fresh-accepted (now (a .plan)) (now (a .state)) p }
 
 pub fresh-spec : {M : Type 1} → statement M
 fresh-spec =

@@ -1,0 +1,5 @@
+pub mod Bytes
+pub mod Kept
+pub mod Followed
+pub mod Demand3
+pub mod Partly

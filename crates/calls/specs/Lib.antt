@@ -1,0 +1,4 @@
+pub mod Shown
+pub mod Lists
+pub mod Demand3
+pub mod Replay

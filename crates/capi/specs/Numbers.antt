@@ -1,0 +1,35 @@
+-- The numbers by which the C interface tells answers that are no refusals. Definitions only.
+use mathlib.Core.Path.{_≡_}
+use mathlib.Core.Logic.{_⊎_, inl, inr}
+use mathlib.Core.List.{List}
+use Prim.Native.Nat.{ℕ}
+use Rattle.runs.specs.Verdict.{Verdict, CLEAR, DOOMED, OPEN}
+use Rattle.summary.specs.declared.Answer.{Answer}
+use Rattle.summary.specs.Verdict as summary
+use Rattle.summary.specs.Verdict.{Assessed}
+use Rattle.monitor.specs.declared.Progress.{Progress}
+use Rattle.monitor.specs.Status as monitor
+use Rattle.monitor.specs.Status.{Word, COMPLETE, UNFINISHED, Told}
+
+abbrev pub verdictNumber : ℕ ⊎ Verdict → ℕ
+verdictNumber (inl n) = n
+verdictNumber (inr CLEAR) = 128
+verdictNumber (inr DOOMED) = 129
+verdictNumber (inr OPEN) = 130
+
+-- r is the number of the answer that `assess` promises
+pub record VerdictNumber (b : List ℕ) (r : ℕ) : Type 0 where
+  pub answer : Answer
+  pub assessed : Assessed b answer
+  pub number : r ≡ verdictNumber (summary.said answer)
+
+abbrev pub statusNumber : ℕ ⊎ Word → ℕ
+statusNumber (inl n) = n
+statusNumber (inr COMPLETE) = 128
+statusNumber (inr UNFINISHED) = 129
+
+-- r is the number of the answer that `status` promises
+pub record StatusNumber (b s : List ℕ) (r : ℕ) : Type 0 where
+  pub answer : Progress
+  pub told : Told b s answer
+  pub number : r ≡ statusNumber (monitor.said answer)

@@ -1,0 +1,69 @@
+-- `between_part` meets its contract. Assumes nothing.
+use Prim.Native.Nat.{_≤_, _-_}
+use mathlib.Core.Path.{_≡_, refl}
+use Rattle.words.proofs.Sibling.{implied}
+use Rattle.pairs.specs.Pairs.{BetweenPart}
+use Rattle.pairs.proofs.Laws.{part-none, part-more, part-empty}
+use native.Mathlib.Omega.{arith}
+use Rattle.pairs.proofs.between_part.Statement.{statement}
+use Rattle.pairs.proofs.between_part.Tie as tie
+
+abbrev Inv-loop : tie.InvT-loop
+Inv-loop kids order rows low high flags c d left₀ i₀ left i = ((low ≤ i) × (i ≤ high)) × BetweenPart kids order rows low i flags c d left
+
+abbrev μ-loop : tie.MeasureT-loop
+μ-loop kids order rows low high flags c d left₀ i₀ left i = high - i
+
+loop-holds : tie.Need-loop-holds Inv-loop μ-loop
+loop-holds c = (omega (arith, c .pre .0 .rises), part-none)
+
+returns : tie.Need-returns Inv-loop μ-loop
+returns c = let l = c .before .before in part-empty (omega (arith, l .loop .inv .0)) (c .if1 .taken) (l .loop .inv .1)
+
+element-copy-out-wide : tie.Need-element-copy-out-wide Inv-loop μ-loop
+element-copy-out-wide c = omega (arith, c .before .before .before .pre .0 .ends)
+
+stands-between-requires : tie.Need-stands-between-requires Inv-loop μ-loop
+stands-between-requires c κs =
+    let l = c .before .before .before .before in
+    let kid = l .before .pre .0 .nodes .each (l .loop .i) (l .loop .inv .0 .0) (omega arith) in
+    omega (arith, l .before .pre .1, kid, c .wide .ensures)
+
+word-at-requires : tie.Need-word-at-requires Inv-loop μ-loop
+word-at-requires c κs =
+    let l = c .before .before .before .before .before in
+    let kid = l .before .pre .0 .nodes .each (l .loop .i) (l .loop .inv .0 .0) (omega arith) in
+    omega (arith, kid, c .before .wide .ensures)
+
+loop-again : tie.Need-loop-again Inv-loop μ-loop
+loop-again c =
+    let l = c .before .before .before .before .before .before .before in
+    let e = c .before .before .before .wide .ensures in (
+      omega arith,
+      part-more (l .loop .inv .0 .0) (c .narrowed .ensures)
+          (λ f k. implied (rw e at (c .before .before .stands-between .ensures)) (rw (c .before .word-at .ensures, e) (λ x. x, λ x. x))) (l .loop .inv .1),
+    )
+
+returns-2 : tie.Need-returns-2 Inv-loop μ-loop
+returns-2 c =
+    let l = c .before in
+    let e : l .loop .i ≡ l .before .args .high = omega (arith, l .loop .inv .0) in
+    rw e at (l .loop .inv .1)
+
+pub between-part-spec : {M : Type 1} → statement M
+between-part-spec =
+    tie.close
+    (tie.spec
+    Inv-loop
+    μ-loop
+    loop-holds
+    returns
+    element-copy-out-wide
+    (λ c κs. omega arith)
+    stands-between-requires
+    word-at-requires
+    (λ c κs. omega arith)
+    (λ c. omega arith)
+    (λ c. omega arith)
+    loop-again
+    returns-2)

@@ -1,0 +1,1 @@
+// The trial plans (01: trial books) marked *, from their bytes. No code.

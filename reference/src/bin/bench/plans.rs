@@ -1,0 +1,31 @@
+//! The plans that are timed: all have 128 nodes and 64 flags.
+
+use std::iter::repeat_with;
+
+use reference::format::{Plan, ALL_OF};
+use reference::generate::clear::{clear_plan, shaken_plan};
+use reference::generate::{Shape, LIMITS};
+use reference::random::Random;
+use reference::verdict::{verdict, Verdict};
+
+const SHAPES: [(&str, Shape); 4] = [
+    ("flat", Shape::Flat),
+    ("bushy", Shape::Bushy),
+    ("even", Shape::Even),
+    ("deep", Shape::Deep),
+];
+
+/// For each shape a plan of this verdict with an all-of root, drawn until there is one.
+pub fn of_verdict(wanted: Verdict) -> Vec<(&'static str, Plan)> {
+    let mut random = Random::new(101);
+    let draw = match wanted {
+        Verdict::Clear => clear_plan,
+        _ => shaken_plan,
+    };
+    let mut of_shape = |shape| {
+        let mut drawn = repeat_with(|| draw(&mut random, LIMITS, shape));
+        drawn.find(|plan| plan.nodes[0].kind == ALL_OF && verdict(plan) == wanted)
+    };
+    let named = SHAPES.map(|(name, shape)| (name, of_shape(shape).expect("draws never end")));
+    named.to_vec()
+}

@@ -1,0 +1,67 @@
+//! Every call on damaged plans: refused ones may change nothing.
+
+use reference::archive;
+use reference::calls::Answers;
+use reference::edit::edit;
+use reference::format::{Plan, Sizes};
+use reference::generate::{any_plan, dense_plan, LIMITS};
+use reference::random::Random;
+use reference::scenario::cases::cases;
+use reference::scenario::tally::Tally;
+
+const B: &[u8] = include_bytes!("../../../samples/b.plan");
+const LARGE: &[u8] = include_bytes!("../../../samples/large.plan");
+
+/// The calls that the archive has, on these bytes.
+fn every_call(tally: &mut Tally, random: &mut Random, plan: &[u8]) {
+    let answers = Answers::by_rules(plan);
+    let cases = cases(random, plan);
+    for case in cases.iter().filter(|case| archive::has(case.call)) {
+        tally.compare(&answers, case);
+    }
+}
+
+/// B with any one byte changed or cut off there, and the largest plan at some of its bytes.
+pub fn bytes(tally: &mut Tally) {
+    let mut random = Random::new(81);
+    for (plan, step) in [(B, 1), (LARGE, 89)] {
+        for at in (0..plan.len()).step_by(step) {
+            let mut bytes = plan.to_vec();
+            for value in [0, 255, random.byte(), bytes[at] ^ 64] {
+                bytes[at] = value;
+                every_call(tally, &mut random, &bytes);
+            }
+            every_call(tally, &mut random, &plan[..at]);
+        }
+        for len in (0..16).chain([plan.len() - 1]) {
+            every_call(tally, &mut random, &plan[..len]);
+        }
+        every_call(tally, &mut random, &[plan, &[0]].concat());
+    }
+}
+
+/// One to three edits of small and large plans, so that every refusal from 4 to 14 is met.
+pub fn fields(tally: &mut Tally) {
+    let mut random = Random::new(82);
+    let small = Sizes {
+        nodes: 12,
+        conditions: 30,
+        orders: 12,
+        flags: 64,
+    };
+    let mut plans: Vec<Plan> = Vec::new();
+    for nodes in 1..=10 {
+        plans.extend((0..30).map(|_| dense_plan(&mut random, nodes)));
+    }
+    plans.extend((0..1_000).map(|_| any_plan(&mut random, small)));
+    plans.extend((0..10).map(|_| any_plan(&mut random, LIMITS)));
+    for valid in plans {
+        for _ in 0..8 {
+            let mut plan = valid.clone();
+            for _ in 0..random.within(1, 3) {
+                edit(&mut plan, &mut random);
+            }
+            every_call(tally, &mut random, &plan.bytes());
+        }
+    }
+}

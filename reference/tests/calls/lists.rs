@@ -1,0 +1,163 @@
+//! Calls of the monitor: lists of them, and single ones on states of every kind.
+
+use std::iter::once;
+
+use reference::archive;
+use reference::calls::{Answers, Call};
+use reference::events::Event;
+use reference::format::{Plan, Sizes};
+use reference::generate::clear::{clear_plan, shaken_plan};
+use reference::generate::{any_plan, dense_plan, LIMITS, SHAPES};
+use reference::random::Random;
+use reference::scenario::cases::lengths_around;
+use reference::scenario::lists::{any_event, list, long_list};
+use reference::scenario::states::{any_state, bytes, malformed, reached_state};
+use reference::scenario::tally::Tally;
+use reference::scenario::Case;
+use reference::search::search_by;
+
+/// Fresh and then the list, each call with the state as the last one left it, and after each the
+/// status. At first the state is of any bytes.
+fn replay(tally: &mut Tally, random: &mut Random, plan: &Plan, list: &[Event]) {
+    let bytes = plan.bytes();
+    let answers = Answers::by_rules(&bytes);
+    let extra = random.below(4);
+    let mut state = random.bytes(8 + plan.nodes.len() + extra);
+    let events = list.iter().map(|&event| Call::Event(event));
+    for call in once(Call::Fresh).chain(events) {
+        for call in [call, Call::Status] {
+            let case = Case {
+                call,
+                plan: bytes.clone(),
+                lent: state,
+            };
+            state = tally.compare(&answers, &case).lent;
+        }
+    }
+}
+
+/// Plans of up to 12 nodes.
+pub fn small(tally: &mut Tally) {
+    let mut random = Random::new(111);
+    for nodes in 1..=12 {
+        for _ in 0..250 {
+            let plan = dense_plan(&mut random, nodes);
+            let drawn = list(&mut random, &plan, 4 * nodes);
+            replay(tally, &mut random, &plan, &drawn);
+            let long = long_list(&mut random, &plan);
+            replay(tally, &mut random, &plan, &long);
+        }
+    }
+}
+
+/// Plans of 128 nodes and of any size up to that; those that are CLEAR to their end.
+pub fn large(tally: &mut Tally) {
+    let mut random = Random::new(112);
+    for shape in SHAPES {
+        for draw in [clear_plan, shaken_plan] {
+            let plan = draw(&mut random, LIMITS, shape);
+            let long = long_list(&mut random, &plan);
+            replay(tally, &mut random, &plan, &long);
+        }
+    }
+    for _ in 0..20 {
+        let plan = any_plan(&mut random, LIMITS);
+        let drawn = list(&mut random, &plan, 200);
+        replay(tally, &mut random, &plan, &drawn);
+    }
+}
+
+/// Every call of the monitor on the state.
+fn every_call(
+    tally: &mut Tally,
+    random: &mut Random,
+    plan: &Plan,
+    answers: &Answers,
+    state: &[u8],
+) {
+    let number = any_event(random, plan).task();
+    for call in [
+        Call::Fresh,
+        Call::Event(Event::Start(number)),
+        Call::Event(Event::Finish(number)),
+        Call::Status,
+    ] {
+        let case = Case {
+            call,
+            plan: plan.bytes(),
+            lent: state.to_vec(),
+        };
+        tally.compare(answers, &case);
+    }
+}
+
+/// States that lists reach and others, each of all lengths around 8 + N and with each fault that
+/// makes it malformed.
+pub fn states(tally: &mut Tally) {
+    let mut random = Random::new(113);
+    let medium = Sizes {
+        nodes: 24,
+        conditions: 60,
+        orders: 30,
+        flags: 64,
+    };
+    let mut plans: Vec<Plan> = (0..150).map(|_| any_plan(&mut random, medium)).collect();
+    for nodes in 1..=8 {
+        plans.extend((0..10).map(|_| dense_plan(&mut random, nodes)));
+    }
+    plans.extend((0..3).map(|_| any_plan(&mut random, LIMITS)));
+    for plan in plans {
+        let answers = Answers::by_rules(&plan.bytes());
+        for state in [
+            any_state(&mut random, &plan),
+            reached_state(&mut random, &plan),
+        ] {
+            let good = bytes(&mut random, &plan, &state, 40);
+            let needed = 8 + plan.nodes.len();
+            let around = needed.saturating_sub(12)..=needed + 12;
+            for len in around.chain(lengths_around(needed)) {
+                every_call(tally, &mut random, &plan, &answers, &good[..len]);
+            }
+            for wrong in malformed(&mut random, &plan, &state) {
+                every_call(tally, &mut random, &plan, &answers, &wrong);
+            }
+        }
+    }
+}
+
+/// Calls on well-formed states that no list reaches, such as with two branches of a choice begun.
+pub fn unreachable(tally: &mut Tally) {
+    let mut random = Random::new(114);
+    for nodes in 1..=14 {
+        for _ in 0..200 {
+            let plan = dense_plan(&mut random, nodes);
+            let answers = Answers::by_rules(&plan.bytes());
+            for _ in 0..4 {
+                let state = any_state(&mut random, &plan);
+                let state = bytes(&mut random, &plan, &state, 1);
+                every_call(tally, &mut random, &plan, &answers, &state);
+            }
+        }
+    }
+}
+
+/// What demand 3 says of CLEAR and DOOMED, by all lists of calls of the archive alone.
+pub fn claims(tally: &mut Tally) {
+    let mut random = Random::new(115);
+    for (nodes, plans) in (1..).zip([100, 500, 1_500, 2_000, 1_500, 800, 300, 60]) {
+        for _ in 0..plans {
+            let plan = dense_plan(&mut random, nodes);
+            let case = Case {
+                call: Call::Verdict,
+                plan: plan.bytes(),
+                lent: Vec::new(),
+            };
+            let verdict = tally
+                .compare(&Answers::by_rules(&case.plan), &case)
+                .returned;
+            let found = search_by(&plan, archive::make);
+            assert_eq!(verdict == 128, !found.conflict, "{plan:?}");
+            assert!(verdict != 129 || !found.completable, "{plan:?}");
+        }
+    }
+}

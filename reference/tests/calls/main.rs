@@ -1,0 +1,56 @@
+//! Every call of the archive against the reference: what it returns and each byte that it was lent.
+
+mod damage;
+mod lists;
+mod summaries;
+
+use std::ops::RangeInclusive;
+use std::time::Instant;
+
+use reference::scenario::tally::Tally;
+
+type Topic = (&'static str, fn(&mut Tally));
+
+const TOPICS: [Topic; 11] = [
+    ("summaries of small plans, by runs", summaries::small),
+    ("summaries of large plans, by rules", summaries::large),
+    ("summaries of the samples", summaries::samples),
+    ("outputs of every length around 16V", summaries::lengths),
+    ("lists of calls on small plans", lists::small),
+    ("lists of calls on large plans", lists::large),
+    ("states of every length and fault", lists::states),
+    ("states that no list reaches", lists::unreachable),
+    ("CLEAR and DOOMED, by all lists", lists::claims),
+    ("plans with damaged bytes", damage::bytes),
+    ("plans with damaged fields", damage::fields),
+];
+
+/// What each call returned at least so often.
+const MET: [(&str, usize, &[RangeInclusive<u32>]); 6] = [
+    ("verdict", 20, &[1..=14, 128..=130]),
+    ("summary", 20, &[0..=15, 17..=17]),
+    ("fresh", 20, &[0..=15]),
+    ("start", 20, &[0..=22]),
+    ("finish", 20, &[0..=18, 22..=22]),
+    ("status", 20, &[1..=16, 128..=129]),
+];
+
+fn main() {
+    let mut all = Tally::default();
+    for (topic, run) in TOPICS {
+        let begin = Instant::now();
+        let mut tally = Tally::default();
+        run(&mut tally);
+        let (total, seconds) = (tally.total(), begin.elapsed().as_secs_f32());
+        println!("{topic:40}{total:8} comparisons, {seconds:.1} s");
+        all.add(&tally);
+    }
+    println!("{all}");
+    println!("{} comparisons in all", all.total());
+    for (name, least, returns) in MET {
+        for returned in returns.iter().cloned().flatten() {
+            let met = all.met(name, returned);
+            assert!(met >= least, "{name} returned {returned} only {met} times");
+        }
+    }
+}
