@@ -16,7 +16,7 @@ use Rattle.waits.specs.Filled.{Longest}
 use Rattle.waits.proofs.Bounds.{end-limit}
 use Rattle.lines.specs.Order.{rankedTo, ranking}
 use Rattle.lines.specs.Lines.{nameOf, ending, lineOf, linesOf, Ranking}
-use Rattle.lines.proofs.Order.{among-at, ranked-task, ranked-length}
+use Rattle.lines.proofs.Order.{Among, here, there, among-at, ranked-task, ranked-length}
 
 pub name-length : (b : List ℕ) (n : ℕ) → length (nameOf b n) ≡ 4
 unfolding nameOf
@@ -42,6 +42,11 @@ lines-more b (x ∷ xs) t = rw (lines-more b xs t) (sym (append-assoc (lineOf b 
 module _ {b : List ℕ} (ok : Clean b) where
   pub line-limit : (t : ℕ) → t < nodeCount b → length (lineOf b t) ≤ 13
   line-limit t l = omega (arith, line-length b t, ending-limit (longestWait b t) (omega (arith, end-limit b ok t l)))
+
+  lines-short : (xs : List ℕ) → ((u : ℕ) → Among u xs → u < nodeCount b) → length (linesOf b xs) ≤ 13 * length xs
+  unfolding linesOf
+  lines-short [] h = omega arith
+  lines-short (x ∷ xs) h = omega (arith, length-append (lineOf b x) (linesOf b xs), line-limit x (h x here), lines-short xs (λ u a. h u (there a)))
 
   -- the first i lines
   lines-next : (i : ℕ) → i < length (ranking b) → linesOf b (take (suc i) (ranking b)) ≡ linesOf b (take i (ranking b)) ++ lineOf b (getD (ranking b) i 0)
@@ -82,6 +87,10 @@ module _ {b : List ℕ} (ok : Clean b) where
   pub ranking-short : length (ranking b) ≤ 128
   unfolding ranking
   ranking-short = omega (arith, ranked-length b (nodeCount b), ok .fits .limits .nodes)
+
+  pub lines-limit : length (linesOf b (ranking b)) ≤ 1664
+  unfolding ranking
+  lines-limit = omega (arith, lines-short ok (rankedTo b (nodeCount b)) (λ u a. ranked-task b u (nodeCount b) a .0), ranking-short)
 
   pub lines-none : {out : List ℕ} {at : ℕ} → LinesTo b out out at at 0
   unfolding linesOf
