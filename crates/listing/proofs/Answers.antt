@@ -13,6 +13,12 @@ use Rattle.answers.proofs.First.{both-none}
 use Rattle.rules.specs.Rules.{refusal}
 use Rattle.decimals.specs.Decimals.{written, Wrote}
 use Rattle.decimals.proofs.Written.{wrote-same}
+use Rattle.plan.specs.Meaning.{planOf, startOf}
+use Rattle.runs.specs.Model.Verdicts.{verdict}
+use Rattle.summary.specs.Verdict.{wordOf, said, answerOf, Assessed}
+use Rattle.summary.specs.declared.Verdict.{Verdict}
+use Rattle.summary.specs.declared.Answer.{Answer}
+use Rattle.summary.specs.declared.Answer.the-variants as answers
 use Rattle.listing.specs.Text.{textOf, refusedText, printed}
 use Rattle.listing.specs.Listing.{listingRefusal, listedOf, listingLeft, Lists}
 use Rattle.listing.specs.declared.Listed.{Listed}
@@ -28,7 +34,7 @@ pub said-number : {A : Type 0} (r n : ℕ) (x : A) → inl n ≡ refusedOr r x �
 said-number zero n x e = absurd (let z : _≡_ {A = ℕ} 0 1 = cc in omega arith)
 said-number (suc r) n x e = (cc, λ z. omega arith)
 
-module _ {b out : List ℕ} where
+module _ (b out : List ℕ) where
   -- refused for the plan
   refused-first : (refusal b ≡ 0 → ⊥) → listingRefusal b out ≡ refusal b
   unfolding listingRefusal
@@ -99,3 +105,13 @@ module _ {b out : List ℕ} where
       let p : refusal b ≡ 0 → ⊥ = λ z. w .1 (refused-none z l) in
       let e : n ≡ refusal b = w .0 ∙ refused-first p in
       (omega (arith, refusal-limit b), ap refusedText e ∙ printed-refused p, h .bytes ∙ left-out (w .1))
+
+-- what the verdict's answer says
+module _ (b : List ℕ) {a : Answer} (h : Assessed b a) where
+  pub answer-number : {n : ℕ} → a ≡ answers.Refused n → (n ≡ refusal b) × (refusal b ≡ 0 → ⊥)
+  unfolding answerOf
+  answer-number {n} e = said-number (refusal b) n (verdict (planOf b) (startOf b)) (sym (ap said e) ∙ h .answer)
+
+  pub answer-verdict : {v : Verdict} → a ≡ answers.Judged v → (refusal b ≡ 0) × (wordOf v ≡ verdict (planOf b) (startOf b))
+  unfolding answerOf
+  answer-verdict {v} e = said-value (refusal b) (verdict (planOf b) (startOf b)) (wordOf v) (sym (ap said e) ∙ h .answer)

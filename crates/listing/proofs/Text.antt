@@ -1,7 +1,7 @@
 -- The text always fits. Assumes nothing.
 use mathlib.Core.Path.{_≡_, refl}
 use mathlib.Core.Bool.{Bool, true, false, cond}
-use mathlib.Core.List.{List}
+use mathlib.Core.List.{List, [], _∷_, _++_}
 use Prim.Native.Nat.{ℕ, _+_, _*_, _≤_}
 use native.Mathlib.Omega.{arith}
 use lib.ListN.{length, length-append}
@@ -17,12 +17,12 @@ use Rattle.lines.specs.Lines.{ending, linesOf}
 use Rattle.lines.proofs.Text.{ending-limit, lines-limit}
 use Rattle.listing.specs.Text.{letters, firstLine, textOf, refusedText}
 
-letters-limit : (v : Verdict) → length (letters v) ≤ 6
+pub letters-limit : (v : Verdict) → length (letters v) ≤ 6
 letters-limit CLEAR = omega arith
 letters-limit DOOMED = omega arith
 letters-limit OPEN = omega arith
 
-root-limit : {b : List ℕ} → Clean b → length (ending (lengthOf b 0)) ≤ 9
+pub root-limit : {b : List ℕ} → Clean b → length (ending (lengthOf b 0)) ≤ 9
 root-limit {b} ok = ending-limit (lengthOf b 0) (omega (arith, end-limit b ok 0 (ok .fits .limits .some-node)))
 
 pub text-fits : {b : List ℕ} → Clean b → length (textOf b) ≤ 1679
@@ -58,3 +58,11 @@ refusal-limit b =
     (cond-limit (cause12 b) 12 _ (omega arith)
     (cond-limit (cause13 b) 13 _ (omega arith)
     (cond-limit (cause14 b) 14 0 (omega arith) (omega arith))))))))))))))
+
+pub text-is : (b : List ℕ) → (letters (verdict (planOf b) (startOf b)) ++ ending (lengthOf b 0)) ++ linesOf b (ranking b) ≡ textOf b
+unfolding textOf firstLine
+text-is b = refl
+
+pub refused-is : (n : ℕ) → (82 ∷ 69 ∷ 70 ∷ 85 ∷ 83 ∷ 69 ∷ 68 ∷ []) ++ ending n ≡ refusedText n
+unfolding refusedText
+refused-is n = refl
