@@ -1,29 +1,32 @@
 -- What the listing answers, by the verdict's answer; and what is printed, by the listing's. Assumes nothing.
 use mathlib.Core.Path.{_≡_, refl, sym, ap, _∙_}
-use mathlib.Core.Logic.{_⊎_, inl, inr}
+use mathlib.Core.Logic.{_⊎_, inl, inr, by-cases}
 use mathlib.Core.Bool.{true, false, cond}
 use mathlib.Core.List.{List}
 use Prim.Native.Nat.{ℕ, zero, suc, _<_, _≤_}
+use native.Mathlib.Decide.{ℕ-discrete}
 use native.Mathlib.Omega.{arith}
 use lib.Dec.{eqb, ltb}
 use lib.ListN.{length}
+use lib.Seq.{length-take-le}
 use borrow.Author.Tests.{lt-ltb, le-ltb, ne-eqb}
 use Rattle.answers.specs.Answers.{first, refusedOr}
 use Rattle.answers.proofs.First.{both-none}
 use Rattle.rules.specs.Rules.{refusal}
 use Rattle.decimals.specs.Decimals.{written, Wrote}
-use Rattle.decimals.proofs.Written.{wrote-same}
+use Rattle.decimals.proofs.Written.{wrote-long, wrote-same}
 use Rattle.plan.specs.Meaning.{planOf, startOf}
+use Rattle.plan.proofs.Accepted.{clean}
 use Rattle.runs.specs.Model.Verdicts.{verdict}
 use Rattle.summary.specs.Verdict.{wordOf, said, answerOf, Assessed}
 use Rattle.summary.specs.declared.Verdict.{Verdict}
 use Rattle.summary.specs.declared.Answer.{Answer}
 use Rattle.summary.specs.declared.Answer.the-variants as answers
 use Rattle.listing.specs.Text.{textOf, refusedText, printed}
-use Rattle.listing.specs.Listing.{listingRefusal, listedOf, listingLeft, Lists}
+use Rattle.listing.specs.Listing.{listingRefusal, listedOf, listingLeft, Lists, Prints}
 use Rattle.listing.specs.declared.Listed.{Listed}
 use Rattle.listing.specs.declared.Listed.the-variants.{Refused, Text}
-use Rattle.listing.proofs.Text.{refusal-limit}
+use Rattle.listing.proofs.Text.{text-fits, refusal-limit, refused-length}
 
 -- what an answer says of the refusal
 pub said-value : {A : Type 0} (r : ℕ) (x v : A) → inr v ≡ refusedOr r x → (r ≡ 0) × (v ≡ x)
@@ -115,3 +118,15 @@ module _ (b : List ℕ) {a : Answer} (h : Assessed b a) where
   pub answer-verdict : {v : Verdict} → a ≡ answers.Judged v → (refusal b ≡ 0) × (wordOf v ≡ verdict (planOf b) (startOf b))
   unfolding answerOf
   answer-verdict {v} e = said-value (refusal b) (verdict (planOf b) (startOf b)) (wordOf v) (sym (ap said e) ∙ h .answer)
+
+-- ---- all that is printed fits too
+pub printed-fits : (b : List ℕ) → length (printed b) ≤ 1679
+printed-fits b =
+    by-cases (ℕ-discrete (refusal b) 0)
+    (λ (e : refusal b ≡ 0). rw (← printed-text b b e) (text-fits (clean b e)))
+    (λ e. rw (← printed-refused b b e) (omega (arith, refused-length (refusal b) (refusal-limit b))))
+
+pub prints : (b : List ℕ) {out out' : List ℕ} {r : ℕ} → 2048 ≤ length out → Wrote out 0 (printed b) out' r → Prints b out out' r
+prints b {out' = out'} {r} l w =
+    let f : r ≤ length out' = omega (arith, w .next, wrote-long w, printed-fits b) in
+    record { wrote = w; fits = f; counts = sym (length-take-le r out' f) }

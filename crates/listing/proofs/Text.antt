@@ -66,3 +66,7 @@ text-is b = refl
 pub refused-is : (n : ℕ) → (82 ∷ 69 ∷ 70 ∷ 85 ∷ 83 ∷ 69 ∷ 68 ∷ []) ++ ending n ≡ refusedText n
 unfolding refusedText
 refused-is n = refl
+
+pub refused-length : (n : ℕ) → n ≤ 14 → length (refusedText n) ≤ 16
+unfolding refusedText
+refused-length n l = omega (arith, length-append (82 ∷ 69 ∷ 70 ∷ 85 ∷ 83 ∷ 69 ∷ 68 ∷ []) (ending n), ending-limit n (omega arith))

@@ -1,15 +1,15 @@
 -- What the listing call answers, and every byte that it leaves. Definitions only.
-use Prim.Native.Nat.{ℕ}
+use Prim.Native.Nat.{ℕ, _≤_}
 use mathlib.Core.Path.{_≡_}
 use mathlib.Core.Logic.{_⊎_, inl, inr}
 use mathlib.Core.Bool.{cond}
 use mathlib.Core.List.{List}
 use lib.Dec.{eqb, ltb}
-use lib.ListN.{length}
+use lib.ListN.{length, take}
 use Rattle.answers.specs.Answers.{first, refusedOr}
 use Rattle.rules.specs.Rules.{refusal}
-use Rattle.decimals.specs.Decimals.{written}
-use Rattle.listing.specs.Text.{textOf}
+use Rattle.decimals.specs.Decimals.{written, Wrote}
+use Rattle.listing.specs.Text.{textOf, printed}
 use Rattle.listing.specs.declared.Listed.{Listed}
 use Rattle.listing.specs.declared.Listed.the-variants.{Refused, Text}
 
@@ -32,3 +32,9 @@ listingLeft b out = cond (eqb (listingRefusal b out) 0) (written out 0 (textOf b
 pub record Lists (b out : List ℕ) (r : Listed) (out' : List ℕ) : Type 0 where
   pub answer : told r ≡ listedOf b out
   pub bytes : out' ≡ listingLeft b out
+
+-- a call wrote all that the program prints from the first byte, and answered how much of out' that is (the last part follows from the one before; `&out[..r]` asks for both)
+pub record Prints (b out out' : List ℕ) (r : ℕ) : Type 0 where
+  pub wrote : Wrote out 0 (printed b) out' r
+  pub fits : r ≤ length out'
+  pub counts : r ≡ length (take r out')

@@ -7,8 +7,8 @@ ghost use Rattle.plan.specs.Meaning.{planOf, startOf};
 ghost use Rattle.runs.specs.Model.Verdicts as model;
 ghost use Rattle.summary.specs.Verdict.{wordOf};
 ghost use Rattle.decimals.specs.Decimals.{Wrote};
-ghost use Rattle.listing.specs.Text.{letters, textOf, printed};
-ghost use Rattle.listing.specs.Listing.{Lists};
+ghost use Rattle.listing.specs.Text.{letters, textOf};
+ghost use Rattle.listing.specs.Listing.{Lists, Prints};
 use decimals::write_bytes;
 use lines::end_line;
 use lines::rank;
@@ -71,7 +71,7 @@ pub fn listing(plan: &[u8], out: &mut [u8]) -> Listed
 // Writes all that the program prints for these bytes, and answers how long it is.
 pub fn print(plan: &[u8], out: &mut [u8]) -> usize
     requires { ⌜ 2048 ≤ length (now out) ⌝ }
-    ensures { λ r. ⌜ Wrote (now (out .entry)) 0 (printed (now (plan .entry))) (now (out .exit)) r ⌝ }
+    ensures { λ r. ⌜ Prints (now (plan .entry)) (now (out .entry)) (now (out .exit)) r ⌝ }
 {
     let listed = listing(plan, out);
     match listed {

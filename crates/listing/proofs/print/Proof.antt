@@ -4,7 +4,7 @@ use lib.ListN.{length}
 use Rattle.decimals.proofs.Written.{wrote-long, wrote-then, wrote-same}
 use Rattle.lines.proofs.Text.{ending-limit}
 use Rattle.listing.proofs.Text.{refused-is}
-use Rattle.listing.proofs.Answers.{text-answered, refused-answered}
+use Rattle.listing.proofs.Answers.{text-answered, refused-answered, prints}
 use native.Mathlib.Omega.{arith}
 use borrow.Author.Needs.{needs}
 use borrow.Author.Needs.{needs}
@@ -22,10 +22,10 @@ returns : tie.Need-returns
 returns c =
     let s = c .before .before .before .before .before .before .before .before .before .before .before .before .before .before .before .before .before .before in
     let w = refused-answered _ _ (s .pre) (rw (c .before .before .before .before .before .before .before .before .before .before .listed .given .1) at (c .before .before .before .before .before .before .before .before .before .before .before .before .before .before .listing .ensures)) in
-    wrote-same (refused-is _ ∙ w .1) (wrote-then (rw (w .2) at (c .before .before .before .before .before .before .write-bytes .ensures)) (c .before .before .end-line .ensures))
+    prints _ (s .pre) (wrote-same (refused-is _ ∙ w .1) (wrote-then (rw (w .2) at (c .before .before .before .before .before .before .write-bytes .ensures)) (c .before .before .end-line .ensures)))
 
 returns-2 : tie.Need-returns-2
-returns-2 c = text-answered _ _ (rw (c .before .listed2 .given .1) at (c .before .before .before .before .before .listing .ensures))
+returns-2 c = prints _ (c .before .before .before .before .before .before .before .before .before .pre) (text-answered _ _ (rw (c .before .listed2 .given .1) at (c .before .before .before .before .before .listing .ensures)))
 
 pub print-spec : {M : Type 1} → statement M
 print-spec =
