@@ -1,0 +1,3 @@
+-- Laws of decimals and of written bytes.
+pub mod Written
+pub mod Laws

@@ -1,0 +1,2 @@
+-- Plain decimals, and bytes written into lent memory.
+pub mod Decimals

@@ -1,0 +1,4 @@
+-- The order of the task lines, and their text.
+pub mod Order
+pub mod Places
+pub mod Text

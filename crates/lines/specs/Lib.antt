@@ -1,0 +1,3 @@
+-- The task lines of the listing.
+pub mod Order
+pub mod Lines

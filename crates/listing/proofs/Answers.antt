@@ -1,0 +1,132 @@
+-- What the listing answers, by the verdict's answer; and what is printed, by the listing's. Assumes nothing.
+use mathlib.Core.Path.{_≡_, refl, sym, ap, _∙_}
+use mathlib.Core.Logic.{_⊎_, inl, inr, by-cases}
+use mathlib.Core.Bool.{true, false, cond}
+use mathlib.Core.List.{List}
+use Prim.Native.Nat.{ℕ, zero, suc, _<_, _≤_}
+use native.Mathlib.Decide.{ℕ-discrete}
+use native.Mathlib.Omega.{arith}
+use lib.Dec.{eqb, ltb}
+use lib.ListN.{length}
+use lib.Seq.{length-take-le}
+use borrow.Author.Tests.{lt-ltb, le-ltb, ne-eqb}
+use Rattle.answers.specs.Answers.{first, refusedOr}
+use Rattle.answers.proofs.First.{both-none}
+use Rattle.rules.specs.Rules.{refusal}
+use Rattle.decimals.specs.Decimals.{written, Wrote}
+use Rattle.decimals.proofs.Written.{wrote-long, wrote-same}
+use Rattle.plan.specs.Meaning.{planOf, startOf}
+use Rattle.plan.proofs.Accepted.{clean}
+use Rattle.runs.specs.Model.Verdicts.{verdict}
+use Rattle.summary.specs.Verdict.{wordOf, said, answerOf, Assessed}
+use Rattle.summary.specs.declared.Verdict.{Verdict}
+use Rattle.summary.specs.declared.Answer.{Answer}
+use Rattle.summary.specs.declared.Answer.the-variants as answers
+use Rattle.listing.specs.Text.{textOf, refusedText, printed}
+use Rattle.listing.specs.Listing.{listingRefusal, listedOf, listingLeft, Lists, Prints}
+use Rattle.listing.specs.declared.Listed.{Listed}
+use Rattle.listing.specs.declared.Listed.the-variants.{Refused, Text}
+use Rattle.listing.proofs.Text.{text-fits, refusal-limit, refused-length}
+
+-- what an answer says of the refusal
+pub said-value : {A : Type 0} (r : ℕ) (x v : A) → inr v ≡ refusedOr r x → (r ≡ 0) × (v ≡ x)
+said-value zero x v e = (refl, cc)
+said-value (suc r) x v e = absurd (let z : _≡_ {A = ℕ} 0 1 = cc in omega arith)
+
+pub said-number : {A : Type 0} (r n : ℕ) (x : A) → inl n ≡ refusedOr r x → (n ≡ r) × (r ≡ 0 → ⊥)
+said-number zero n x e = absurd (let z : _≡_ {A = ℕ} 0 1 = cc in omega arith)
+said-number (suc r) n x e = (cc, λ z. omega arith)
+
+module _ (b out : List ℕ) where
+  -- refused for the plan
+  refused-first : (refusal b ≡ 0 → ⊥) → listingRefusal b out ≡ refusal b
+  unfolding listingRefusal
+  refused-first h = go (refusal b) h
+    where
+      go : (r : ℕ) → (r ≡ 0 → ⊥) → first r (cond (ltb (length out) 2048) 15 0) ≡ r
+      go zero h = absurd (h refl)
+      go (suc r) h = refl
+
+  refused-short : refusal b ≡ 0 → length out < 2048 → listingRefusal b out ≡ 15
+  unfolding listingRefusal
+  refused-short e l = rw (e, lt-ltb (length out) 2048 l)
+
+  refused-none : refusal b ≡ 0 → 2048 ≤ length out → listingRefusal b out ≡ 0
+  unfolding listingRefusal
+  refused-none e l = rw (e, le-ltb (length out) 2048 l)
+
+  refused-is : (r n : ℕ) → listingRefusal b out ≡ r → n ≡ r → (r ≡ 0 → ⊥) → Lists b out (Refused n) out
+  unfolding listedOf listingLeft
+  refused-is zero n e q h = absurd (h refl)
+  refused-is (suc r) n e q h = record { answer = rw (e, q); bytes = rw (e, ne-eqb (suc r) 0 h) }
+
+  pub lists-refused : {n : ℕ} → n ≡ refusal b → (refusal b ≡ 0 → ⊥) → Lists b out (Refused n) out
+  lists-refused {n} e h = refused-is (refusal b) n (refused-first h) e h
+
+  pub lists-short : refusal b ≡ 0 → length out < 2048 → Lists b out (Refused 15) out
+  lists-short e l = refused-is 15 15 (refused-short e l) refl (λ z. omega arith)
+
+  -- accepted
+  left-text : listingRefusal b out ≡ 0 → listingLeft b out ≡ written out 0 (textOf b)
+  unfolding listingLeft
+  left-text e = rw e
+
+  left-out : (listingRefusal b out ≡ 0 → ⊥) → listingLeft b out ≡ out
+  unfolding listingLeft
+  left-out h = rw (ne-eqb (listingRefusal b out) 0 h)
+
+  pub lists-text : {r : ℕ} {out' : List ℕ} → refusal b ≡ 0 → 2048 ≤ length out → Wrote out 0 (textOf b) out' r → Lists b out (Text r) out'
+  unfolding listedOf
+  lists-text {r} e l w =
+      let z = refused-none e l in
+      let q : r ≡ length (textOf b) = omega (arith, w .next) in
+      record { answer = rw (z, q); bytes = w .bytes ∙ sym (left-text z) }
+
+  -- ---- what was answered where there is room
+  printed-text : refusal b ≡ 0 → textOf b ≡ printed b
+  unfolding printed
+  printed-text e = rw e
+
+  printed-refused : (refusal b ≡ 0 → ⊥) → refusedText (refusal b) ≡ printed b
+  unfolding printed
+  printed-refused h = rw (ne-eqb (refusal b) 0 h)
+
+  accepted-plan : listingRefusal b out ≡ 0 → refusal b ≡ 0
+  unfolding listingRefusal
+  accepted-plan e = both-none (refusal b) (cond (ltb (length out) 2048) 15 0) e .0
+
+  pub text-answered : {r : ℕ} {out' : List ℕ} → Lists b out (Text r) out' → Wrote out 0 (printed b) out' r
+  unfolding listedOf
+  text-answered {r} h =
+      let w = said-value (listingRefusal b out) (length (textOf b)) r (h .answer) in
+      wrote-same (printed-text (accepted-plan (w .0))) (record { bytes = h .bytes ∙ left-text (w .0); next = omega (arith, w .1) })
+
+  pub refused-answered : {n : ℕ} {out' : List ℕ} → 2048 ≤ length out → Lists b out (Refused n) out' → (n ≤ 14) × (refusedText n ≡ printed b) × (out' ≡ out)
+  unfolding listedOf
+  refused-answered {n} l h =
+      let w = said-number (listingRefusal b out) n (length (textOf b)) (h .answer) in
+      let p : refusal b ≡ 0 → ⊥ = λ z. w .1 (refused-none z l) in
+      let e : n ≡ refusal b = w .0 ∙ refused-first p in
+      (omega (arith, refusal-limit b), ap refusedText e ∙ printed-refused p, h .bytes ∙ left-out (w .1))
+
+-- what the verdict's answer says
+module _ (b : List ℕ) {a : Answer} (h : Assessed b a) where
+  pub answer-number : {n : ℕ} → a ≡ answers.Refused n → (n ≡ refusal b) × (refusal b ≡ 0 → ⊥)
+  unfolding answerOf
+  answer-number {n} e = said-number (refusal b) n (verdict (planOf b) (startOf b)) (sym (ap said e) ∙ h .answer)
+
+  pub answer-verdict : {v : Verdict} → a ≡ answers.Judged v → (refusal b ≡ 0) × (wordOf v ≡ verdict (planOf b) (startOf b))
+  unfolding answerOf
+  answer-verdict {v} e = said-value (refusal b) (verdict (planOf b) (startOf b)) (wordOf v) (sym (ap said e) ∙ h .answer)
+
+-- ---- all that is printed fits too
+pub printed-fits : (b : List ℕ) → length (printed b) ≤ 1679
+printed-fits b =
+    by-cases (ℕ-discrete (refusal b) 0)
+    (λ (e : refusal b ≡ 0). rw (← printed-text b b e) (text-fits (clean b e)))
+    (λ e. rw (← printed-refused b b e) (omega (arith, refused-length (refusal b) (refusal-limit b))))
+
+pub prints : (b : List ℕ) {out out' : List ℕ} {r : ℕ} → 2048 ≤ length out → Wrote out 0 (printed b) out' r → Prints b out out' r
+prints b {out' = out'} {r} l w =
+    let f : r ≤ length out' = omega (arith, w .next, wrote-long w, printed-fits b) in
+    record { wrote = w; fits = f; counts = sym (length-take-le r out' f) }

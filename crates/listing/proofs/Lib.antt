@@ -1,0 +1,4 @@
+-- The listing.
+pub mod Prefix
+pub mod Text
+pub mod Answers

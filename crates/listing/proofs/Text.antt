@@ -1,0 +1,72 @@
+-- The text always fits. Assumes nothing.
+use mathlib.Core.Path.{_≡_, refl}
+use mathlib.Core.Bool.{Bool, true, false, cond}
+use mathlib.Core.List.{List, [], _∷_, _++_}
+use Prim.Native.Nat.{ℕ, _+_, _*_, _≤_}
+use native.Mathlib.Omega.{arith}
+use lib.ListN.{length, length-append}
+use Rattle.rules.specs.Rules.{refusal, cause1, cause2, cause3, cause4, cause5, cause6, cause7, cause8, cause9, cause10, cause11, cause12, cause13, cause14}
+use Rattle.plan.specs.Meaning.{planOf, startOf}
+use Rattle.plan.proofs.Accepted.{Clean}
+use Rattle.runs.specs.Verdict.{Verdict, CLEAR, DOOMED, OPEN}
+use Rattle.runs.specs.Model.Verdicts.{verdict}
+use Rattle.waits.specs.Waits.{lengthOf}
+use Rattle.waits.proofs.Bounds.{end-limit}
+use Rattle.lines.specs.Order.{ranking}
+use Rattle.lines.specs.Lines.{ending, linesOf}
+use Rattle.lines.proofs.Text.{ending-limit, lines-limit}
+use Rattle.listing.specs.Text.{letters, firstLine, textOf, refusedText}
+
+pub letters-limit : (v : Verdict) → length (letters v) ≤ 6
+letters-limit CLEAR = omega arith
+letters-limit DOOMED = omega arith
+letters-limit OPEN = omega arith
+
+pub root-limit : {b : List ℕ} → Clean b → length (ending (lengthOf b 0)) ≤ 9
+root-limit {b} ok = ending-limit (lengthOf b 0) (omega (arith, end-limit b ok 0 (ok .fits .limits .some-node)))
+
+pub text-fits : {b : List ℕ} → Clean b → length (textOf b) ≤ 1679
+unfolding textOf firstLine
+text-fits {b} ok =
+    omega (
+      arith,
+      length-append (firstLine b) (linesOf b (ranking b)),
+      length-append (letters (verdict (planOf b) (startOf b))) (ending (lengthOf b 0)),
+      letters-limit (verdict (planOf b) (startOf b)),
+      root-limit ok,
+      lines-limit ok,
+    )
+
+cond-limit : (t : Bool) (k r : ℕ) → k ≤ 14 → r ≤ 14 → cond t k r ≤ 14
+cond-limit true k r l m = l
+cond-limit false k r l m = m
+
+pub refusal-limit : (b : List ℕ) → refusal b ≤ 14
+unfolding refusal
+refusal-limit b =
+    cond-limit (cause1 b) 1 _ (omega arith)
+    (cond-limit (cause2 b) 2 _ (omega arith)
+    (cond-limit (cause3 b) 3 _ (omega arith)
+    (cond-limit (cause4 b) 4 _ (omega arith)
+    (cond-limit (cause5 b) 5 _ (omega arith)
+    (cond-limit (cause6 b) 6 _ (omega arith)
+    (cond-limit (cause7 b) 7 _ (omega arith)
+    (cond-limit (cause8 b) 8 _ (omega arith)
+    (cond-limit (cause9 b) 9 _ (omega arith)
+    (cond-limit (cause10 b) 10 _ (omega arith)
+    (cond-limit (cause11 b) 11 _ (omega arith)
+    (cond-limit (cause12 b) 12 _ (omega arith)
+    (cond-limit (cause13 b) 13 _ (omega arith)
+    (cond-limit (cause14 b) 14 0 (omega arith) (omega arith))))))))))))))
+
+pub text-is : (b : List ℕ) → (letters (verdict (planOf b) (startOf b)) ++ ending (lengthOf b 0)) ++ linesOf b (ranking b) ≡ textOf b
+unfolding textOf firstLine
+text-is b = refl
+
+pub refused-is : (n : ℕ) → (82 ∷ 69 ∷ 70 ∷ 85 ∷ 83 ∷ 69 ∷ 68 ∷ []) ++ ending n ≡ refusedText n
+unfolding refusedText
+refused-is n = refl
+
+pub refused-length : (n : ℕ) → n ≤ 14 → length (refusedText n) ≤ 16
+unfolding refusedText
+refused-length n l = omega (arith, length-append (82 ∷ 69 ∷ 70 ∷ 85 ∷ 83 ∷ 69 ∷ 68 ∷ []) (ending n), ending-limit n (omega arith))

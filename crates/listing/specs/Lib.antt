@@ -1,0 +1,3 @@
+-- The listing, and all that the program prints.
+pub mod Text
+pub mod Listing

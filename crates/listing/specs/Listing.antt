@@ -1,0 +1,40 @@
+-- What the listing call answers, and every byte that it leaves. Definitions only.
+use Prim.Native.Nat.{ℕ, _≤_}
+use mathlib.Core.Path.{_≡_}
+use mathlib.Core.Logic.{_⊎_, inl, inr}
+use mathlib.Core.Bool.{cond}
+use mathlib.Core.List.{List}
+use lib.Dec.{eqb, ltb}
+use lib.ListN.{length, take}
+use Rattle.answers.specs.Answers.{first, refusedOr}
+use Rattle.rules.specs.Rules.{refusal}
+use Rattle.decimals.specs.Decimals.{written, Wrote}
+use Rattle.listing.specs.Text.{textOf, printed}
+use Rattle.listing.specs.declared.Listed.{Listed}
+use Rattle.listing.specs.declared.Listed.the-variants.{Refused, Text}
+
+-- 01's number, or the length of the text, for each case
+abbrev pub told : Listed → ℕ ⊎ ℕ
+told (Refused n) = inl n
+told (Text n) = inr n
+
+-- 1 to 14; 15: under 2,048 bytes
+unfoldable pub listingRefusal : List ℕ → List ℕ → ℕ
+listingRefusal b out = first (refusal b) (cond (ltb (length out) 2048) 15 0)
+
+unfoldable pub listedOf : List ℕ → List ℕ → ℕ ⊎ ℕ
+listedOf b out = refusedOr (listingRefusal b out) (length (textOf b))
+
+-- the bytes after the call: accepted, the text from the first byte, and then what was there; refused, all that was there
+unfoldable pub listingLeft : List ℕ → List ℕ → List ℕ
+listingLeft b out = cond (eqb (listingRefusal b out) 0) (written out 0 (textOf b)) out
+
+pub record Lists (b out : List ℕ) (r : Listed) (out' : List ℕ) : Type 0 where
+  pub answer : told r ≡ listedOf b out
+  pub bytes : out' ≡ listingLeft b out
+
+-- a call wrote all that the program prints from the first byte, and answered how much of out' that is (the last part follows from the one before; `&out[..r]` asks for both)
+pub record Prints (b out out' : List ℕ) (r : ℕ) : Type 0 where
+  pub wrote : Wrote out 0 (printed b) out' r
+  pub fits : r ≤ length out'
+  pub counts : r ≡ length (take r out')

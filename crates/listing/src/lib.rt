@@ -1,0 +1,84 @@
+// The listing of a plan: its verdict and length, then its tasks by their longest waits; and all that the program prints.
+ghost use mathlib.Core.Path.{_≡_};
+ghost use Prim.Native.Nat.{_+_, _≤_};
+ghost use lib.ListN.{length};
+ghost use Rattle.rules.specs.Rules.{refusal};
+ghost use Rattle.plan.specs.Meaning.{planOf, startOf};
+ghost use Rattle.runs.specs.Model.Verdicts as model;
+ghost use Rattle.summary.specs.Verdict.{wordOf};
+ghost use Rattle.decimals.specs.Decimals.{Wrote};
+ghost use Rattle.listing.specs.Text.{letters, textOf};
+ghost use Rattle.listing.specs.Listing.{Lists, Prints};
+use decimals::write_bytes;
+use lines::end_line;
+use lines::rank;
+use lines::write_lines;
+use summary::Answer;
+use summary::Verdict;
+use summary::assess;
+use tables::no_nodes;
+use waits::longest_waits;
+use waits::no_times;
+
+// A refusal up to 15, or the length of the text.
+pub enum Listed {
+    Refused(u32),
+    Text(usize),
+}
+
+// Writes the word of a verdict.
+fn write_word(out: &mut [u8], at: usize, verdict: Verdict) -> usize
+    requires { ⌜ at + 6 ≤ length (now out) ⌝ }
+    ensures { λ r. ⌜ Wrote (now (out .entry)) at (letters (wordOf verdict)) (now (out .exit)) r ⌝ }
+{
+    match verdict {
+        Verdict::Clear => write_bytes(out, at, b"CLEAR"),
+        Verdict::Doomed => write_bytes(out, at, b"DOOMED"),
+        Verdict::Open => write_bytes(out, at, b"OPEN"),
+    }
+}
+
+// Writes the listing of an accepted plan, whose verdict is known.
+fn write_text(plan: &[u8], verdict: Verdict, out: &mut [u8]) -> usize
+    requires { ⌜ (refusal (now plan) ≡ 0) × (wordOf verdict ≡ model.verdict (planOf (now plan)) (startOf (now plan))) × (2048 ≤ length (now out)) ⌝ }
+    ensures { λ r. ⌜ Wrote (now (out .entry)) 0 (textOf (now (plan .entry))) (now (out .exit)) r ⌝ }
+{
+    let mut waits = no_times();
+    let root = longest_waits(plan, &mut waits);
+    let mut ranked = no_nodes();
+    let k = rank(plan, &waits, &mut ranked);
+    let a = write_word(out, 0, verdict);
+    let b = end_line(out, a, root);
+    write_lines(plan, &waits, &ranked, k, out, b)
+}
+
+// Writes the listing from the first byte; refused, nothing changes.
+pub fn listing(plan: &[u8], out: &mut [u8]) -> Listed
+    ensures { λ r. ⌜ Lists (now (plan .entry)) (now (out .entry)) r (now (out .exit)) ⌝ }
+{
+    let answer = assess(plan);
+    match answer {
+        Answer::Refused(n) => Listed::Refused(n),
+        Answer::Judged(verdict) => {
+            if out.len() < 2048 {
+                return Listed::Refused(15);
+            }
+            Listed::Text(write_text(plan, verdict, out))
+        }
+    }
+}
+
+// Writes all that the program prints for these bytes, and answers how long it is.
+pub fn print(plan: &[u8], out: &mut [u8]) -> usize
+    requires { ⌜ 2048 ≤ length (now out) ⌝ }
+    ensures { λ r. ⌜ Prints (now (plan .entry)) (now (out .entry)) (now (out .exit)) r ⌝ }
+{
+    let listed = listing(plan, out);
+    match listed {
+        Listed::Refused(n) => {
+            let a = write_bytes(out, 0, b"REFUSED");
+            end_line(out, a, n)
+        }
+        Listed::Text(n) => n,
+    }
+}

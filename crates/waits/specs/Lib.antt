@@ -1,0 +1,3 @@
+-- Lengths and longest waits.
+pub mod Waits
+pub mod Filled

@@ -1,0 +1,216 @@
+// Lengths and longest waits of an accepted plan, by functions for all-of and any-of groups that call each other.
+ghost use mathlib.Core.Path.{_≡_};
+ghost use Prim.Native.Nat.{max, _≤_, _<_};
+ghost use lib.ListN.{length};
+ghost use Rattle.format.specs.Format.{nodeCount, kindOf};
+ghost use Rattle.rules.specs.Rules.{refusal};
+ghost use Rattle.tables.specs.Filled.{Zeros};
+ghost use Rattle.waits.specs.Waits.{lengthOf};
+ghost use Rattle.waits.specs.Filled.{FirstOrder, Raised, Tables, ChildLengths, Spread, Worked, AllWorked, Within, Longest};
+use format::fields::earlier;
+use format::fields::kind;
+use format::fields::later;
+use format::fields::minutes;
+use format::fields::nodes;
+use format::fields::orders;
+use format::fields::parent;
+use rules::tests::wide;
+
+fn greater(a: u32, b: u32) -> u32
+    ensures { λ r. ⌜ r ≡ max a b ⌝ }
+{
+    if a < b {
+        b
+    } else {
+        a
+    }
+}
+
+// The first order whose earlier node is c or higher: orders rise by their earlier nodes.
+fn first_order(plan: &[u8], c: usize) -> usize
+    requires { ⌜ refusal (now plan) ≡ 0 ⌝ }
+    ensures { λ r. ⌜ FirstOrder (now (plan .entry)) c r ⌝ }
+{
+    let mut low = 0;
+    let mut high = orders(plan);
+    while low < high {
+        let middle = low + (high - low) / 2;
+        if wide(earlier(plan, middle)) < c {
+            low = middle + 1;
+        } else {
+            high = middle;
+        }
+    }
+    low
+}
+
+// Raises the waits of all that c stands before by an order to the end of c.
+fn raise(plan: &[u8], waits: &mut [u32; 128], c: usize, end: u32)
+    requires { ⌜ (refusal (now plan) ≡ 0) × (length (now waits) ≡ 128) ⌝ }
+    ensures { λ r. ⌜ Raised (now (plan .entry)) (now (waits .entry)) (now (waits .exit)) c end ⌝ }
+{
+    let k = orders(plan);
+    let mut j = first_order(plan, c);
+    while j < k {
+        if wide(earlier(plan, j)) != c {
+            return;
+        }
+        let l = wide(later(plan, j));
+        let w = waits[l];
+        waits[l] = greater(w, end);
+        j += 1;
+    }
+}
+
+// Works out the waits of the children of an all-of group, in the order of their numbers, and answers the length of the group.
+fn spread(plan: &[u8], lengths: &[u32; 128], waits: &mut [u32; 128], node: usize) -> u32
+    requires { ⌜ (refusal (now plan) ≡ 0) × (node < nodeCount (now plan)) × (kindOf (now plan) node ≡ 1) × Tables (now plan) (now lengths) (now waits) × ChildLengths (now plan) (now lengths) node ⌝ }
+    ensures { λ r. ⌜ Spread (now (plan .entry)) (now (lengths .entry)) (now (waits .entry)) (now (waits .exit)) node r ⌝ }
+{
+    let n = nodes(plan);
+    let mut longest = 0u32;
+    let mut c = node + 1;
+    while c < n {
+        if wide(parent(plan, c)) == node {
+            let end = waits[c] + lengths[c];
+            raise(plan, waits, c, end);
+            longest = greater(longest, end);
+        }
+        c += 1;
+    }
+    longest
+}
+
+// The length of an any-of group, from those of its children.
+fn longest_child(plan: &[u8], lengths: &[u32; 128], node: usize) -> u32
+    requires { ⌜ (refusal (now plan) ≡ 0) × (node < nodeCount (now plan)) × (kindOf (now plan) node ≡ 2) × ChildLengths (now plan) (now lengths) node ⌝ }
+    ensures { λ r. ⌜ r ≡ lengthOf (now (plan .entry)) node ⌝ }
+{
+    let n = nodes(plan);
+    let mut longest = 0u32;
+    let mut c = node + 1;
+    while c < n {
+        if wide(parent(plan, c)) == node {
+            longest = greater(longest, lengths[c]);
+        }
+        c += 1;
+    }
+    longest
+}
+
+// Works out an all-of group and all groups under it: the lengths, and the waits of the children.
+pub fn all_length(
+    plan: &[u8],
+    lengths: &mut [u32; 128],
+    waits: &mut [u32; 128],
+    node: usize,
+)
+    requires { ⌜ ((refusal (now plan) ≡ 0) × (node < nodeCount (now plan))) × ((kindOf (now plan) node ≡ 1) × Tables (now plan) (now lengths) (now waits)) ⌝ }
+    ensures { λ r. ⌜ Worked (now (plan .entry)) (now (lengths .entry)) (now (waits .entry)) (now (lengths .exit)) (now (waits .exit)) node ⌝ }
+{
+    let n = nodes(plan);
+    let mut c = node + 1;
+    while c < n {
+        if wide(parent(plan, c)) == node {
+            let k = kind(plan, c);
+            if k == 1 {
+                all_length(plan, lengths, waits, c);
+            } else if k == 2 {
+                any_length(plan, lengths, waits, c);
+            }
+        }
+        c += 1;
+    }
+    let longest = spread(plan, lengths, waits, node);
+    lengths[node] = longest;
+}
+
+// Works out an any-of group and all groups under it.
+pub fn any_length(
+    plan: &[u8],
+    lengths: &mut [u32; 128],
+    waits: &mut [u32; 128],
+    node: usize,
+)
+    requires { ⌜ ((refusal (now plan) ≡ 0) × (node < nodeCount (now plan))) × ((kindOf (now plan) node ≡ 2) × Tables (now plan) (now lengths) (now waits)) ⌝ }
+    ensures { λ r. ⌜ Worked (now (plan .entry)) (now (lengths .entry)) (now (waits .entry)) (now (lengths .exit)) (now (waits .exit)) node ⌝ }
+{
+    let n = nodes(plan);
+    let mut c = node + 1;
+    while c < n {
+        if wide(parent(plan, c)) == node {
+            let k = kind(plan, c);
+            if k == 1 {
+                all_length(plan, lengths, waits, c);
+            } else if k == 2 {
+                any_length(plan, lengths, waits, c);
+            }
+        }
+        c += 1;
+    }
+    let longest = longest_child(plan, lengths, node);
+    lengths[node] = longest;
+}
+
+// A table with a zero for each node.
+pub fn no_times() -> [u32; 128]
+    ensures { λ r. ⌜ Zeros 128 r ⌝ }
+{
+    [0u32; 128]
+}
+
+// The lengths of the tasks.
+fn task_lengths(plan: &[u8], lengths: &mut [u32; 128], waits: &[u32; 128])
+    requires { ⌜ (refusal (now plan) ≡ 0) × (length (now lengths) ≡ 128) × Zeros 128 (now waits) ⌝ }
+    ensures { λ r. ⌜ Tables (now (plan .entry)) (now (lengths .exit)) (now (waits .entry)) ⌝ }
+{
+    let n = nodes(plan);
+    let mut t = 0;
+    while t < n {
+        if kind(plan, t) == 0 {
+            lengths[t] = minutes(plan, t) as u32;
+        }
+        t += 1;
+    }
+}
+
+// All groups.
+fn work_out(plan: &[u8], lengths: &mut [u32; 128], waits: &mut [u32; 128])
+    requires { ⌜ (refusal (now plan) ≡ 0) × (length (now lengths) ≡ 128) × Zeros 128 (now waits) ⌝ }
+    ensures { λ r. ⌜ AllWorked (now (plan .entry)) (now (lengths .exit)) (now (waits .exit)) ⌝ }
+{
+    task_lengths(plan, lengths, waits);
+    let root = kind(plan, 0);
+    if root == 1 {
+        all_length(plan, lengths, waits, 0);
+    } else if root == 2 {
+        any_length(plan, lengths, waits, 0);
+    }
+}
+
+// From the root down: to the wait within its group each node adds the longest wait of its parent, which has the lower number.
+fn add_waits(plan: &[u8], waits: &mut [u32; 128])
+    requires { ⌜ (refusal (now plan) ≡ 0) × Within (now plan) (now waits) ⌝ }
+    ensures { λ r. ⌜ Longest (now (plan .entry)) (now (waits .exit)) ⌝ }
+{
+    let n = nodes(plan);
+    let mut c = 1;
+    while c < n {
+        let p = wide(parent(plan, c));
+        let above = waits[p];
+        let own = waits[c];
+        waits[c] = above + own;
+        c += 1;
+    }
+}
+
+// The longest waits of all nodes, and the length of the root.
+pub fn longest_waits(plan: &[u8], waits: &mut [u32; 128]) -> u32
+    requires { ⌜ (refusal (now plan) ≡ 0) × Zeros 128 (now waits) ⌝ }
+    ensures { λ r. ⌜ Longest (now (plan .entry)) (now (waits .exit)) × (r ≡ lengthOf (now (plan .entry)) 0) ⌝ }
+{
+    let mut lengths = no_times();
+    work_out(plan, &mut lengths, waits);
+    add_waits(plan, waits);
+    lengths[0]
+}
