@@ -1,0 +1,36 @@
+// A reader hands over the nodes, conditions and orders of a plan (01: book) one after another. No call that has a reader has a branch or a loop: `item_at` does the work on the slice and the position.
+ghost use mathlib.Core.Path.{_≡_};
+ghost use Prim.Native.Nat.{_<_};
+ghost use Rattle.format.specs.Format.{Whole};
+ghost use Rattle.reader.specs.Items.{itemCount, itemOf, moved};
+use crate::items::Item;
+use crate::items::item_at;
+
+pub mod items;
+
+pub struct Reader<'a> {
+    pub plan: &'a [u8],
+    pub at: usize,
+}
+
+impl<'a> Reader<'a> {
+    // Hands over what stands at the position, and moves on.
+    pub fn next<'s>(&'s mut self) -> Item
+        requires { ⌜ (now self .at < itemCount (now (now self .plan))) × Whole (now (now self .plan)) ⌝ }
+        ensures { λ r. ⌜ (r ≡ itemOf (now (now (self .entry) .plan)) (now (self .entry) .at)) × (now (self .exit) ≡ moved (now (self .entry))) ⌝ }
+    {
+        let at = self.at;
+        let item = item_at(self.plan, at);
+        self.at = at + 1;
+        item
+    }
+}
+
+// The item at a position, as a reader there hands it over: for every other caller.
+pub fn item(plan: &[u8], at: usize) -> Item
+    requires { ⌜ (at < itemCount (now plan)) × Whole (now plan) ⌝ }
+    ensures { λ r. ⌜ r ≡ itemOf (now (plan .entry)) at ⌝ }
+{
+    let mut reader = Reader { plan, at };
+    reader.next()
+}
