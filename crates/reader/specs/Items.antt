@@ -11,13 +11,13 @@ use Rattle.reader.specs.declared.items.Item.{Item}
 use Rattle.reader.specs.declared.items.Item.the-variants as item
 use Rattle.reader.specs.declared.Reader.{Reader}
 
-unfoldable pub nodeOf : List ℕ → ℕ → Node
+abbrev pub nodeOf : List ℕ → ℕ → Node
 nodeOf b n = record { parent = parentOf b n; kind = kindOf b n; minutes = minutesOf b n }
 
-unfoldable pub conditionOf : List ℕ → ℕ → Condition
+abbrev pub conditionOf : List ℕ → ℕ → Condition
 conditionOf b i = record { node = condNode b i; value = condValue b i }
 
-unfoldable pub orderOf : List ℕ → ℕ → Order
+abbrev pub orderOf : List ℕ → ℕ → Order
 orderOf b j = record { earlier = earlierOf b j; later = laterOf b j }
 
 unfoldable pub itemCount : List ℕ → ℕ

@@ -1,11 +1,9 @@
 -- `reader::items::condition_at` meets its contract. Assumes nothing.
-use Rattle.reader.specs.Items.{conditionOf}
 use borrow.Author.Needs.{needs}
 use Rattle.reader.proofs.items.condition_at.Statement.{statement}
 use Rattle.reader.proofs.items.condition_at.Tie as tie
 
 returns : tie.Need-returns
-unfolding conditionOf
 returns c = cc
 
 pub condition-at-spec : {M : Type 1} → statement M

@@ -1,11 +1,9 @@
 -- `reader::items::node_at` meets its contract. Assumes nothing.
-use Rattle.reader.specs.Items.{nodeOf}
 use borrow.Author.Needs.{needs}
 use Rattle.reader.proofs.items.node_at.Statement.{statement}
 use Rattle.reader.proofs.items.node_at.Tie as tie
 
 returns : tie.Need-returns
-unfolding nodeOf
 returns c = cc
 
 pub node-at-spec : {M : Type 1} → statement M

@@ -1,11 +1,9 @@
 -- `reader::items::order_at` meets its contract. Assumes nothing.
-use Rattle.reader.specs.Items.{orderOf}
 use borrow.Author.Needs.{needs}
 use Rattle.reader.proofs.items.order_at.Statement.{statement}
 use Rattle.reader.proofs.items.order_at.Tie as tie
 
 returns : tie.Need-returns
-unfolding orderOf
 returns c = cc
 
 pub order-at-spec : {M : Type 1} → statement M
