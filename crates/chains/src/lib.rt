@@ -6,8 +6,6 @@ ghost use Rattle.rules.specs.Rules.{refusal};
 ghost use Rattle.plan.specs.Meaning.{planOf};
 ghost use Rattle.words.specs.Tables.{RepresentsOrder};
 ghost use Rattle.chains.specs.Links.{Blank, Linked, Reached};
-use format::fields::earlier;
-use format::fields::later;
 use format::fields::orders;
 
 const BEFORE: u8 = 1;
@@ -53,8 +51,7 @@ pub fn fill_order(plan: &[u8], order: &mut [u8; 16384])
     let mut i = orders(plan);
     while 0 < i {
         i -= 1;
-        let a = earlier(plan, i) as usize;
-        let b = later(plan, i) as usize;
-        link_all(order, a, b);
+        let found = reader::order(plan, i);
+        link_all(order, found.earlier as usize, found.later as usize);
     }
 }

@@ -1,10 +1,11 @@
 -- `fill_order` meets its contract: the table has the chains through the orders from i on. Assumes nothing.
-use mathlib.Core.Path.{_≡_}
+use mathlib.Core.Path.{_≡_, ap}
 use Prim.Native.Nat.{_≤_, _-_}
 use Rattle.format.specs.Format.{orderCount}
 use Rattle.chains.proofs.Chains.{sorted}
 use Rattle.chains.proofs.Table.{Tabled, tabled-none, tabled-turn, tabled-all}
 use Rattle.plan.proofs.Accepted.{clean}
+use Rattle.reader.specs.declared.items.Order.{Order}
 use native.Mathlib.Omega.{arith}
 use borrow.Author.Needs.{needs}
 use Rattle.chains.proofs.fill_order.Statement.{statement}
@@ -25,24 +26,23 @@ loop-holds c = (omega arith, rw (c .orders .ensures) (tabled-none (c .before .be
 sub-i : tie.Need-sub-i Inv-loop μ-loop
 sub-i c = omega arith
 
-earlier-requires : tie.Need-earlier-requires Inv-loop μ-loop
-earlier-requires c κs = (omega arith, clean _ (c .before .before .before .before .pre .0) .fits)
-
-later-requires : tie.Need-later-requires Inv-loop μ-loop
-later-requires c κs = (omega arith, clean _ (c .before .before .before .before .before .pre .0) .fits)
+order-requires : tie.Need-order-requires Inv-loop μ-loop
+order-requires c κs = (omega arith, clean _ (c .before .before .before .before .pre .0) .fits)
 
 link-all-requires : tie.Need-link-all-requires Inv-loop μ-loop
 link-all-requires c κs =
-    let l = c .before .before .before .before in
+    let l = c .before .before .before .before .before in
     let i = l .loop .i - 1 in
     let s = sorted _ (clean _ (l .before .before .before .pre .0)) in
-    (omega (arith, s .lower i (omega arith), c .before .before .earlier .ensures, c .before .later .ensures), omega (arith, s .small i (omega arith), c .before .later .ensures), l .loop .inv .1 .long)
+    let e = c .before .before .before .order .ensures in
+    (omega (arith, s .lower i (omega arith), ap (λ (o : Order). o .earlier) e, ap (λ (o : Order). o .later) e), omega (arith, s .small i (omega arith), ap (λ (o : Order). o .later) e), l .loop .inv .1 .long)
 
 loop-again : tie.Need-loop-again Inv-loop μ-loop
 loop-again c =
-    let l = c .before .before .before .before .before in
+    let l = c .before .before .before .before .before .before in
     let s = sorted _ (clean _ (l .before .before .before .pre .0)) in
-    (omega arith, tabled-turn s (omega arith) (l .loop .inv .0) (l .loop .inv .1) (c .before .before .before .earlier .ensures) (c .before .before .later .ensures) (c .link-all .ensures))
+    let e = c .before .before .before .before .order .ensures in
+    (omega arith, tabled-turn s (omega arith) (l .loop .inv .0) (l .loop .inv .1) (ap (λ (o : Order). o .earlier) e) (ap (λ (o : Order). o .later) e) (c .link-all .ensures))
 
 returns : tie.Need-returns Inv-loop μ-loop
 returns c =
@@ -59,9 +59,8 @@ fill-order-spec =
     orders-requires
     loop-holds
     sub-i
-    earlier-requires
+    order-requires
     (λ c. search needs)
-    later-requires
     (λ c. search needs)
     link-all-requires
     (λ c. omega arith)

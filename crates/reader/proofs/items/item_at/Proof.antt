@@ -1,0 +1,35 @@
+-- `reader::items::item_at` meets its contract: each branch's test says which part of the plan has the position. Assumes nothing.
+use mathlib.Core.Path.{ap, sym, _∙_}
+use native.Mathlib.Omega.{arith}
+use borrow.Author.Needs.{needs}
+use Rattle.reader.specs.Items.{itemCount}
+use Rattle.reader.specs.declared.items.Item.the-variants as item
+use Rattle.reader.proofs.Positions.{item-node, item-condition, item-order}
+use Rattle.reader.proofs.items.item_at.Statement.{statement}
+use Rattle.reader.proofs.items.item_at.Tie as tie
+
+order-at-requires : tie.Need-order-at-requires
+unfolding itemCount
+order-at-requires c κs = search needs
+
+returns : tie.Need-returns
+returns c = ap item.Node (c .node-at .ensures) ∙ sym (item-node _ (omega arith))
+
+returns-2 : tie.Need-returns-2
+returns-2 c = ap item.Condition (c .condition-at .ensures) ∙ sym (item-condition _ (omega arith) (omega arith))
+
+returns-3 : tie.Need-returns-3
+returns-3 c = ap item.Order (c .order-at .ensures) ∙ sym (item-order _ _ (omega arith))
+
+pub item-at-spec : {M : Type 1} → statement M
+item-at-spec =
+    tie.close
+    (tie.spec
+    (λ c κs. search needs)
+    (λ c κs. search needs)
+    returns
+    (λ c κs. search needs)
+    (λ c κs. search needs)
+    returns-2
+    order-at-requires
+    returns-3)
