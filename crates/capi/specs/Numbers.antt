@@ -2,11 +2,13 @@
 use mathlib.Core.Path.{_≡_}
 use mathlib.Core.Logic.{_⊎_, inl, inr}
 use mathlib.Core.List.{List}
-use Prim.Native.Nat.{ℕ}
+use Prim.Native.Nat.{ℕ, _+_, _≤_}
 use Rattle.runs.specs.Verdict.{Verdict, CLEAR, DOOMED, OPEN}
 use Rattle.summary.specs.declared.Answer.{Answer}
 use Rattle.summary.specs.Verdict as summary
 use Rattle.summary.specs.Verdict.{Assessed}
+use Rattle.listing.specs.declared.Listed.{Listed}
+use Rattle.listing.specs.Listing.{told, Lists}
 use Rattle.monitor.specs.declared.Progress.{Progress}
 use Rattle.monitor.specs.Status as monitor
 use Rattle.monitor.specs.Status.{Word, COMPLETE, UNFINISHED, Told}
@@ -33,3 +35,18 @@ pub record StatusNumber (b s : List ℕ) (r : ℕ) : Type 0 where
   pub answer : Progress
   pub told : Told b s answer
   pub number : r ≡ statusNumber (monitor.said answer)
+
+abbrev pub listingNumber : ℕ ⊎ ℕ → ℕ
+listingNumber (inl n) = n
+listingNumber (inr n) = 256 + n
+
+-- a refusal, or a length of at most 2,048
+abbrev pub Short : ℕ ⊎ ℕ → Type 0
+Short (inl n) = Unit {0}
+Short (inr n) = n ≤ 2048
+
+-- r is the number of the answer that `listing` promises, and out' what it leaves
+pub record ListingNumber (b out : List ℕ) (r : ℕ) (out' : List ℕ) : Type 0 where
+  pub answer : Listed
+  pub lists : Lists b out answer out'
+  pub number : r ≡ listingNumber (told answer)

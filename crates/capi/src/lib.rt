@@ -7,7 +7,9 @@ ghost use Rattle.runs.specs.Execution as execution;
 ghost use Rattle.state.specs.Fresh.{Freshened};
 ghost use Rattle.monitor.specs.Events.{Called};
 ghost use Rattle.monitor.specs.Status as progress;
-ghost use Rattle.capi.specs.Numbers.{verdictNumber, VerdictNumber, statusNumber, StatusNumber};
+ghost use Rattle.capi.specs.Numbers.{verdictNumber, VerdictNumber, statusNumber, StatusNumber, listingNumber, Short, ListingNumber};
+ghost use Rattle.listing.specs.Listing.{told};
+use listing::Listed;
 use monitor::Progress;
 use summary::Answer;
 use summary::Verdict;
@@ -84,4 +86,22 @@ pub extern "C" fn knowetop_status(plan: &[u8], state: &[u8]) -> u32
 {
     let answer = monitor::status(plan, state);
     status_number(answer)
+}
+
+fn listing_number(answer: Listed) -> u32
+    requires { ⌜ Short (told answer) ⌝ }
+    ensures { λ r. ⌜ r ≡ listingNumber (told answer) ⌝ }
+{
+    match answer {
+        Listed::Refused(n) => n,
+        Listed::Text(n) => 256 + n as u32,
+    }
+}
+
+#[no_mangle]
+pub extern "C" fn knowetop_listing(plan: &[u8], out: &mut [u8]) -> u32
+    ensures { λ r. ⌜ ListingNumber (now (plan .entry)) (now (out .entry)) r (now (out .exit)) ⌝ }
+{
+    let answer = listing::listing(plan, out);
+    listing_number(answer)
 }

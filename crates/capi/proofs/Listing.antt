@@ -1,0 +1,31 @@
+-- The listing's answer has a number. Assumes nothing.
+use mathlib.Core.Path.{_≡_}
+use mathlib.Core.Logic.{_⊎_, inl, inr}
+use mathlib.Core.List.{List}
+use Prim.Native.Nat.{ℕ, _≤_}
+use native.Mathlib.Omega.{arith}
+use lib.ListN.{length}
+use Rattle.rules.specs.Rules.{refusal}
+use Rattle.plan.proofs.Accepted.{clean}
+use Rattle.answers.specs.Answers.{refusedOr}
+use Rattle.answers.proofs.First.{both-none}
+use Rattle.listing.specs.declared.Listed.{Listed}
+use Rattle.listing.specs.Text.{textOf}
+use Rattle.listing.specs.Listing.{told, listingRefusal, listedOf, Lists}
+use Rattle.listing.proofs.Text.{text-fits}
+use Rattle.listing.proofs.Answers.{said-value}
+use Rattle.capi.specs.Numbers.{Short}
+
+module _ (b out : List ℕ) where
+  accepted : listingRefusal b out ≡ 0 → refusal b ≡ 0
+  unfolding listingRefusal
+  accepted e = both-none (refusal b) _ e .0
+
+  -- a text is at most 2,048 bytes long
+  pub short : {out' : List ℕ} (r : Listed) → Lists b out r out' → Short (told r)
+  unfolding listedOf
+  short r l = at (told r) (l .answer)
+    where
+      at : (x : ℕ ⊎ ℕ) → x ≡ refusedOr (listingRefusal b out) (length (textOf b)) → Short x
+      at (inl n) e = tt
+      at (inr n) e = let w = said-value (listingRefusal b out) (length (textOf b)) n e in omega (arith, w .1, text-fits (clean b (accepted (w .0))))
