@@ -45,7 +45,11 @@ pub fn node(plan: &[u8], n: usize) -> Node
     ensures { λ r. ⌜ r ≡ nodeOf (now (plan .entry)) n ⌝ }
 {
     let Item::Node(found) = item(plan, n) else {
-        return Node { parent: 0, kind: 0, minutes: 0 };
+        return Node {
+            parent: 0,
+            kind: 0,
+            minutes: 0,
+        };
     };
     found
 }
@@ -65,7 +69,10 @@ pub fn order(plan: &[u8], j: usize) -> Order
     ensures { λ r. ⌜ r ≡ orderOf (now (plan .entry)) j ⌝ }
 {
     let Item::Order(found) = item(plan, nodes(plan) + conditions(plan) + j) else {
-        return Order { earlier: 0, later: 0 };
+        return Order {
+            earlier: 0,
+            later: 0,
+        };
     };
     found
 }
