@@ -2,10 +2,13 @@
 use mathlib.Core.Path.{_≡_, refl, ap, _∙_, sym}
 use mathlib.Core.Logic.{_⊎_, inl, inr, ⊎-elim}
 use mathlib.Core.Bool.{Bool, true, false, _&&_, _||_, false≢true, true≢false}
-use Prim.Native.Nat.{ℕ, zero, suc, _+_, _-_, _<_}
+use Prim.Native.Nat.{ℕ, zero, suc, _+_, _-_, _≤_, _<_}
 use native.Mathlib.Nat.{eq-or-lt-of-le, le-of-suc-le-suc}
 use native.Mathlib.Numerals.{add-one}
 use native.Mathlib.Omega.{arith}
+use mathlib.Core.List.{List}
+use lib.ListN.{length}
+use Rattle.format.specs.Format.{Whole}
 use Rattle.rules.specs.Search.{someBelow}
 
 -- ---- Bool
@@ -45,6 +48,10 @@ same false false f g = refl
 pub not-passed : (a : Bool) → (a ≡ true → ⊥) → a ≡ false
 not-passed true f = absurd (f refl)
 not-passed false f = refl
+
+-- a whole plan has its head
+pub whole-head : {b : List ℕ} → Whole b → 16 ≤ length b
+whole-head w = omega arith
 
 -- ---- searches
 pub some-yes : (n : ℕ) (p : ℕ → Bool) (k : ℕ) → k < n → p k ≡ true → someBelow n p ≡ true

@@ -7,7 +7,6 @@ use Rattle.format.specs.Format.{Limits}
 use denote.Ref.{now}
 use mathlib.Core.Bool.{false}
 use mathlib.Core.Path.{_≡_, sym, _∙_}
-use borrow.Author.Needs.{needs}
 use Rattle.plan.proofs.check.Statement.{statement}
 use Rattle.plan.proofs.check.Tie as tie
 
@@ -42,7 +41,7 @@ check-spec =
     tie.close
     (tie.spec
     returns
-    (λ c κs. search needs)
+    (λ c κs. c .if1 .left)
     returns-2
     whole-length-requires
     returns-3

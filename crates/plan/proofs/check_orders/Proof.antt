@@ -1,27 +1,26 @@
 -- `plan::check_orders` meets its contract. Assumes nothing.
 use mathlib.Core.Path.{sym, _∙_}
 use Rattle.plan.specs.Parts.{fromOrders}
-use borrow.Author.Needs.{needs}
 use Rattle.plan.proofs.check_orders.Statement.{statement}
 use Rattle.plan.proofs.check_orders.Tie as tie
 
 returns : tie.Need-returns
 unfolding fromOrders
-returns c = simp (sym (c .before .broken .ensures) ∙ c .if1 .taken)
+returns c = rw (sym (c .before .broken .ensures) ∙ c .if1 .taken)
 
 returns-2 : tie.Need-returns-2
 unfolding fromOrders
 returns-2 c =
     let d1 = c .before .before in
-    simp (sym (d1 .before .broken .ensures) ∙ d1 .if1 .left, sym (c .before .broken2 .ensures) ∙ c .if2 .taken)
+    rw (sym (d1 .before .broken .ensures) ∙ d1 .if1 .left, sym (c .before .broken2 .ensures) ∙ c .if2 .taken)
 
 returns-3 : tie.Need-returns-3
 unfolding fromOrders
 returns-3 c =
     let d2 = c in
     let d1 = d2 .before .before in
-    simp (sym (d1 .before .broken .ensures) ∙ d1 .if1 .left, sym (d2 .before .broken2 .ensures) ∙ d2 .if2 .left)
+    rw (sym (d1 .before .broken .ensures) ∙ d1 .if1 .left, sym (d2 .before .broken2 .ensures) ∙ d2 .if2 .left)
 
 pub check-orders-spec : {M : Type 1} → statement M
 check-orders-spec =
-    tie.close (tie.spec (λ c κs. search needs) returns (λ c κs. search needs) returns-2 returns-3)
+    tie.close (tie.spec (λ c κs. c .before .pre) returns (λ c κs. c .before .before .before .pre) returns-2 returns-3)

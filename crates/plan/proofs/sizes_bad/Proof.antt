@@ -1,13 +1,12 @@
 -- `plan::sizes_bad` meets its contract. Assumes nothing.
 use Rattle.rules.specs.Rules.{cause2}
-use borrow.Author.Needs.{needs}
 use Rattle.plan.proofs.sizes_bad.Statement.{statement}
 use Rattle.plan.proofs.sizes_bad.Tie as tie
 
 returns : tie.Need-returns
 unfolding cause2
-returns c = cc
+returns c = rw (c .flags .ensures, c .before .orders .ensures, c .before .before .conditions .ensures, c .before .before .before .nodes .ensures)
 
 pub sizes-bad-spec : {M : Type 1} → statement M
 sizes-bad-spec =
-    tie.close (tie.spec (λ c κs. search needs) (λ c κs. search needs) (λ c κs. search needs) (λ c κs. search needs) returns)
+    tie.close (tie.spec (λ c κs. c .before .pre) (λ c κs. c .before .before .pre) (λ c κs. c .before .before .before .pre) (λ c κs. c .before .before .before .before .pre) returns)

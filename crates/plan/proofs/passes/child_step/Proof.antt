@@ -1,12 +1,12 @@
 -- `plan::passes::child_step` meets its contract. Assumes nothing.
+use native.Mathlib.Omega.{arith}
 use Rattle.plan.specs.Passes.{childStep}
-use borrow.Author.Needs.{needs}
 use Rattle.plan.proofs.passes.child_step.Statement.{statement}
 use Rattle.plan.proofs.passes.child_step.Tie as tie
 
 returns : tie.Need-returns
 unfolding childStep
-returns c = cc
+returns c = rw (c .parent .ensures, c .before .is-group .ensures)
 
 pub child-step-spec : {M : Type 1} → statement M
-child-step-spec = tie.close (tie.spec (λ c κs. search needs) (λ c. search needs) (λ c κs. search needs) returns)
+child-step-spec = tie.close (tie.spec (λ c κs. c .before .pre .1) (λ c. omega arith) (λ c κs. c .before .before .pre) returns)

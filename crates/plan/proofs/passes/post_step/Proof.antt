@@ -5,7 +5,6 @@ use denote.Ref.{now}
 use Rattle.plan.proofs.Causes.{usable}
 use Rattle.codes.specs.Values.{flagOf}
 use Rattle.plan.specs.Passes.{postStep}
-use borrow.Author.Needs.{needs}
 use Rattle.plan.proofs.passes.post_step.Statement.{statement}
 use Rattle.plan.proofs.passes.post_step.Tie as tie
 
@@ -30,16 +29,16 @@ add-t10 c =
 
 returns : tie.Need-returns
 unfolding postStep
-returns c = cc
+returns c = rw (c .condition-node .ensures, c .before .flag-of .ensures, c .before .before .place-of .ensures, c .before .before .before .condition-value .ensures)
 
 pub post-step-spec : {M : Type 1} → statement M
 post-step-spec =
     tie.close
     (tie.spec
-    (λ c κs. search needs)
+    (λ c κs. (c .before .pre .0, c .before .pre .1 .0))
     place-of-requires
     flag-of-requires
     cast-flag
-    (λ c κs. search needs)
+    (λ c κs. let s = c .before .before .before .before in (s .pre .0, s .pre .1 .0))
     add-t10
     returns)

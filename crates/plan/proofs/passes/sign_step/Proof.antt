@@ -5,7 +5,6 @@ use denote.Ref.{now}
 use Rattle.plan.proofs.Causes.{usable}
 use Rattle.codes.specs.Values.{flagOf, placeOf}
 use Rattle.plan.specs.Passes.{signStep, slotOf}
-use borrow.Author.Needs.{needs}
 use Rattle.plan.proofs.passes.sign_step.Statement.{statement}
 use Rattle.plan.proofs.passes.sign_step.Tie as tie
 
@@ -41,19 +40,19 @@ add-t13 c =
 
 returns : tie.Need-returns
 unfolding signStep slotOf
-returns c = cc
+returns c = rw (c .condition-node .ensures, c .before .flag-of .ensures, c .before .before .place-of .ensures, c .before .before .before .sign-of .ensures, c .before .before .before .before .condition-value .ensures)
 
 pub sign-step-spec : {M : Type 1} → statement M
 sign-step-spec =
     tie.close
     (tie.spec
-    (λ c κs. search needs)
+    (λ c κs. (c .before .pre .0, c .before .pre .1 .0))
     sign-of-requires
     place-of-requires
     mul-slot
     flag-of-requires
     add-slot
     cast-slot
-    (λ c κs. search needs)
+    (λ c κs. let s = c .before .before .before .before .before in (s .pre .0, s .pre .1 .0))
     add-t13
     returns)

@@ -8,7 +8,6 @@ use mathlib.Core.Path.{_≡_, sym, ap, subst, _∙_}
 use Rattle.rules.specs.Indexed.{countOf, brokenAt}
 use Rattle.rules.specs.declared.search.Rule.{Rule}
 use Rattle.rules.specs.declared.search.Rule.the-variants.{Starts, Names, Entries, Parents, Conditions, RisingConditions, Orders, RisingOrders}
-use borrow.Author.Needs.{needs}
 use Rattle.rules.proofs.search.broken_at.Statement.{statement}
 use Rattle.rules.proofs.search.broken_at.Tie as tie
 
@@ -87,21 +86,21 @@ pub broken-at-spec : {M : Type 1} → statement M
 broken-at-spec =
     tie.close
     (tie.spec
-    (λ c. search needs)
+    (λ c. c .match .keys1)
     bad-start-requires
-    (λ c. search needs)
+    (λ c. c .match .keys2)
     bad-char-requires
-    (λ c. search needs)
+    (λ c. c .match .keys3)
     bad-entry-requires
-    (λ c. search needs)
+    (λ c. c .match .keys4)
     bad-parent-requires
-    (λ c. search needs)
+    (λ c. c .match .keys5)
     bad-condition-requires
-    (λ c. search needs)
+    (λ c. c .match .keys6)
     conditions-fall-requires
-    (λ c. search needs)
+    (λ c. c .match .keys7)
     bad-order-requires
-    (λ c. search needs)
+    (λ c. c .match .keys8)
     orders-fall-requires
     returns
     returns-2

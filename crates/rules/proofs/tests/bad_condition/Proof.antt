@@ -1,21 +1,29 @@
 -- `rules::tests::bad_condition` meets its contract. Assumes nothing.
 use Rattle.rules.specs.Rules.{badCondition}
-use borrow.Author.Needs.{needs}
+use Rattle.rules.proofs.Laws.{whole-head}
 use Rattle.rules.proofs.tests.bad_condition.Statement.{statement}
 use Rattle.rules.proofs.tests.bad_condition.Tie as tie
 
 returns : tie.Need-returns
 unfolding badCondition
-returns c = cc
+returns c =
+    rw (
+      c .value-bad .ensures,
+      c .before .flags .ensures,
+      c .before .before .condition-value .ensures,
+      c .before .before .before .is-kind .ensures,
+      c .before .before .before .before .wide .ensures .0,
+      c .before .before .before .before .before .condition-node .ensures,
+    )
 
 pub bad-condition-spec : {M : Type 1} → statement M
 bad-condition-spec =
     tie.close
     (tie.spec
-    (λ c κs. search needs)
-    (λ c κs. search needs)
-    (λ c κs. search needs)
-    (λ c κs. search needs)
-    (λ c κs. search needs)
-    (λ c κs. search needs)
+    (λ c κs. c .before .pre)
+    (λ c κs. tt)
+    (λ c κs. c .before .before .before .pre .1)
+    (λ c κs. c .before .before .before .before .pre)
+    (λ c κs. whole-head (c .before .before .before .before .before .pre .1))
+    (λ c κs. tt)
     returns)

@@ -9,7 +9,7 @@ use Rattle.format.specs.Format.{nodeCount, parentOf, isKind}
 use denote.Ref.{now}
 use borrow.Author.Tests.{le-ltb}
 use Rattle.rules.specs.Rules.{badPair, isChild}
-use borrow.Author.Needs.{needs}
+use Rattle.rules.proofs.Laws.{whole-head}
 use Rattle.rules.proofs.tests.bad_pair.Statement.{statement}
 use Rattle.rules.proofs.tests.bad_pair.Tie as tie
 
@@ -24,17 +24,24 @@ returns c =
 
 returns-2 : tie.Need-returns-2
 unfolding badPair
-returns-2 c = cc
+returns-2 c =
+    rw (
+      c .is-child2 .ensures,
+      c .before .is-child .ensures,
+      c .before .before .is-kind .ensures,
+      c .before .before .before .wide .ensures .0,
+      c .before .before .before .before .parent .ensures,
+    )
 
 pub bad-pair-spec : {M : Type 1} → statement M
 bad-pair-spec =
     tie.close
     (tie.spec
-    (λ c κs. search needs)
+    (λ c κs. whole-head (c .before .pre))
     returns
-    (λ c κs. search needs)
-    (λ c κs. search needs)
-    (λ c κs. search needs)
-    (λ c κs. search needs)
-    (λ c κs. search needs)
+    (λ c κs. (omega arith, c .before .before .before .pre))
+    (λ c κs. tt)
+    (λ c κs. c .before .before .before .before .before .pre)
+    (λ c κs. c .before .before .before .before .before .before .pre)
+    (λ c κs. c .before .before .before .before .before .before .before .pre)
     returns-2)

@@ -5,7 +5,7 @@ use Rattle.format.specs.Format.{nodeCount}
 use denote.Ref.{now}
 use borrow.Author.Tests.{lt-ltb, le-ltb}
 use Rattle.rules.specs.Rules.{isChild}
-use borrow.Author.Needs.{needs}
+use Rattle.rules.proofs.Laws.{whole-head}
 use Rattle.rules.proofs.tests.is_child.Statement.{statement}
 use Rattle.rules.proofs.tests.is_child.Tie as tie
 
@@ -14,6 +14,9 @@ unfolding isChild
 returns c =
     let n = c .before .before .args .n in
     simp (le-ltb 0 n (omega arith))
+
+parent-requires : tie.Need-parent-requires
+parent-requires c κs = (omega arith, c .before .before .before .before .pre)
 
 returns-2 : tie.Need-returns-2
 unfolding isChild
@@ -31,4 +34,4 @@ returns-3 c =
 
 pub is-child-spec : {M : Type 1} → statement M
 is-child-spec =
-    tie.close (tie.spec returns (λ c κs. search needs) (λ c κs. search needs) (λ c κs. search needs) returns-2 returns-3)
+    tie.close (tie.spec returns (λ c κs. whole-head (c .before .before .pre)) parent-requires (λ c κs. tt) returns-2 returns-3)

@@ -1,24 +1,31 @@
 -- `rules::tests::orders_fall` meets its contract. Assumes nothing.
 use Rattle.rules.specs.Rules.{notRising}
-use borrow.Author.Needs.{needs}
+use native.Mathlib.Omega.{arith}
 use Rattle.rules.proofs.tests.orders_fall.Statement.{statement}
 use Rattle.rules.proofs.tests.orders_fall.Tie as tie
 
 returns : tie.Need-returns
 unfolding notRising
-returns c = cc
+returns c =
+    rw (
+      c .not-below .ensures,
+      c .before .later2 .ensures,
+      c .before .before .earlier2 .ensures,
+      c .before .before .before .later .ensures,
+      c .before .before .before .before .earlier .ensures,
+    )
 
 pub orders-fall-spec : {M : Type 1} → statement M
 orders-fall-spec =
     tie.close
     (tie.spec
-    (λ c κs. search needs)
-    (λ c κs. search needs)
-    (λ c. search needs)
-    (λ c. search needs)
-    (λ c κs. search needs)
-    (λ c. search needs)
-    (λ c κs. search needs)
-    (λ c. search needs)
-    (λ c κs. search needs)
+    (λ c κs. (omega arith, c .before .pre .1))
+    (λ c κs. (omega arith, c .before .before .pre .1))
+    (λ c. omega arith)
+    (λ c. omega arith)
+    (λ c κs. c .before .before .before .pre)
+    (λ c. omega arith)
+    (λ c κs. c .before .before .before .before .pre)
+    (λ c. omega arith)
+    (λ c κs. tt)
     returns)
