@@ -24,7 +24,9 @@ pub fn verdict(bytes: &[u8]) -> u32 {
         Ok(fields) => fields,
         Err(number) => return number,
     };
-    judged(&fields, rows::root(&Tables::new(&fields)))
+    let mut tables = Tables::BLANK;
+    tables.fill(&fields);
+    judged(&fields, rows::root(&tables))
 }
 
 fn judged(fields: &Fields, root: Row) -> u32 {

@@ -101,6 +101,9 @@ impl Group<'_> {
         flags: impl Fn(&Row) -> u64,
     ) -> [u64; 2] {
         let mut left = literals;
+        if left == [0; 2] {
+            return left;
+        }
         let (first, after) = self.children.split_at(at + 1);
         for part in [after, first] {
             for &e in part {
