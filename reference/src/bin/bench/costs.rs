@@ -39,7 +39,7 @@ fn drawn(random: &mut Random, conditions: usize, orders: usize, shape: Shape) ->
 
 /// Random plans of groups in groups.
 fn nested(random: &mut Random) -> Vec<Shaped> {
-    let rules = "rules 1 to 14, blank tables";
+    let rules = "rules, blank tables";
     let siblings = "each two siblings of its eight groups";
     let shapes = [
         ("each node under the one before it", rules, Shape::Chain),
@@ -56,21 +56,18 @@ fn nested(random: &mut Random) -> Vec<Shaped> {
 
 /// One group of 127 tasks.
 fn flat(random: &mut Random) -> Vec<Shaped> {
-    let (siblings, again) = (
-        "each two siblings",
-        "each two siblings, once for each clash found",
-    );
+    let siblings = "each two siblings";
     vec![
         shaped("flat, bare, no order", siblings, Plan::flat(64, 128)),
         shaped("flat, one chain, bare", siblings, chain(127, 0, 0)),
         shaped(
             "flat, 1,024 random conditions, no order",
-            again,
+            siblings,
             drawn(random, 1_024, 0, Shape::Flat),
         ),
         shaped(
             "flat, 1,024 random conditions, 512 random orders",
-            again,
+            siblings,
             drawn(random, 1_024, 512, Shape::Flat),
         ),
     ]
@@ -78,26 +75,29 @@ fn flat(random: &mut Random) -> Vec<Shaped> {
 
 /// One group of 127 tasks, made so that the search has much to do.
 fn worst() -> Vec<Shaped> {
+    let shared = "each two siblings, those that share a literal";
+    let settled = "for each two siblings that share a literal, the children up to the one that \
+                   settles it";
     vec![
         shaped(
-            "flat, 84 tasks, one after them all, 42 after that one",
-            "for each two siblings, all that stand between",
-            funnel(84, 42),
-        ),
-        shaped(
-            "flat, one chain, each needs what the last left",
-            "for each two siblings, all that stand between",
-            chain(127, 4, 0),
-        ),
-        shaped(
             "flat, no order, 126 clashes, all with the last child",
-            "each two siblings, once for each clash",
+            "each two siblings",
             unordered(chain(126, 0, 63)),
         ),
         shaped(
+            "flat, one chain, each needs what the last left",
+            shared,
+            chain(127, 4, 0),
+        ),
+        shaped(
             "such a chain and 122 such clashes",
-            "for each two siblings, all between, for each clash",
+            shared,
             chain(126, 3, 61),
+        ),
+        shaped(
+            "flat, 84 tasks, one after them all, 42 after that one",
+            settled,
+            funnel(84, 42),
         ),
     ]
 }

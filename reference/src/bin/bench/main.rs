@@ -1,7 +1,8 @@
 //! Times calls of the archive on plans of 128 nodes and 64 flags; no test depends on a time.
 //!
 //! `cargo run --release --bin bench` sets the verdict against a plain Rust program that takes the
-//! same shortcuts, both in one run; with the word `cost` it times plans of many shapes.
+//! same shortcuts, both in one run; with the word `once` it makes each of these calls once, for a
+//! program that counts instructions; with the word `cost` it times plans of many shapes.
 
 mod costs;
 mod plain;
@@ -19,14 +20,18 @@ use reference::calls::{make, Call};
 use reference::verdict::Verdict;
 use timing::{median, medians, SAMPLES};
 
+const VERDICTS: [Verdict; 3] = [Verdict::Clear, Verdict::Doomed, Verdict::Open];
+
 fn main() -> ExitCode {
     let arguments: Vec<String> = args().skip(1).collect();
     let words: Vec<&str> = arguments.iter().map(String::as_str).collect();
     match words[..] {
         [] => against_plain(),
+        ["once"] => once(),
         ["cost"] => by_shape(),
         _ => {
             eprintln!("bench         the verdict by the archive and by plain Rust");
+            eprintln!("bench once    each of these verdicts once by both");
             eprintln!("bench cost    verdict and summary on plans of many shapes");
             return ExitCode::FAILURE;
         }
@@ -44,7 +49,7 @@ fn against_plain() {
     println!("| plan | bytes | verdict | archive | plain Rust | ratio |");
     println!("|---|---|---|---|---|---|");
     let mut ratios = Vec::new();
-    for verdict in [Verdict::Clear, Verdict::Doomed, Verdict::Open] {
+    for verdict in VERDICTS {
         for (shape, plan) in of_verdict(verdict) {
             let bytes = plan.bytes();
             let word = agreed(&bytes);
@@ -55,6 +60,15 @@ fn against_plain() {
         }
     }
     println!("\nThe ratio in the middle is {:.2}.", median(ratios));
+}
+
+/// The archive first, then the plain program, in the order of the table.
+fn once() {
+    for verdict in VERDICTS {
+        for (shape, plan) in of_verdict(verdict) {
+            println!("{shape} {}", agreed(&plan.bytes()));
+        }
+    }
 }
 
 fn by_shape() {

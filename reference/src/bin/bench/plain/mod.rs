@@ -1,6 +1,8 @@
 //! The verdict in plain Rust, by the shortcuts that the proved crates take: rules in passes over
 //! the bytes, words whose bit f speaks of flag f, the children of a group as a segment of one
-//! array, chains of orders filled backwards, and a search over pairs that a label leaves.
+//! array, chains of orders filled backwards, a search over pairs that goes on at the child where it
+//! stood, children passed over that require nothing wanted, and shared literals narrowed until none
+//! is left.
 //!
 //! It is no reference: tests compare it with the reference, and nothing else rests on it.
 
@@ -22,7 +24,9 @@ pub fn verdict(bytes: &[u8]) -> u32 {
         Ok(fields) => fields,
         Err(number) => return number,
     };
-    judged(&fields, rows::root(&Tables::new(&fields)))
+    let mut tables = Tables::BLANK;
+    tables.fill(&fields);
+    judged(&fields, rows::root(&tables))
 }
 
 fn judged(fields: &Fields, root: Row) -> u32 {

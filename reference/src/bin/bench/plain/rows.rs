@@ -117,9 +117,9 @@ fn all_of(tables: &Tables, rows: &Rows, group: usize) -> Row {
     let pairs = Group {
         tables,
         rows,
-        node: group,
+        children: tables.segment(group),
     };
-    let wanted = row.may_clobber.map(|word| !word);
+    let wanted = and_not([!0; 2], row.may_clobber);
     row.may_clobber = or(row.may_clobber, pairs.may_clobber(wanted));
     row.must_clobber = pairs.must_clobber(row.must_clobber);
     row
@@ -180,4 +180,8 @@ pub fn or(one: [u64; 2], other: [u64; 2]) -> [u64; 2] {
 
 pub fn and(one: [u64; 2], other: [u64; 2]) -> [u64; 2] {
     [one[0] & other[0], one[1] & other[1]]
+}
+
+pub fn and_not(one: [u64; 2], other: [u64; 2]) -> [u64; 2] {
+    [one[0] & !other[0], one[1] & !other[1]]
 }
