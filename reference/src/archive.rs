@@ -45,15 +45,16 @@ mod c {
             state: *const u8,
             state_len: usize,
         ) -> u32;
+        pub fn knowetop_listing(
+            plan: *const u8,
+            plan_len: usize,
+            out: *mut u8,
+            out_len: usize,
+        ) -> u32;
     }
 }
 
-/// Whether the archive has the call already.
-pub fn has(call: Call) -> bool {
-    call != Call::Listing
-}
-
-/// Makes a call that the archive has.
+/// Makes the call. What it is lent is an output or a state; some calls take neither.
 pub fn make(call: Call, plan: &mut [u8], lent: &mut [u8]) -> u32 {
     let (plan, plan_len) = (plan.as_mut_ptr(), plan.len());
     let (lent, lent_len) = (lent.as_mut_ptr(), lent.len());
@@ -71,7 +72,7 @@ pub fn make(call: Call, plan: &mut [u8], lent: &mut [u8]) -> u32 {
                 c::knowetop_finish(plan, plan_len, lent, lent_len, task)
             }
             Call::Status => c::knowetop_status(plan, plan_len, lent, lent_len),
-            Call::Listing => panic!("the listing is not in the archive yet"),
+            Call::Listing => c::knowetop_listing(plan, plan_len, lent, lent_len),
         }
     }
 }

@@ -1,6 +1,5 @@
 //! Every call on damaged plans: refused ones may change nothing.
 
-use reference::archive;
 use reference::calls::Answers;
 use reference::edit::edit;
 use reference::format::{Plan, Sizes};
@@ -12,12 +11,11 @@ use reference::scenario::tally::Tally;
 const B: &[u8] = include_bytes!("../../../samples/b.plan");
 const LARGE: &[u8] = include_bytes!("../../../samples/large.plan");
 
-/// The calls that the archive has, on these bytes.
+/// Every call on these bytes.
 fn every_call(tally: &mut Tally, random: &mut Random, plan: &[u8]) {
     let answers = Answers::by_rules(plan);
-    let cases = cases(random, plan);
-    for case in cases.iter().filter(|case| archive::has(case.call)) {
-        tally.compare(&answers, case);
+    for case in cases(random, plan) {
+        tally.compare(&answers, &case);
     }
 }
 

@@ -1,6 +1,7 @@
 //! Every call of the archive against the reference: what it returns and each byte that it was lent.
 
 mod damage;
+mod listings;
 mod lists;
 mod summaries;
 
@@ -11,7 +12,7 @@ use reference::scenario::tally::Tally;
 
 type Topic = (&'static str, fn(&mut Tally));
 
-const TOPICS: [Topic; 11] = [
+const TOPICS: [Topic; 14] = [
     ("summaries of small plans, by runs", summaries::small),
     ("summaries of large plans, by rules", summaries::large),
     ("summaries of the samples", summaries::samples),
@@ -21,18 +22,22 @@ const TOPICS: [Topic; 11] = [
     ("states of every length and fault", lists::states),
     ("states that no list reaches", lists::unreachable),
     ("CLEAR and DOOMED, by all lists", lists::claims),
+    ("listings of random plans", listings::random),
+    ("listings of long, deep and equal waits", listings::extremes),
+    ("listings in every length around 2,048", listings::lengths),
     ("plans with damaged bytes", damage::bytes),
     ("plans with damaged fields", damage::fields),
 ];
 
 /// What each call returned at least so often.
-const MET: [(&str, usize, &[RangeInclusive<u32>]); 6] = [
+const MET: [(&str, usize, &[RangeInclusive<u32>]); 7] = [
     ("verdict", 20, &[1..=14, 128..=130]),
     ("summary", 20, &[0..=15, 17..=17]),
     ("fresh", 20, &[0..=15]),
     ("start", 20, &[0..=22]),
     ("finish", 20, &[0..=18, 22..=22]),
     ("status", 20, &[1..=16, 128..=129]),
+    ("listing", 20, &[1..=15, 256..=256]),
 ];
 
 fn main() {
