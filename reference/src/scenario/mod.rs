@@ -7,7 +7,9 @@ pub mod cases;
 pub mod lists;
 pub mod memory;
 pub mod states;
+pub mod stream;
 pub mod tally;
+pub mod valgrind;
 
 use crate::calls::{self, Answers, Call};
 use crate::format::Plan;
@@ -73,6 +75,9 @@ impl Case {
     pub fn make(&self, make: impl FnOnce(Call, &mut [u8], &mut [u8]) -> u32) -> After {
         let mut plan = Lent::new(&self.plan);
         let mut lent = Lent::new(&self.lent);
+        if let Call::Summary(_) | Call::Fresh | Call::Listing = self.call {
+            lent = lent.forget();
+        }
         let returned = make(self.call, plan.bytes(), lent.bytes());
         After {
             returned,

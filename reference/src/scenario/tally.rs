@@ -27,6 +27,19 @@ impl Tally {
         }
     }
 
+    /// The calls one after another, each lent what the last one left, and after each the status.
+    #[track_caller]
+    pub fn replay(&mut self, answers: &Answers, plan: &[u8], calls: &[Call], mut lent: Vec<u8>) {
+        for call in calls.iter().flat_map(|&call| [call, Call::Status]) {
+            let case = Case {
+                call,
+                plan: plan.to_vec(),
+                lent,
+            };
+            lent = self.compare(answers, &case).lent;
+        }
+    }
+
     fn count(&mut self, call: Call, returned: u32) -> &mut usize {
         let key = (call.name(), returned.min(256));
         self.counts.entry(key).or_default()

@@ -16,24 +16,14 @@ use reference::scenario::tally::Tally;
 use reference::scenario::Case;
 use reference::search::search_by;
 
-/// Fresh and then the list, each call with the state as the last one left it, and after each the
-/// status. At first the state is of any bytes.
+/// Fresh and then the list. At first the state is of any bytes.
 fn replay(tally: &mut Tally, random: &mut Random, plan: &Plan, list: &[Event]) {
     let bytes = plan.bytes();
-    let answers = Answers::by_rules(&bytes);
     let extra = random.below(4);
-    let mut state = random.bytes(8 + plan.nodes.len() + extra);
+    let state = random.bytes(8 + plan.nodes.len() + extra);
     let events = list.iter().map(|&event| Call::Event(event));
-    for call in once(Call::Fresh).chain(events) {
-        for call in [call, Call::Status] {
-            let case = Case {
-                call,
-                plan: bytes.clone(),
-                lent: state,
-            };
-            state = tally.compare(&answers, &case).lent;
-        }
-    }
+    let calls: Vec<Call> = once(Call::Fresh).chain(events).collect();
+    tally.replay(&Answers::by_rules(&bytes), &bytes, &calls, state);
 }
 
 /// Plans of up to 12 nodes.
