@@ -182,8 +182,7 @@ module _ {b waits : List ℕ} (ok : Clean b) where
   -- what is added up at c
   pub down-sum : {c p : ℕ} → p ≡ parentOf b c → c < nodeCount b → Down b waits c → (p < 128) × (getD waits p 0 + getD waits c 0 ≡ longestWait b c)
   down-sum {c} {p} e l h =
-      let q = parent-group b (ok .fits) (ok .parents) c (h .some) l .0 in
-      (
+      let q = parent-group b (ok .fits) (ok .parents) c (h .some) l .0 in (
         omega (arith, ok .fits .limits .nodes),
         omega (arith, h .below p (omega arith), h .from c (omega arith) l, longest-child b ok c (h .some) l, ap (longestWait b) e),
       )

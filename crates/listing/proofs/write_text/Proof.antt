@@ -26,8 +26,7 @@ write-lines-requires c κs =
     let s = c .before .before .before .before .before .before .before .before .before .before .before .before .before .before .before .before .before .before .before .before in
     let w = c .before .before .before .before .before .before .before .before .before .write-word .ensures in
     let l = c .before .before .before .before .before .end-line .ensures in
-    let e = ap (λ (x : ℕ). length (ending x)) (c .before .before .before .before .before .before .before .before .before .before .before .before .before .before .before .longest-waits .ensures .1) in
-    (
+    let e = ap (λ (x : ℕ). length (ending x)) (c .before .before .before .before .before .before .before .before .before .before .before .before .before .before .before .longest-waits .ensures .1) in (
       s .pre .0,
       c .before .before .before .before .before .before .before .before .before .before .before .before .before .before .before .longest-waits .ensures .0,
       c .before .before .before .before .before .before .before .before .before .before .before .rank .ensures,
