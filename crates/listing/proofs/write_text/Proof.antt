@@ -10,7 +10,6 @@ use Rattle.listing.specs.Text.{letters}
 use Rattle.listing.proofs.Text.{letters-limit, root-limit, text-is}
 use native.Mathlib.Omega.{arith}
 use borrow.Author.Needs.{needs}
-use borrow.Author.Needs.{needs}
 use Rattle.listing.proofs.write_text.Statement.{statement}
 use Rattle.listing.proofs.write_text.Tie as tie
 

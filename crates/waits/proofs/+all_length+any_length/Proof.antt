@@ -2,13 +2,13 @@
 -- Assumes nothing.
 use mathlib.Core.Path.{_≡_, sym, _∙_}
 use mathlib.Core.Logic.{⊎-elim}
-use Prim.Native.Nat.{ℕ, _+_, _-_, _<_, _≤_}
+use Prim.Native.Nat.{ℕ, _-_, _<_, _≤_}
 use native.Mathlib.Omega.{arith}
 use borrow.Author.Needs.{needs}
 use denote.Ref.{now}
 use Rattle.format.specs.Format.{nodeCount}
 use Rattle.plan.proofs.Accepted.{clean}
-use Rattle.waits.proofs.Filling.{a-child, ChildrenTo, children-none, children-other, children-group, children-task, child-lengths, all-worked, any-worked}
+use Rattle.waits.proofs.Filling.{ChildrenTo, children-none, children-other, children-group, children-task, child-lengths, all-worked, any-worked}
 use borrow.Fn.Kinds.{In}
 use borrow.Fn.PlainCycle.{Measures, is, falls, and}
 use Rattle.waits.proofs.all_length.Reads as all-length
