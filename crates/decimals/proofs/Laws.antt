@@ -6,7 +6,8 @@ use Prim.Native.Nat.{ℕ, zero, suc, _+_, _-_, _*_, _/_, _%_, _^_, _<_, _≤_}
 use native.Mathlib.Decide.{decLt}
 use native.Mathlib.Nat.{pow-suc}
 use native.Mathlib.Omega.{arith}
-use lib.ListN.{length, length-append}
+use lib.ListN.{length, getD, length-append, List·getD-append}
+use lib.Seq.{getD-append-seam}
 use Rattle.decimals.specs.Decimals.{unlessZero, decimalBy, decimal}
 
 unless-same : (n : ℕ) (f g : ℕ → List ℕ) → (0 < n → f n ≡ g n) → unlessZero n f ≡ unlessZero n g
@@ -76,3 +77,50 @@ value-in (suc k) n l =
 -- the digits name the number
 pub value : (n : ℕ) → valueFrom 0 (decimal n) ≡ n
 value n = value-in (suc n) n (omega arith)
+
+-- ---- each byte is a digit, and no number but 0 begins with the digit 0
+pub record Digits (s : List ℕ) : Type 0 where
+  pub low : (i : ℕ) → i < length s → 48 ≤ getD s i 0
+  pub high : (i : ℕ) → i < length s → getD s i 0 ≤ 57
+
+digits-one : (n : ℕ) → Digits ((48 + n % 10) ∷ [])
+digits-one n = record { low = λ i l. let e : i ≡ 0 = omega arith in rw e (omega arith); high = λ i l. let e : i ≡ 0 = omega arith in rw e (omega arith) }
+
+digits-more : (s : List ℕ) (n : ℕ) → Digits s → Digits (s ++ ((48 + n % 10) ∷ []))
+digits-more s n h = record {
+  low = λ i l. by-cases (decLt i (length s))
+      (λ (q : i < length s). rw (List·getD-append s ((48 + n % 10) ∷ []) 0 i q) (h .low i q))
+      (λ q. let e = last i (omega (arith, length-append s ((48 + n % 10) ∷ []))) in rw e (omega arith));
+  high = λ i l. by-cases (decLt i (length s))
+      (λ (q : i < length s). rw (List·getD-append s ((48 + n % 10) ∷ []) 0 i q) (h .high i q))
+      (λ q. let e = last i (omega (arith, length-append s ((48 + n % 10) ∷ []))) in rw e (omega arith));
+}
+  where
+    last : (i : ℕ) → i ≡ length s → getD (s ++ ((48 + n % 10) ∷ [])) i 0 ≡ 48 + n % 10
+    last i e = rw e (getD-append-seam s (48 + n % 10) [] 0)
+
+digits-in : (k n : ℕ) → n < k → Digits (decimal n)
+digits-in zero n l = absurd (omega arith)
+digits-in (suc k) n l =
+    by-cases (decLt n 10)
+    (λ (q : n < 10). rw (decimal-digit n q) (digits-one n))
+    (λ q. rw (decimal-more n (omega arith)) (digits-more (decimal (n / 10)) n (digits-in k (n / 10) (omega arith))))
+
+pub digits : (n : ℕ) → Digits (decimal n)
+digits n = digits-in (suc n) n (omega arith)
+
+leading-in : (k n : ℕ) → n < k → (0 < length (decimal n)) × (getD (decimal n) 0 0 ≡ 48 → n ≡ 0)
+leading-in zero n l = absurd (omega arith)
+leading-in (suc k) n l =
+    by-cases (decLt n 10)
+    (λ (q : n < 10). rw (decimal-digit n q) (omega arith, λ e. omega arith))
+    (λ q.
+    let w = leading-in k (n / 10) (omega arith) in
+    rw (decimal-more n (omega arith))
+    (
+      omega (arith, length-append (decimal (n / 10)) ((48 + n % 10) ∷ [])),
+      λ e. let z = w .1 (sym (List·getD-append (decimal (n / 10)) ((48 + n % 10) ∷ []) 0 0 (w .0)) ∙ e) in absurd (omega arith),
+    ))
+
+pub no-leading-zero : (n : ℕ) → getD (decimal n) 0 0 ≡ 48 → n ≡ 0
+no-leading-zero n = leading-in (suc n) n (omega arith) .1

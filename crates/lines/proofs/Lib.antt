@@ -2,3 +2,4 @@
 pub mod Order
 pub mod Places
 pub mod Text
+pub mod Examples

@@ -4,7 +4,7 @@ use mathlib.Core.List.{List, [], _∷_, _++_, append-assoc, append-nil}
 use Prim.Native.Nat.{ℕ, suc, _+_, _*_, _<_, _≤_}
 use native.Mathlib.Numerals.{add-one}
 use native.Mathlib.Omega.{arith}
-use lib.ListN.{length, getD, take, drop, length-append, length-take}
+use lib.ListN.{length, getD, take, drop, length-append}
 use lib.Seq.{take-suc, take-all, getD-take, drop-cons}
 use Rattle.format.specs.Format.{nodeCount, nameChar}
 use Rattle.plan.proofs.Accepted.{Clean}
@@ -12,7 +12,6 @@ use Rattle.decimals.specs.Decimals.{decimal, Wrote}
 use Rattle.decimals.proofs.Laws.{length-limit}
 use Rattle.decimals.proofs.Written.{written-none, wrote-then, wrote-same}
 use Rattle.waits.specs.Waits.{longestWait}
-use Rattle.waits.specs.Filled.{Longest}
 use Rattle.waits.proofs.Bounds.{end-limit}
 use Rattle.lines.specs.Order.{rankedTo, ranking}
 use Rattle.lines.specs.Lines.{nameOf, ending, lineOf, linesOf, Ranking}

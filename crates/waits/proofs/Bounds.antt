@@ -7,16 +7,16 @@ use Prim.Native.Nat.{ℕ, zero, suc, _+_, _-_, _*_, _<_, _≤_}
 use native.Mathlib.Decide.{ℕ-discrete, decLt}
 use native.Mathlib.Omega.{arith}
 use lib.Dec.{eqb, ltb, leb}
-use borrow.Author.Tests.{eq-eqb, ne-eqb, lt-ltb, le-ltb, ltb-false, le-leb, lt-leb, eqb-true}
-use Rattle.format.specs.Format.{nodeCount, orderCount, parentOf, kindOf, minutesOf, earlierOf, laterOf, isKind, isGroup}
+use borrow.Author.Tests.{eq-eqb, ne-eqb, lt-ltb, le-ltb, ltb-false, le-leb, lt-leb}
+use Rattle.format.specs.Format.{nodeCount, parentOf, kindOf, minutesOf, earlierOf, isKind, isGroup}
 use Rattle.rules.specs.Rules.{isChild, badEntry, cause6}
-use Rattle.rules.proofs.Laws.{none-at, or-none, or-true, and-of, and-both, not-passed}
+use Rattle.rules.proofs.Laws.{none-at, or-none, not-passed}
 use Rattle.plan.proofs.Accepted.{Clean}
 use Rattle.plan.proofs.Causes.{root-parent, parent-group}
 use Rattle.plan.proofs.Meaning.{kind-is, kind-of, kind-group, group-is, group-of, kind-limit}
-use Rattle.waits.specs.Waits.{greatest, lengthOf, waitWithin, waitsTo, longestWait}
+use Rattle.waits.specs.Waits.{lengthOf, waitWithin, waitsTo, longestWait}
 use Rattle.waits.proofs.Greatest.{greatest-le, greatest-least}
-use Rattle.waits.proofs.Laws.{child-lower, ordered, earlier-child, length-task, length-any, length-all, waits-least}
+use Rattle.waits.proofs.Laws.{child-lower, earlier-child, length-task, length-any, length-all, waits-least}
 use Rattle.waits.proofs.Sums.{sum, sum-grows, sum-le, sum-more, sum-has, sum-balance, sum-none, sum-one, sum-same}
 
 and-false : (a : Bool) → (a && false) ≡ false

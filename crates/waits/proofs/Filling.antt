@@ -1,9 +1,9 @@
 -- The tables of lengths and waits, turn by turn. Assumes nothing.
-use mathlib.Core.Path.{_≡_, refl, sym, ap, _∙_}
+use mathlib.Core.Path.{_≡_, sym, ap, _∙_}
 use mathlib.Core.Logic.{_⊎_, inl, inr, ⊎-elim, by-cases}
 use mathlib.Core.Bool.{true, false}
 use mathlib.Core.List.{List}
-use Prim.Native.Nat.{ℕ, max, _+_, _-_, _/_, _<_, _≤_}
+use Prim.Native.Nat.{ℕ, max, _+_, _<_, _≤_}
 use native.Mathlib.Decide.{ℕ-discrete, decLt}
 use native.Mathlib.Omega.{arith}
 use lib.ListN.{length, getD, set, length-set}
@@ -19,12 +19,12 @@ use Rattle.plan.proofs.Accepted.{Clean, clean}
 use Rattle.plan.proofs.Causes.{parent-group}
 use Rattle.plan.proofs.Meaning.{kind-limit, kind-task, means-well-formed}
 use Rattle.progress.proofs.Sound.{child-test, is-node, plan-kind}
-use Rattle.chains.proofs.Chains.{Sorted, sorted}
+use Rattle.chains.proofs.Chains.{Sorted}
 use Rattle.tables.specs.Filled.{Zeros}
 use Rattle.waits.specs.Waits.{greatest, lengthOf, waitWithin, longestWait}
 use Rattle.waits.specs.Filled.{FirstOrder, Raised, Tables, Done, ChildLengths, Spread, Worked, Within, Longest, AllWorked}
-use Rattle.waits.proofs.Greatest.{greatest-none, greatest-more, greatest-skip, greatest-empty}
-use Rattle.waits.proofs.Laws.{child-lower, ordered, earlier-child, length-task, length-any, length-all, order-waits, waits-least}
+use Rattle.waits.proofs.Greatest.{greatest-more, greatest-skip, greatest-empty}
+use Rattle.waits.proofs.Laws.{child-lower, earlier-child, length-task, length-all, order-waits, waits-least}
 use Rattle.waits.proofs.Bounds.{own-child, group-kind, wait-any, wait-root, longest-root, longest-child}
 
 -- ---- the first order of a node: below low none, from high on all
@@ -182,8 +182,7 @@ module _ {b waits : List ℕ} (ok : Clean b) where
   -- what is added up at c
   pub down-sum : {c p : ℕ} → p ≡ parentOf b c → c < nodeCount b → Down b waits c → (p < 128) × (getD waits p 0 + getD waits c 0 ≡ longestWait b c)
   down-sum {c} {p} e l h =
-      let q = parent-group b (ok .fits) (ok .parents) c (h .some) l .0 in
-      (
+      let q = parent-group b (ok .fits) (ok .parents) c (h .some) l .0 in (
         omega (arith, ok .fits .limits .nodes),
         omega (arith, h .below p (omega arith), h .from c (omega arith) l, longest-child b ok c (h .some) l, ap (longestWait b) e),
       )

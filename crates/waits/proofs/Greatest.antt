@@ -1,5 +1,5 @@
 -- The laws of `greatest`. Assumes nothing.
-use mathlib.Core.Path.{_≡_, refl, _∙_}
+use mathlib.Core.Path.{_≡_, refl}
 use mathlib.Core.Logic.{⊎-elim, by-cases}
 use mathlib.Core.Bool.{Bool, true, false}
 use Prim.Native.Nat.{ℕ, zero, suc, max, _+_, _<_, _≤_}
@@ -7,7 +7,7 @@ use native.Mathlib.Decide.{ℕ-discrete}
 use native.Mathlib.Numerals.{add-one}
 use native.Mathlib.Omega.{arith}
 use Rattle.rules.proofs.Laws.{either}
-use Rattle.waits.specs.Waits.{raised, greatest}
+use Rattle.waits.specs.Waits.{greatest}
 
 -- as far as the numbers that pass go
 pub greatest-same : (n : ℕ) (p : ℕ → Bool) (f g : ℕ → ℕ) → ((i : ℕ) → i < n → p i ≡ true → f i ≡ g i) → greatest n p f ≡ greatest n p g

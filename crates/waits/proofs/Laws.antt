@@ -1,12 +1,12 @@
 -- Lengths and waits of an accepted plan satisfy 01's sentences: enough levels and orders are followed. Assumes nothing.
 use mathlib.Core.Path.{_≡_, refl, sym, ap, _∙_}
-use mathlib.Core.Bool.{true, false}
+use mathlib.Core.Bool.{true}
 use mathlib.Core.List.{List}
-use Prim.Native.Nat.{ℕ, zero, suc, max, _+_, _<_, _≤_}
+use Prim.Native.Nat.{ℕ, zero, suc, _+_, _<_, _≤_}
 use native.Mathlib.Omega.{arith}
 use lib.Dec.{eqb}
 use borrow.Author.Tests.{eqb-true, eq-eqb}
-use Rattle.format.specs.Format.{nodeCount, orderCount, parentOf, kindOf, minutesOf, earlierOf, laterOf, isKind}
+use Rattle.format.specs.Format.{nodeCount, orderCount, parentOf, kindOf, minutesOf, earlierOf, laterOf}
 use Rattle.rules.specs.Rules.{isChild, badOrder, cause13}
 use Rattle.rules.proofs.Laws.{none-at}
 use Rattle.runs.specs.Plan.{Kind, task, all-of, any-of}
@@ -15,7 +15,7 @@ use Rattle.plan.proofs.Accepted.{Clean}
 use Rattle.plan.proofs.Causes.{parent-group}
 use Rattle.plan.proofs.Meaning.{child-is, siblings, kind-task, kind-all-of, kind-of}
 use Rattle.progress.proofs.Sound.{kind-any-of}
-use Rattle.waits.specs.Waits.{raised, greatest, waitBy, lengthAs, lengthBy, lengthOf, waitWithin, waitsTo, longestWait}
+use Rattle.waits.specs.Waits.{greatest, waitBy, lengthAs, lengthBy, lengthOf, waitWithin}
 use Rattle.waits.proofs.Greatest.{greatest-same, greatest-le, greatest-least}
 
 -- an order's nodes: children of one all-of group, the earlier with the lower number

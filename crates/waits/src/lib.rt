@@ -19,11 +19,7 @@ use rules::tests::wide;
 fn greater(a: u32, b: u32) -> u32
     ensures { λ r. ⌜ r ≡ max a b ⌝ }
 {
-    if a < b {
-        b
-    } else {
-        a
-    }
+    if a < b { b } else { a }
 }
 
 // The first order whose earlier node is c or higher: orders rise by their earlier nodes.
@@ -99,12 +95,7 @@ fn longest_child(plan: &[u8], lengths: &[u32; 128], node: usize) -> u32
 }
 
 // Works out an all-of group and all groups under it: the lengths, and the waits of the children.
-pub fn all_length(
-    plan: &[u8],
-    lengths: &mut [u32; 128],
-    waits: &mut [u32; 128],
-    node: usize,
-)
+pub fn all_length(plan: &[u8], lengths: &mut [u32; 128], waits: &mut [u32; 128], node: usize)
     requires { ⌜ ((refusal (now plan) ≡ 0) × (node < nodeCount (now plan))) × ((kindOf (now plan) node ≡ 1) × Tables (now plan) (now lengths) (now waits)) ⌝ }
     ensures { λ r. ⌜ Worked (now (plan .entry)) (now (lengths .entry)) (now (waits .entry)) (now (lengths .exit)) (now (waits .exit)) node ⌝ }
 {
@@ -126,12 +117,7 @@ pub fn all_length(
 }
 
 // Works out an any-of group and all groups under it.
-pub fn any_length(
-    plan: &[u8],
-    lengths: &mut [u32; 128],
-    waits: &mut [u32; 128],
-    node: usize,
-)
+pub fn any_length(plan: &[u8], lengths: &mut [u32; 128], waits: &mut [u32; 128], node: usize)
     requires { ⌜ ((refusal (now plan) ≡ 0) × (node < nodeCount (now plan))) × ((kindOf (now plan) node ≡ 2) × Tables (now plan) (now lengths) (now waits)) ⌝ }
     ensures { λ r. ⌜ Worked (now (plan .entry)) (now (lengths .entry)) (now (waits .entry)) (now (lengths .exit)) (now (waits .exit)) node ⌝ }
 {

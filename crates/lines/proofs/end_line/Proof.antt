@@ -3,7 +3,6 @@ use Rattle.decimals.proofs.Written.{wrote-long, wrote-then, wrote-same}
 use Rattle.lines.proofs.Text.{ending-length, ending-is}
 use native.Mathlib.Omega.{arith}
 use borrow.Author.Needs.{needs}
-use borrow.Author.Needs.{needs}
 use Rattle.lines.proofs.end_line.Statement.{statement}
 use Rattle.lines.proofs.end_line.Tie as tie
 

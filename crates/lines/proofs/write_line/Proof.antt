@@ -8,7 +8,6 @@ use Rattle.lines.specs.Lines.{ending}
 use Rattle.lines.proofs.Text.{name-length, line-length, line-limit, line-is}
 use native.Mathlib.Omega.{arith}
 use borrow.Author.Needs.{needs}
-use borrow.Author.Needs.{needs}
 use Rattle.lines.proofs.write_line.Statement.{statement}
 use Rattle.lines.proofs.write_line.Tie as tie
 

@@ -5,7 +5,6 @@ use Rattle.lines.proofs.Text.{name-bytes}
 use Prim.Native.Nat.{_+_, _-_, _*_}
 use native.Mathlib.Omega.{arith}
 use borrow.Author.Needs.{needs}
-use borrow.Author.Needs.{needs}
 use Rattle.lines.proofs.write_name.Statement.{statement}
 use Rattle.lines.proofs.write_name.Tie as tie
 

@@ -1,7 +1,6 @@
 -- `listing` meets its contract. Assumes nothing.
 use Rattle.listing.proofs.Answers.{lists-refused, lists-short, lists-text, answer-number, answer-verdict}
 use borrow.Author.Needs.{needs}
-use borrow.Author.Needs.{needs}
 use Rattle.listing.proofs.listing.Statement.{statement}
 use Rattle.listing.proofs.listing.Tie as tie
 

@@ -7,7 +7,6 @@ use Rattle.listing.proofs.Text.{refused-is}
 use Rattle.listing.proofs.Answers.{text-answered, refused-answered, prints}
 use native.Mathlib.Omega.{arith}
 use borrow.Author.Needs.{needs}
-use borrow.Author.Needs.{needs}
 use Rattle.listing.proofs.print.Statement.{statement}
 use Rattle.listing.proofs.print.Tie as tie
 

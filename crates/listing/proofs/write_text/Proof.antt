@@ -10,7 +10,6 @@ use Rattle.listing.specs.Text.{letters}
 use Rattle.listing.proofs.Text.{letters-limit, root-limit, text-is}
 use native.Mathlib.Omega.{arith}
 use borrow.Author.Needs.{needs}
-use borrow.Author.Needs.{needs}
 use Rattle.listing.proofs.write_text.Statement.{statement}
 use Rattle.listing.proofs.write_text.Tie as tie
 
@@ -26,8 +25,7 @@ write-lines-requires c κs =
     let s = c .before .before .before .before .before .before .before .before .before .before .before .before .before .before .before .before .before .before .before .before in
     let w = c .before .before .before .before .before .before .before .before .before .write-word .ensures in
     let l = c .before .before .before .before .before .end-line .ensures in
-    let e = ap (λ (x : ℕ). length (ending x)) (c .before .before .before .before .before .before .before .before .before .before .before .before .before .before .before .longest-waits .ensures .1) in
-    (
+    let e = ap (λ (x : ℕ). length (ending x)) (c .before .before .before .before .before .before .before .before .before .before .before .before .before .before .before .longest-waits .ensures .1) in (
       s .pre .0,
       c .before .before .before .before .before .before .before .before .before .before .before .before .before .before .before .longest-waits .ensures .0,
       c .before .before .before .before .before .before .before .before .before .before .before .rank .ensures,

@@ -5,7 +5,6 @@ use Rattle.summary.specs.Verdict.{wordOf}
 use Rattle.decimals.proofs.Written.{wrote-same}
 use Rattle.listing.specs.Text.{letters}
 use borrow.Author.Needs.{needs}
-use borrow.Author.Needs.{needs}
 use Rattle.listing.proofs.write_word.Statement.{statement}
 use Rattle.listing.proofs.write_word.Tie as tie
 

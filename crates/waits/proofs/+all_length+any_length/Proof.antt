@@ -2,13 +2,13 @@
 -- Assumes nothing.
 use mathlib.Core.Path.{_≡_, sym, _∙_}
 use mathlib.Core.Logic.{⊎-elim}
-use Prim.Native.Nat.{ℕ, _+_, _-_, _<_, _≤_}
+use Prim.Native.Nat.{ℕ, _-_, _<_, _≤_}
 use native.Mathlib.Omega.{arith}
 use borrow.Author.Needs.{needs}
 use denote.Ref.{now}
 use Rattle.format.specs.Format.{nodeCount}
 use Rattle.plan.proofs.Accepted.{clean}
-use Rattle.waits.proofs.Filling.{a-child, ChildrenTo, children-none, children-other, children-group, children-task, child-lengths, all-worked, any-worked}
+use Rattle.waits.proofs.Filling.{ChildrenTo, children-none, children-other, children-group, children-task, child-lengths, all-worked, any-worked}
 use borrow.Fn.Kinds.{In}
 use borrow.Fn.PlainCycle.{Measures, is, falls, and}
 use Rattle.waits.proofs.all_length.Reads as all-length
@@ -63,8 +63,7 @@ all-length-add-c t c = omega (arith, clean _ (c .before .before .pre .1 .0 .0) .
 all-length-loop-holds : (t : ℕ) → all-length-lts.Need-loop-holds (all-length-claims t) (all-length-at t) all-length.Post all-length-Inv-loop all-length-μ-loop
 all-length-loop-holds t c =
     let s = c .before .before in
-    let ok = clean _ (s .pre .1 .0 .0) in
-    (
+    let ok = clean _ (s .pre .1 .0 .0) in (
       (c .nodes .ensures, omega (arith, ok .fits .limits .nodes, c .nodes .ensures)),
       ((omega arith, omega (arith, s .pre .1 .0 .1, c .nodes .ensures)), children-none (s .pre .1 .0 .0) (s .pre .1 .1 .1)),
     )
@@ -94,18 +93,17 @@ all-length-loop-again t c =
     let l = c .before .before .before .before in
     let s = l .before .before .before in
     let ok = clean _ (s .pre .1 .0 .0) in
-    let e = c .before .wide .ensures .0 ∙ c .before .before .parent .ensures in
-    (
+    let e = c .before .wide .ensures .0 ∙ c .before .before .parent .ensures in (
       l .loop .inv .0,
       (
         omega arith,
         ⊎-elim (λ w. children-group (s .pre .1 .0 .0) (w .5 .ensures) (w .6) (w .7) (l .loop .inv .1 .1))
-        (⊎-elim (λ w. children-group (s .pre .1 .0 .0) (w .6 .ensures) (w .7) (w .8) (l .loop .inv .1 .1))
-        (⊎-elim
-        (λ w.
-        children-task (s .pre .1 .0 .0) (omega arith) (λ z. w .2 .left (w .1 .ensures ∙ z)) (λ z. w .3 .left (w .1 .ensures ∙ z)) (w .4) (w .5) (l .loop .inv .1 .1))
-        (λ w. children-other (s .pre .1 .0 .0) (λ z. w .0 .left (e ∙ z)) (w .1) (w .2) (l .loop .inv .1 .1))))
-        (c .if1 .came),
+            (⊎-elim (λ w. children-group (s .pre .1 .0 .0) (w .6 .ensures) (w .7) (w .8) (l .loop .inv .1 .1))
+            (⊎-elim
+            (λ w.
+            children-task (s .pre .1 .0 .0) (omega arith) (λ z. w .2 .left (w .1 .ensures ∙ z)) (λ z. w .3 .left (w .1 .ensures ∙ z)) (w .4) (w .5) (l .loop .inv .1 .1))
+            (λ w. children-other (s .pre .1 .0 .0) (λ z. w .0 .left (e ∙ z)) (w .1) (w .2) (l .loop .inv .1 .1))))
+            (c .if1 .came),
       ),
     )
 
@@ -148,8 +146,7 @@ any-length-add-c t c = omega (arith, clean _ (c .before .before .pre .1 .0 .0) .
 any-length-loop-holds : (t : ℕ) → any-length-lts.Need-loop-holds (any-length-claims t) (any-length-at t) any-length.Post any-length-Inv-loop any-length-μ-loop
 any-length-loop-holds t c =
     let s = c .before .before in
-    let ok = clean _ (s .pre .1 .0 .0) in
-    (
+    let ok = clean _ (s .pre .1 .0 .0) in (
       (c .nodes .ensures, omega (arith, ok .fits .limits .nodes, c .nodes .ensures)),
       ((omega arith, omega (arith, s .pre .1 .0 .1, c .nodes .ensures)), children-none (s .pre .1 .0 .0) (s .pre .1 .1 .1)),
     )
@@ -179,18 +176,17 @@ any-length-loop-again t c =
     let l = c .before .before .before .before in
     let s = l .before .before .before in
     let ok = clean _ (s .pre .1 .0 .0) in
-    let e = c .before .wide .ensures .0 ∙ c .before .before .parent .ensures in
-    (
+    let e = c .before .wide .ensures .0 ∙ c .before .before .parent .ensures in (
       l .loop .inv .0,
       (
         omega arith,
         ⊎-elim (λ w. children-group (s .pre .1 .0 .0) (w .5 .ensures) (w .6) (w .7) (l .loop .inv .1 .1))
-        (⊎-elim (λ w. children-group (s .pre .1 .0 .0) (w .6 .ensures) (w .7) (w .8) (l .loop .inv .1 .1))
-        (⊎-elim
-        (λ w.
-        children-task (s .pre .1 .0 .0) (omega arith) (λ z. w .2 .left (w .1 .ensures ∙ z)) (λ z. w .3 .left (w .1 .ensures ∙ z)) (w .4) (w .5) (l .loop .inv .1 .1))
-        (λ w. children-other (s .pre .1 .0 .0) (λ z. w .0 .left (e ∙ z)) (w .1) (w .2) (l .loop .inv .1 .1))))
-        (c .if1 .came),
+            (⊎-elim (λ w. children-group (s .pre .1 .0 .0) (w .6 .ensures) (w .7) (w .8) (l .loop .inv .1 .1))
+            (⊎-elim
+            (λ w.
+            children-task (s .pre .1 .0 .0) (omega arith) (λ z. w .2 .left (w .1 .ensures ∙ z)) (λ z. w .3 .left (w .1 .ensures ∙ z)) (w .4) (w .5) (l .loop .inv .1 .1))
+            (λ w. children-other (s .pre .1 .0 .0) (λ z. w .0 .left (e ∙ z)) (w .1) (w .2) (l .loop .inv .1 .1))))
+            (c .if1 .came),
       ),
     )
 

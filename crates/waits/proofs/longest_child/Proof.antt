@@ -38,17 +38,16 @@ loop-again c =
     let l = c .before .before .before .before in
     let s = l .before .before .before in
     let ok = clean _ (s .pre .0) in
-    let e = c .before .wide .ensures .0 ∙ c .before .before .parent .ensures in
-    (
+    let e = c .before .wide .ensures .0 ∙ c .before .before .parent .ensures in (
       l .loop .inv .0,
       (
         omega arith,
         ⊎-elim
-        (λ w.
-        let h = a-child ok {g = s .args .node} (l .loop .inv .1 .0 .0) (omega arith) e (w .0 .taken) in
-        greatest-turn ok h (s .pre .3 .is (l .loop .c) h) (w .3 ∙ w .2 .ensures) (l .loop .inv .1 .1))
-        (λ w. greatest-pass ok (λ z. w .0 .left (e ∙ z)) (w .1) (l .loop .inv .1 .1))
-        (c .if1 .came),
+            (λ w.
+            let h = a-child ok {g = s .args .node} (l .loop .inv .1 .0 .0) (omega arith) e (w .0 .taken) in
+            greatest-turn ok h (s .pre .3 .is (l .loop .c) h) (w .3 ∙ w .2 .ensures) (l .loop .inv .1 .1))
+            (λ w. greatest-pass ok (λ z. w .0 .left (e ∙ z)) (w .1) (l .loop .inv .1 .1))
+            (c .if1 .came),
       ),
     )
 

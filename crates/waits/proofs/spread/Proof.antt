@@ -51,19 +51,18 @@ loop-again c =
     let l = c .before .before .before .before in
     let s = l .before .before .before in
     let ok = clean _ (s .pre .0) in
-    let e = c .before .wide .ensures .0 ∙ c .before .before .parent .ensures in
-    (
+    let e = c .before .wide .ensures .0 ∙ c .before .before .parent .ensures in (
       l .loop .inv .0,
       (
         omega arith,
         ⊎-elim
-        (λ w.
-        let h = a-child ok {g = s .args .node} (l .loop .inv .1 .0 .0) (omega arith) e (w .0 .taken) in
-        let x = spread-wait ok (s .pre .2) h (l .loop .inv .1 .1) in
-        let y = s .pre .4 .is (l .loop .c) h in
-        spread-child ok (s .pre .2) h (rw (x, y)) (w .4 .ensures) (w .6) (w .7 ∙ w .5 .ensures) (l .loop .inv .1 .1))
-        (λ w. spread-other ok (s .pre .2) (λ z. w .0 .left (e ∙ z)) (w .1) (w .2) (l .loop .inv .1 .1))
-        (c .if1 .came),
+            (λ w.
+            let h = a-child ok {g = s .args .node} (l .loop .inv .1 .0 .0) (omega arith) e (w .0 .taken) in
+            let x = spread-wait ok (s .pre .2) h (l .loop .inv .1 .1) in
+            let y = s .pre .4 .is (l .loop .c) h in
+            spread-child ok (s .pre .2) h (omega (arith, x, y)) (w .4 .ensures) (w .6) (w .7 ∙ w .5 .ensures) (l .loop .inv .1 .1))
+            (λ w. spread-other ok (s .pre .2) (λ z. w .0 .left (e ∙ z)) (w .1) (w .2) (l .loop .inv .1 .1))
+            (c .if1 .came),
       ),
     )
 

@@ -3,7 +3,6 @@ use mathlib.Core.Path.{sym, _∙_}
 use Rattle.plan.proofs.Accepted.{clean}
 use Rattle.waits.proofs.Filling.{root-worked, root-task}
 use borrow.Author.Needs.{needs}
-use borrow.Author.Needs.{needs}
 use Rattle.waits.proofs.work_out.Statement.{statement}
 use Rattle.waits.proofs.work_out.Tie as tie
 
