@@ -116,8 +116,7 @@ leading-in (suc k) n l =
     (λ (q : n < 10). rw (decimal-digit n q) (omega arith, λ e. omega arith))
     (λ q.
     let w = leading-in k (n / 10) (omega arith) in
-    rw (decimal-more n (omega arith))
-    (
+    rw (decimal-more n (omega arith)) (
       omega (arith, length-append (decimal (n / 10)) ((48 + n % 10) ∷ [])),
       λ e. let z = w .1 (sym (List·getD-append (decimal (n / 10)) ((48 + n % 10) ∷ []) 0 0 (w .0)) ∙ e) in absurd (omega arith),
     ))
