@@ -7,34 +7,23 @@ use Rattle.format.specs.Format.{nodeCount}
 use Rattle.rules.specs.Rules.{refusal}
 use Rattle.plan.specs.Meaning.{planOf, startOf}
 use Rattle.runs.specs.Execution.{Event}
-use Rattle.runs.specs.Calls.{Call, one, Answered, Worked}
+use Rattle.runs.specs.Calls.{Call, one, Worked}
 use Rattle.runs.specs.Calls as runs
-use Rattle.runs.proofs.Calls.First.{answered}
 use Rattle.state.specs.State.{stateRefusal, roomRefusal, worldOf}
 use Rattle.state.specs.Fresh.{freshState}
 use Rattle.state.proofs.Refused.{room-long}
 use Rattle.state.proofs.Shown.{fresh-started}
-use Rattle.progress.proofs.Sound.{well-formed}
 use Rattle.monitor.specs.Events.{eventReturn, eventState, Called}
 use Rattle.monitor.proofs.Events.{event-steps}
+use Rattle.monitor.proofs.Called.{called}
 use Rattle.calls.specs.Lists.{Calls, no-calls, next-call, Listed, Parted}
 use Rattle.calls.specs.Demand3.{Bytes, Follows}
 use Rattle.calls.proofs.Kept.{Kept, fresh-kept, event-kept, shown-is}
 
 module _ (b : List ℕ) where
-  -- a call on a state that passes all checks
-  pub record Moved (s : List ℕ) (e : Event) (r : ℕ) (s′ : List ℕ) : Type 0 where
-    pub well-formed : stateRefusal b s′ ≡ 0
-    pub answers : Answered (planOf b) (worldOf b s) (one e) r (worldOf b s′)
-
-  pub called-moves : (s : List ℕ) (e : Event) (r : ℕ) (s′ : List ℕ) → stateRefusal b s ≡ 0 → Called b s e r s′ → Moved s e r s′
-  unfolding eventReturn
-  called-moves s e r s′ ok c =
-      let w = event-steps b s ok e in
-      record {
-        well-formed = ap (stateRefusal b) (c .leaves) ∙ w .well-formed;
-        answers = rw (c .returns, c .leaves, w .shows, ok) (answered (planOf b) (well-formed b s ok) (worldOf b s) (one e));
-      }
+  -- a call leaves a state that passes all checks as one that does
+  called-well : {s s′ : List ℕ} {e : Event} {r : ℕ} → stateRefusal b s ≡ 0 → Called b s e r s′ → stateRefusal b s′ ≡ 0
+  called-well {s} {e = e} ok c = ap (stateRefusal b) (c .leaves) ∙ event-steps b s ok e .well-formed
 
   -- the calls of a list after a state s, which keeps what s₀ has
   record Walked (s₀ s : List ℕ) (cs : List Call) (rs z : List ℕ) : Type 0 where
@@ -44,10 +33,9 @@ module _ (b : List ℕ) where
 
   walked : (s₀ : List ℕ) {s z : List ℕ} {cs : List Call} {rs : List ℕ} → stateRefusal b s ≡ 0 → Kept b s₀ s → Calls b s cs rs z → Walked s₀ s cs rs z
   walked s₀ ok k no-calls = record { well-formed = ok; worked = runs.no-calls; kept = k }
-  walked s₀ ok k (next-call {s = s} {s′ = s′} {e = e} {r = r} c x) =
-      let m = called-moves s e r s′ ok c in
-      let w = walked s₀ (m .well-formed) (rw (c .leaves) (event-kept b s₀ s ok k e)) x in
-      record { well-formed = w .well-formed; worked = runs.next-call (m .answers) (w .worked); kept = w .kept }
+  walked s₀ ok k (next-call {s = s} {e = e} c x) =
+      let w = walked s₀ (called-well ok c) (rw (c .leaves) (event-kept b s₀ s ok k e)) x in
+      record { well-formed = w .well-formed; worked = runs.next-call (c .answered ok) (w .worked); kept = w .kept }
 
   pub list-follows : Bytes b → (s : List ℕ) (cs : List Call) (rs z : List ℕ) → Listed b s cs rs z → Follows b s cs rs z
   list-follows h s cs rs z x =
@@ -68,7 +56,7 @@ module _ (b : List ℕ) where
   make [] s = record { returns = []; leaves = s; made = no-calls }
   make (one e ∷ cs) s =
       let m = make cs (eventState b s e) in
-      record { returns = eventReturn b s e ∷ m .returns; leaves = m .leaves; made = next-call (record { returns = refl; leaves = refl }) (m .made) }
+      record { returns = eventReturn b s e ∷ m .returns; leaves = m .leaves; made = next-call (called b s e refl refl) (m .made) }
 
   pub list-made : refusal b ≡ 0 → (s : List ℕ) → 8 + nodeCount b ≤ length s → (cs : List Call) → (rs : List ℕ) × (z : List ℕ) × Listed b s cs rs z
   list-made acc s l cs =

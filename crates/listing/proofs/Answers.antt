@@ -10,14 +10,17 @@ use lib.Dec.{ltb}
 use lib.ListN.{length}
 use lib.Seq.{length-take-le}
 use borrow.Author.Tests.{lt-ltb, le-ltb, ne-eqb}
-use Rattle.answers.specs.Answers.{first, refusedOr}
-use Rattle.answers.proofs.First.{both-none}
+use Rattle.answers.specs.Answers.{refusedOr}
+use Rattle.answers.proofs.First.{first-some, both-none}
 use Rattle.rules.specs.Rules.{refusal}
 use Rattle.decimals.specs.Decimals.{written, Wrote}
 use Rattle.decimals.proofs.Written.{wrote-long, wrote-same}
 use Rattle.plan.specs.Meaning.{planOf, startOf}
 use Rattle.plan.proofs.Accepted.{clean}
+use Rattle.plan.proofs.Meaning.{means-well-formed}
+use Rattle.runs.specs.Verdict.{Judged}
 use Rattle.runs.specs.Model.Verdicts.{verdict}
+use Rattle.runs.proofs.Verdict.Exact.{verdict-exact}
 use Rattle.summary.specs.Verdict.{wordOf, said, answerOf, Assessed}
 use Rattle.summary.specs.declared.Verdict.{Verdict}
 use Rattle.summary.specs.declared.Answer.{Answer}
@@ -36,15 +39,15 @@ pub said-number : {A : Type 0} (r n : ℕ) (x : A) → inl n ≡ refusedOr r x �
 said-number zero n x e = absurd (let z : _≡_ {A = ℕ} 0 1 = cc in omega arith)
 said-number (suc r) n x e = (cc, λ z. omega arith)
 
+-- the computed verdict is the one that 01 defines
+told-verdict : (b : List ℕ) → refusal b ≡ 0 → Judged (planOf b) (startOf b) (verdict (planOf b) (startOf b))
+told-verdict b e = verdict-exact (planOf b) (means-well-formed b e) (startOf b) (verdict (planOf b) (startOf b)) .0 refl
+
 module _ (b out : List ℕ) where
   -- refused for the plan
   refused-first : (refusal b ≡ 0 → ⊥) → listingRefusal b out ≡ refusal b
   unfolding listingRefusal
-  refused-first h = go (refusal b) h
-    where
-      go : (r : ℕ) → (r ≡ 0 → ⊥) → first r (cond (ltb (length out) 2048) 15 0) ≡ r
-      go zero h = absurd (h refl)
-      go (suc r) h = refl
+  refused-first h = sym (first-some (refusal b) (cond (ltb (length out) 2048) 15 0) h)
 
   refused-short : refusal b ≡ 0 → length out < 2048 → listingRefusal b out ≡ 15
   unfolding listingRefusal
@@ -57,7 +60,7 @@ module _ (b out : List ℕ) where
   refused-is : (r n : ℕ) → listingRefusal b out ≡ r → n ≡ r → (r ≡ 0 → ⊥) → Lists b out (Refused n) out
   unfolding listedOf listingLeft
   refused-is zero n e q h = absurd (h refl)
-  refused-is (suc r) n e q h = record { answer = rw (e, q); bytes = rw (e, ne-eqb (suc r) 0 h) }
+  refused-is (suc r) n e q h = record { answer = rw (e, q); bytes = rw (e, ne-eqb (suc r) 0 h); judged = told-verdict b }
 
   pub lists-refused : {n : ℕ} → n ≡ refusal b → (refusal b ≡ 0 → ⊥) → Lists b out (Refused n) out
   lists-refused {n} e h = refused-is (refusal b) n (refused-first h) e h
@@ -79,7 +82,7 @@ module _ (b out : List ℕ) where
   lists-text {r} e l w =
       let z = refused-none e l in
       let q : r ≡ length (textOf b) = omega (arith, w .next) in
-      record { answer = rw (z, q); bytes = w .bytes ∙ sym (left-text z) }
+      record { answer = rw (z, q); bytes = w .bytes ∙ sym (left-text z); judged = told-verdict b }
 
   -- ---- what was answered where there is room
   printed-text : refusal b ≡ 0 → textOf b ≡ printed b

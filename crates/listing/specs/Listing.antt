@@ -8,6 +8,9 @@ use lib.Dec.{eqb, ltb}
 use lib.ListN.{length, take}
 use Rattle.answers.specs.Answers.{first, refusedOr}
 use Rattle.rules.specs.Rules.{refusal}
+use Rattle.plan.specs.Meaning.{planOf, startOf}
+use Rattle.runs.specs.Verdict.{Judged}
+use Rattle.runs.specs.Model.Verdicts.{verdict}
 use Rattle.decimals.specs.Decimals.{written, Wrote}
 use Rattle.listing.specs.Text.{textOf, printed}
 use Rattle.listing.specs.declared.Listed.{Listed}
@@ -32,6 +35,8 @@ listingLeft b out = cond (eqb (listingRefusal b out) 0) (written out 0 (textOf b
 pub record Lists (b out : List ℕ) (r : Listed) (out' : List ℕ) : Type 0 where
   pub answer : told r ≡ listedOf b out
   pub bytes : out' ≡ listingLeft b out
+  -- of an accepted plan: the verdict that the text tells is the one that 01 defines
+  pub judged : refusal b ≡ 0 → Judged (planOf b) (startOf b) (verdict (planOf b) (startOf b))
 
 -- a call wrote all that the program prints from the first byte, and answered how much of out' that is (the last part follows from the one before; `&out[..r]` asks for both)
 pub record Prints (b out out' : List ℕ) (r : ℕ) : Type 0 where

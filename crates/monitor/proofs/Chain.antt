@@ -30,7 +30,7 @@ use Rattle.conditions.specs.Conditions.{made, brokenAt}
 use Rattle.conditions.proofs.Refusals.{broken-is}
 use Rattle.monitor.specs.declared.Move.{Move}
 use Rattle.monitor.specs.declared.Move.the-variants.{Start, Finish}
-use Rattle.monitor.specs.Events.{eventOf, placeOf, treeRefusal, beginRefusal, withEvent, eventReturn, eventState, Called}
+use Rattle.monitor.specs.Events.{eventOf, placeOf, treeRefusal, beginRefusal, withEvent, eventReturn, eventState}
 
 -- ---- moves
 -- what does not depend on the task
@@ -196,17 +196,3 @@ module _ (b s : List ℕ) (e : Event) where
     pub accepted : asked ≡ 0 → (0 ≡ eventReturn b s e) × (written ≡ eventState b s e)
     unfolding eventReturn eventState
     accepted z = (rw (ok, z), rw (ok, z))
-
--- the same, by what the function has at hand
-pub called-16 : (b s : List ℕ) (e : Event) (r : ℕ) → r ≡ stateRefusal b s → (r ≡ 0 → ⊥) → Called b s e r s
-called-16 b s e r q n = let w = refused-16 b s e (λ z. n (q ∙ z)) in record { returns = q ∙ w .0; leaves = w .1 }
-
-pub called-22 : (b s : List ℕ) (e : Event) → stateRefusal b s ≡ 0 → (r : ℕ) → r ≡ returned (planOf b) (worldOf b s) (one e) → (r ≡ 0 → ⊥) → Called b s e r s
-called-22 b s e ok r q n = let w = refused-22 b s e ok (λ z. n (q ∙ z)) in record { returns = q ∙ w .0; leaves = w .1 }
-
-pub called-0 : (b s : List ℕ) (m : Move) (t : ℕ) → stateRefusal b s ≡ 0 → returned (planOf b) (worldOf b s) (one (eventOf m t)) ≡ 0
-    → (q : ℕ) → q ≡ placeNumber (placeOf (eventOf m 0)) → (x : ℕ) → x ≡ statusByte (statusOf (eventOf m 0)) → (s′ : List ℕ) → s′ ≡ withEvent b q t x s → Called b s (eventOf m t) 0 s′
-called-0 b s m t ok z q eq x ex s′ h =
-    let w = accepted b s (eventOf m t) ok z in
-    let y : withEvent b q t x s ≡ withEvent b (placeNumber (placeOf (eventOf m t))) (nodeOf (eventOf m t)) (statusByte (statusOf (eventOf m t))) s = rw (eq, ex, place-is m t, status-of m t, node-of m t) in
-    record { returns = w .0; leaves = h ∙ y ∙ w .1 }

@@ -1,3 +1,4 @@
 pub mod Chain
 pub mod Answers
 pub mod Events
+pub mod Called

@@ -8,7 +8,7 @@ use lib.Dec.{eqb}
 use Rattle.plan.specs.Meaning.{planOf, placeNumber}
 use Rattle.runs.specs.Plan.{Place, inc, post}
 use Rattle.runs.specs.Execution.{Event, start, finish, nodeOf, statusOf}
-use Rattle.runs.specs.Calls.{one, statusByte}
+use Rattle.runs.specs.Calls.{one, statusByte, Answered}
 use Rattle.runs.specs.Model.Monitor.{returned, branchBegunB, orderOpenB, preUnmetB}
 use Rattle.answers.specs.Answers.{first}
 use Rattle.state.specs.State.{stateRefusal, statusIn, flagShown, worldOf}
@@ -42,6 +42,8 @@ eventState b s e = cond (eqb (eventReturn b s e) 0) (withEvent b (placeNumber (p
 pub record Called (b s : List ℕ) (e : Event) (r : ℕ) (s′ : List ℕ) : Type 0 where
   pub returns : r ≡ eventReturn b s e
   pub leaves : s′ ≡ eventState b s e
+  -- on a state that passes 1 to 16, in 01's words: no refusal applies, 0, and the event happens; or the first that applies, and nothing does
+  pub answered : stateRefusal b s ≡ 0 → Answered (planOf b) (worldOf b s) (one e) r (worldOf b s′)
 
 -- two parts of the chain: 19 and 20; 19 to 21, which are asked of a start only
 unfoldable pub treeRefusal : List ℕ → List ℕ → ℕ → ℕ

@@ -7,7 +7,8 @@ use Rattle.runs.specs.Calls.{one}
 use Rattle.runs.specs.Model.Monitor.{returned}
 use Rattle.state.specs.State.{stateRefusal, worldOf}
 use Rattle.monitor.specs.Events.{eventOf}
-use Rattle.monitor.proofs.Chain.{node-of, answer-task, called-16, called-22, called-0}
+use Rattle.monitor.proofs.Chain.{node-of, answer-task}
+use Rattle.monitor.proofs.Called.{called-16, called-22, called-0}
 use borrow.Author.Needs.{needs}
 use Rattle.monitor.proofs.call.Statement.{statement}
 use Rattle.monitor.proofs.call.Tie as tie
