@@ -5,4 +5,3 @@ pub mod Execution
 pub mod Summary
 pub mod Verdict
 pub mod Calls
-pub mod Trials

@@ -6,12 +6,11 @@ use Rattle.rules.specs.Search.{someBelow}
 use Rattle.rules.specs.Rules.{cause1, cause2, cause3, badStart, cause4, badChar, cause5, badEntry, cause6, badParent, cause7, childless, cause8, badCondition, cause9, notBelow, notRising, cause10, bothSigns, cause11, postOf, noPost, cause12, isChild, badPair, badOrder, cause13, cause14, refusal}
 use Rattle.plan.specs.Meaning.{planOf, startOf, kindAt, conditionIs, hasCondition, signIn, orderIs, hasOrder}
 use Rattle.runs.specs.Model.Computing.{computing}
-use Rattle.runs.proofs.Trials.Tables.{sameList}
 use Rattle.calls.specs.Shown.{flagByte, shownByte}
 use Rattle.trials.specs.Written.{valueOf, two, twos, eight, names, nodes, conditionNodes, conditionValues, earlierNodes, laterNodes, bytesOf}
 use Rattle.trials.specs.Trial.{statusBytes, stateBytes, AllHold}
 use Rattle.trials.specs.Starred.{starred}
-use Rattle.trials.proofs.Tests.{showsB, leftB, holdsB, allHoldB, all-hold}
+use Rattle.trials.proofs.Tests.{sameList, showsB, leftB, holdsB, allHoldB, all-hold}
 
 -- every starred row of 01 holds
 pub starred-hold : AllHold starred

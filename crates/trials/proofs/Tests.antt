@@ -1,7 +1,7 @@
 -- A trial as one test that computes. Assumes nothing.
 use mathlib.Core.Path.{_≡_, refl, ap, _∙_}
 use mathlib.Core.Logic.{⊎-elim}
-use mathlib.Core.Bool.{Bool, true, decide}
+use mathlib.Core.Bool.{Bool, true, false, decide}
 use mathlib.Core.List.{List, [], _∷_}
 use Prim.Native.Nat.{ℕ, zero, suc, _+_, _<_}
 use native.Mathlib.Omega.{arith}
@@ -24,7 +24,6 @@ use Rattle.runs.specs.Model.Monitor.{returns, states}
 use Rattle.runs.specs.Model.Verdicts.{verdict}
 use Rattle.runs.proofs.Reflect.{Reflects, r-both, r-T, r-eq, r-lt, r-decide, r-all}
 use Rattle.runs.proofs.Summary.Exact.{marks-exact}
-use Rattle.runs.proofs.Trials.Tables.{sameList, same-list}
 use Rattle.runs.proofs.Calls.First.{worked-only}
 use Rattle.progress.proofs.Sound.{T-true, is-node}
 use Rattle.calls.specs.Shown.{shownByte}
@@ -45,6 +44,21 @@ overlay-same : (f g : ℕ → ℕ) (n : ℕ) (xs : List ℕ) → ((k : ℕ) → 
 unfolding overlay
 overlay-same f g zero xs h = refl
 overlay-same f g (suc n) xs h = rw (overlay-same f g n xs (λ k l. h k (omega arith)), h n (omega arith))
+
+-- ---- lists
+unfoldable pub sameList : List ℕ → List ℕ → Bool
+sameList [] [] = true
+sameList [] (y ∷ k) = false
+sameList (x ∷ l) [] = false
+sameList (x ∷ l) (y ∷ k) = both (eqb x y) (λ u. sameList l k)
+
+same-list : (l k : List ℕ) → T (sameList l k) → l ≡ k
+unfolding sameList
+same-list [] [] t = refl
+same-list [] (y ∷ k) t = absurd t
+same-list (x ∷ l) [] t = absurd t
+same-list (x ∷ l) (y ∷ k) t = let r : Reflects (both (eqb x y) (λ u. sameList l k)) ((x ≡ y) × T (sameList l k)) = r-both _ _ (r-eq _ _) (r-T _) in
+    let (e, u) = r .to t in let q = same-list l k u in rw (e, q)
 
 -- ---- the test
 unfoldable pub showsB : List ℕ → List Shown → Bool

@@ -1,5 +1,5 @@
 -- The first check that applies: its computation reflects 01's words, and one call has one return and one state after it.
-use Rattle.runs.proofs.Base.{_≡_, refl, sym, ap, _∙_, inl, inr, _⊎_, _↔_, Iff·trans, Bool, true, false, decide, Option, none, some, List, []}
+use Rattle.runs.proofs.Base.{_≡_, refl, sym, ap, _∙_, inl, inr, _⊎_, _↔_, Bool, true, false, decide, Option, none, some, List, []}
 use Rattle.runs.proofs.Base.{_∷_, _++_, ℕ, T, eqb}
 use Rattle.runs.specs.Tests.{either}
 use Rattle.runs.specs.Plan.{Plan, WellFormed}
@@ -105,15 +105,6 @@ module _ (p : Plan) (w : WellFormed p) (a : World) (c : Call) where
   pub refused-none : (refusalOf p a c ≡ none) ↔ None (Applies p a c) (checks c)
   unfolding refusalOf
   refused-none = none-is (Applies p a c) (appliesB p a c) (r-applies p w a c) (checks c)
-
-  -- a call returns the number of the first of its checks that applies, and 0 exactly if none does
-  pub returned-first : (r : Refusal) → (returned p a c ≡ number r) ↔ First (Applies p a c) r (checks c)
-  unfolding returned
-  returned-first r = Iff·trans (λ q. code-inj {o = refusalOf p a c} {x = some r} q, λ q. ap code q) (refused-first r)
-
-  pub returned-zero : (returned p a c ≡ 0) ↔ None (Applies p a c) (checks c)
-  unfolding returned
-  returned-zero = Iff·trans (λ q. code-inj {o = refusalOf p a c} {x = none} q, λ q. ap code q) refused-none
 
   -- what is computed for a call is what 01 says of it, and there is nothing else
   pub answered : Answered p a c (returned p a c) (step p a c)

@@ -1,8 +1,8 @@
 -- The computed verdict is the verdict; CLEAR and DOOMED exclude each other.
-use Rattle.runs.proofs.Base.{_≡_, refl, _⊎_, inl, inr, _↔_, Bool, true, false, not, ℕ, _<_}
+use Rattle.runs.proofs.Base.{_≡_, refl, _⊎_, inl, inr, _↔_, Bool, true, false, ℕ, _<_}
 use Rattle.runs.specs.Plan.{inc, Plan, WellFormed}
 use Rattle.runs.specs.Execution.{Event, History}
-use Rattle.runs.specs.Summary.{Clobbers, precondition, incondition, MayClobber, Mark, may-pre, must-pre, may-clobber, must-clobber, Marked}
+use Rattle.runs.specs.Summary.{Clobbers, precondition, incondition, MayClobber, Mark, may-pre, must-pre, may-clobber, must-clobber}
 use Rattle.runs.specs.Verdict.{Fails, Verdict, CLEAR, DOOMED, OPEN, Clear, Doomed, by-clobber, by-start, Judged}
 use Rattle.runs.specs.Model.Verdicts.{failsB, someLiteralB, mayFailB, mustFailB, judge, verdict}
 use Rattle.runs.proofs.Reflect.{clash, Reflects, r-map, decided, r-both, r-either, r-any, r-same}
