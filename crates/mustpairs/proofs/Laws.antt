@@ -12,7 +12,8 @@ use Rattle.bits.specs.Bits.{bit, ones, Says}
 use Rattle.bits.proofs.Says.{says-map, says-dec, says-self, says-and, says-or, says-not}
 use Rattle.runs.specs.Plan.{Plan, Node, Child, Before, WellFormed}
 use Rattle.runs.specs.Summary.{Must, ExternalPre, ExternalPost}
-use Rattle.runs.proofs.Summary.ByChildren.{must-pre-node, must-post-node}
+use Rattle.runs.proofs.Summary.Preconditions.{must-pre-is}
+use Rattle.runs.proofs.Summary.Postconditions.{must-post-is}
 use Rattle.words.specs.Tables.{signNum}
 use Rattle.words.specs.Columns.{avoid, quiet, covered, may-post, wordAt, Right}
 use Rattle.words.specs.Segments.{Some}
@@ -41,11 +42,11 @@ none-of {x = x} {y = y} l e a b = says-map (λ k. (λ h. k (inl h), λ h. k (inr
 -- the words of what must be required, and must be left
 module _ {p : Plan} (w : WellFormed p) {rows : List ℕ} {n : ℕ} (r : Right p rows n) (v : Bool) (s : ℕ) (e : s ≡ signNum v) {z : ℕ} (f : ℕ) (l : f < 64) where
   pub must-pre-says : Node p n → z ≡ bitXor (bitOr (wordAt rows n (1 + s)) (wordAt rows n (3 + s))) ones → Says z f (Must p n (ExternalPre p f v))
-  must-pre-says m q = says-map (Iff·symm (must-pre-node p w f v m)) (none-of {x = wordAt rows n (1 + s)} {y = wordAt rows n (3 + s)} l q
+  must-pre-says m q = says-map (Iff·symm (must-pre-is p w f v m)) (none-of {x = wordAt rows n (1 + s)} {y = wordAt rows n (3 + s)} l q
       (read r (quiet v) (1 + s) _ f (omega (arith, e)) refl l) (read r (covered v) (3 + s) _ f (omega (arith, e)) refl l))
 
   pub must-post-says : z ≡ bitXor (bitOr (wordAt rows n 0) (wordAt rows n (7 + (1 - s)))) ones → Says z f (Must p n (ExternalPost p f v))
-  must-post-says q = says-map (Iff·symm (must-post-node p w f v)) (none-of {x = wordAt rows n 0} {y = wordAt rows n (7 + (1 - s))} l q
+  must-post-says q = says-map (Iff·symm (must-post-is p f v)) (none-of {x = wordAt rows n 0} {y = wordAt rows n (7 + (1 - s))} l q
       (r .says avoid f l) (read r (may-post (not v)) (7 + (1 - s)) _ f (omega (arith, opposite v s e)) refl l))
 
 -- an equivalent on the right

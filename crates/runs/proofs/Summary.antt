@@ -1,5 +1,6 @@
 -- Laws of summary information.
 pub mod Events
+pub mod MayMust
 pub mod Quiet
 pub mod Meet
 pub mod Last
@@ -16,6 +17,7 @@ pub mod ByChildren
 pub mod ReflectClobber
 pub mod Exact
 pub use Events.*
+pub use MayMust.*
 pub use Quiet.*
 pub use Meet.*
 pub use Last.*

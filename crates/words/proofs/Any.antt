@@ -12,9 +12,9 @@ use Rattle.runs.specs.Summary.{TaskWith, ExternalPre, ExternalPost, Incondition
 use Rattle.runs.proofs.Reflect.{clash}
 use Rattle.runs.proofs.Plan.Trees.{Branch, branch, child-under, under-trans}
 use Rattle.runs.proofs.Summary.Events.{Neutral, Covers}
-use Rattle.runs.proofs.Summary.Quiet.{quiet-any}
+use Rattle.runs.proofs.Execution.Histories.{All}
 use Rattle.runs.proofs.Summary.Meet.{meet-any}
-use Rattle.runs.proofs.Summary.ByChildren.{may-any, must-any}
+use Rattle.runs.proofs.Summary.MayMust.{may-any, must-any}
 use Rattle.runs.proofs.Summary.Clobber.{clobber-any}
 use Rattle.runs.proofs.Summary.ReflectClobber.{must-clobber-any}
 use Rattle.words.specs.Tables.{signNum}
@@ -45,7 +45,7 @@ module _ (p : Plan) (w : WellFormed p) where
   module _ {n : ℕ} (k : p .tree .kind n ≡ any-of) (f : ℕ) where
     pub some-branch : (c : Column) → indexOf c < 17 → Fact p n f c ↔ ((b : ℕ) × Child p n b × Fact p b f c)
     some-branch avoid l = may-any p w (λ h. lastAsserted p h f ≡ none) k
-    some-branch (quiet v) l = quiet-any p w (Neutral p f v) k
+    some-branch (quiet v) l = may-any p w (All (Neutral p f v)) k
     some-branch (covered v) l = meet-any p w (Neutral p f v) (Covers p f v) k
     some-branch (may-pre v) l = may-any p w (ExternalPre p f v) k
     some-branch (may-post v) l = may-any p w (ExternalPost p f v) k

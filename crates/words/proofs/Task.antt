@@ -12,7 +12,8 @@ use Rattle.runs.proofs.Execution.Final.{under-task}
 use Rattle.runs.proofs.Summary.Events.{Neutral, Covers}
 use Rattle.runs.proofs.Summary.Quiet.{quiet-task}
 use Rattle.runs.proofs.Summary.Meet.{meet-task}
-use Rattle.runs.proofs.Summary.ByChildren.{whole, may-task, must-task, pre-task, post-task, inc-task}
+use Rattle.runs.proofs.Summary.ByChildren.{pre-task, post-task, inc-task}
+use Rattle.runs.proofs.Summary.MayMust.{whole, may-task, must-task}
 use Rattle.words.specs.Columns.{avoid, quiet, covered, may-pre, may-post, may-inc, must-inc, Fact}
 
 -- a condition has one sign or the other, or there is none
@@ -46,7 +47,7 @@ module _ (p : Plan) (w : WellFormed p) {n : ℕ} (k : p .tree .kind n ≡ task) 
     λ m. at (p .cond .sign post n f) refl ((may-task p w (λ h. lastAsserted p h f ≡ none) k) .0 m),
   )
     where
-      at : (o : Option Bool) → p .cond .sign post n f ≡ o → lastAsserted p (whole p w n) f ≡ none → p .cond .sign post n f ≡ none
+      at : (o : Option Bool) → p .cond .sign post n f ≡ o → lastAsserted p (whole n) f ≡ none → p .cond .sign post n f ≡ none
       at none e x = e
       at (some u) e x = let y : some u ≡ none = rw e at x in clash cc
 

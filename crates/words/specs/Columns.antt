@@ -34,7 +34,7 @@ indexOf (must-inc v) = 17 + signNum v
 indexOf (must-clobber v) = 19 + signNum v
 
 -- what a column says of node n and flag f. (Must precondition is 'neither quiet nor covered', must postcondition 'neither avoid nor may post of the
--- opposite': the theory's must-pre-node and must-post-node.)
+-- opposite': the theory's must-pre-is and must-post-is.)
 abbrev pub Fact : Plan → ℕ → ℕ → Column → Type 0
 Fact p n f avoid = May p n (λ h. lastAsserted p h f ≡ none)
 Fact p n f (quiet v) = MayQuiet p (Neutral p f v) n

@@ -1,48 +1,25 @@
--- The rules by children for the marks of the conditions, each exact. A task has one completed execution, and a choice those of its branches, so there a
--- mark is read off whatever property it is about; at an all-of group each has its rule. (Clobber and ReflectClobber have marks 6 and 7.)
-use Rattle.runs.proofs.Base.{_≡_, refl, _∙_, _⊎_, inl, inr, _↔_, Iff·trans, Bool, not, Option, none, some, [], _∷_, ℕ}
+-- The rules by children for the marks of the conditions, each exact: at a task its conditions, at an all-of group a rule for each mark. (At a choice the
+-- rule is the same for all of them: MayMust. Clobber and ReflectClobber have marks 6 and 7.)
+use Rattle.runs.proofs.Base.{_≡_, refl, _∙_, _⊎_, inl, inr, _↔_, Iff·trans, Bool, Option, none, some, [], _∷_, ℕ}
 use Rattle.runs.specs.Tests.{negate}
-use Rattle.runs.specs.Plan.{task, all-of, any-of, pre, inc, post, Plan, Node, Child, Before, WellFormed}
+use Rattle.runs.specs.Plan.{all-of, pre, inc, post, Plan, Node, Child, Before, WellFormed}
 use Rattle.runs.specs.Execution.{Event, start, finish, History, lastAssertedOf, lastAsserted, Earlier, now, then}
 use Rattle.runs.specs.Summary.{May, Must, ExternalPre, ExternalPost, Incondition}
 use Rattle.runs.specs.Model.Marks.{quietB, beginsIncB}
 use Rattle.runs.proofs.Reflect.{clash, Reflects, decided, r-negate}
 use Rattle.runs.proofs.Plan.{before-child, r-some-child}
-use Rattle.runs.proofs.Execution.{Anything, earlier-inv, earlier-nil, any-completed, completed-pick, task-ended, task-completed, picks-any}
-use Rattle.runs.proofs.Summary.Events.{Unasserted, PreOn, BeginsInc, Neutral, Covers, Asserts, r-begins-inc}
+use Rattle.runs.proofs.Execution.{Anything, earlier-inv, earlier-nil}
+use Rattle.runs.proofs.Summary.Events.{Unasserted, PreOn, BeginsInc, Asserts, r-begins-inc}
 use Rattle.runs.proofs.Summary.Inconditions.{incondition-begun, begun-incondition, may-inc-is-meet, must-inc-is}
 use Rattle.runs.proofs.Summary.Last.{last-all}
-use Rattle.runs.proofs.Summary.Meet.{MayMeet, meet-all}
-use Rattle.runs.proofs.Summary.Postconditions.{avoid-is-quiet, may-post-is-last, must-post-is}
-use Rattle.runs.proofs.Summary.Preconditions.{may-pre-is-meet, must-pre-is}
+use Rattle.runs.proofs.Summary.MayMust.{whole}
+use Rattle.runs.proofs.Summary.Meet.{meet-all}
+use Rattle.runs.proofs.Summary.Postconditions.{avoid-is-quiet, may-post-is-last}
+use Rattle.runs.proofs.Summary.Preconditions.{may-pre-is-meet}
 use Rattle.runs.proofs.Summary.Quiet.{MayQuiet, quiet-all, quiet-anything}
 use Rattle.runs.proofs.Summary.ReflectConditions.{r-quiet}
 
 module _ (p : Plan) (w : WellFormed p) where
-  -- a task: its one completed execution has the property
-  abbrev pub whole : ℕ → History
-  whole n = finish n ∷ start n ∷ []
-
-  module _ (P : History → Type 0) where
-    pub may-task : {n : ℕ} → p .tree .kind n ≡ task → May p n P ↔ P (whole n)
-    may-task {n} k = (λ m. rw (task-completed p w k (m .completed)) at (m .holds), λ x. record { history = whole n; completed = task-ended p w k; holds = x })
-
-    pub must-task : {n : ℕ} → p .tree .kind n ≡ task → Must p n P ↔ P (whole n)
-    must-task {n} k = (λ m. m (whole n) (task-ended p w k), λ x h y. rw (task-completed p w k y) x)
-
-    -- any-of: in some branch, in every branch
-    pub may-any : {n : ℕ} → p .tree .kind n ≡ any-of → May p n P ↔ ((c : ℕ) × Child p n c × May p c P)
-    may-any k = (
-      λ m. let (c, hc, x) = any-completed p w k (m .completed) in (c, hc, record { history = m .history; completed = x; holds = m .holds }),
-      λ x. record { history = x .2 .history; completed = completed-pick p w (picks-any k) (x .1) (x .2 .completed); holds = x .2 .holds },
-    )
-
-    pub must-any : {n : ℕ} → p .tree .kind n ≡ any-of → Must p n P ↔ ((c : ℕ) → Child p n c → Must p c P)
-    must-any k = (
-      λ m c hc h x. m h (completed-pick p w (picks-any k) hc x),
-      λ g h x. let (c, hc, y) = any-completed p w k x in g c hc h y,
-    )
-
   -- the events of a task's one completed execution
   one-of : (n : ℕ) {e : Event} {r : History} → Earlier (e ∷ r) (whole n) → (e ≡ finish n) ⊎ (e ≡ start n)
   one-of n {e} {r} q = at (earlier-inv q)
@@ -102,11 +79,6 @@ module _ (p : Plan) (w : WellFormed p) where
         λ x. (x .0, x .1, (may-pre-is-meet p w f v (x .1 .node)) .0 (x .2), λ a q. (avoid-is-quiet p f) .0 (x .3 a q)),
       ))
 
-      -- must need, at any node: neither quiet nor covered; all-of: every child is quiet; some child is covered and all that stands before it is quiet
-      pub must-pre-node : {n : ℕ} → Node p n
-          → Must p n (ExternalPre p f v) ↔ ((¬ MayQuiet p (Neutral p f v) n) × (¬ MayMeet p (Neutral p f v) (Covers p f v) n))
-      must-pre-node l = must-pre-is p w f v l
-
       -- may leave, all-of: some child may leave it, and all that stands after that child can avoid the flag
       pub may-post-all : {n : ℕ} → p .tree .kind n ≡ all-of
           → May p n (ExternalPost p f v) ↔ ((c : ℕ) × Child p n c × May p c (ExternalPost p f v) × ((b : ℕ) → Child p n b → Before p c b → Avoids b))
@@ -114,10 +86,6 @@ module _ (p : Plan) (w : WellFormed p) where
         λ x. (x .0, x .1, (may-post-is-last p f v) .1 (x .2), λ b hb q. (avoid-is-quiet p f) .1 (x .3 b hb q)),
         λ x. (x .0, x .1, (may-post-is-last p f v) .0 (x .2), λ b hb q. (avoid-is-quiet p f) .0 (x .3 b hb q)),
       ))
-
-      -- must leave, at any node: no completed execution avoids the flag, and the opposite may not be left
-      pub must-post-node : {n : ℕ} → Must p n (ExternalPost p f v) ↔ ((¬ Avoids n) × (¬ May p n (ExternalPost p f (not v))))
-      must-post-node = must-post-is p f v
 
       abbrev Without : Event → Type 0
       Without e = ¬ BeginsInc p f v e

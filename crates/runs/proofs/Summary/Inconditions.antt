@@ -56,7 +56,7 @@ module _ (p : Plan) (f : ℕ) (v : Bool) where
     must-inc-is {n} = (λ m q. never q (incondition-begun (m (q .history) (q .completed))), λ k h x. at k h x (look h))
       where
         never : (q : MayQuiet p (λ e. ¬ BeginsInc p f v e) n) → Begun (q .history) → ⊥
-        never q x = all-at (x .at) (q .quiet) (x .begins)
+        never q x = all-at (x .at) (q .holds) (x .begins)
 
         look : (h : History) → All (λ e. ¬ BeginsInc p f v e) h ⊎ Begun h
         look [] = inl all-nil
@@ -69,5 +69,5 @@ module _ (p : Plan) (f : ℕ) (v : Bool) where
 
         at : (¬ MayQuiet p (λ e. ¬ BeginsInc p f v e) n) → (h : History) → Completed p n h → All (λ e. ¬ BeginsInc p f v e) h ⊎ Begun h
             → Incondition p f v h
-        at k h x (inl a) = absurd (k (record { history = h; completed = x; quiet = a }))
+        at k h x (inl a) = absurd (k (record { history = h; completed = x; holds = a }))
         at k h x (inr y) = begun-incondition y

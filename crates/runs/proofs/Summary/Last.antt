@@ -1,12 +1,13 @@
 -- Last Q H: some completed execution has an event in H with only Q after it. Its rules by children.
-use Rattle.runs.proofs.Base.{_≡_, refl, ap, _∙_, sym, _⊎_, inl, inr, _↔_, _≢_, [], _∷_, _++_, append-nil, ℕ, arith, ℕ-discrete, T}
-use Rattle.runs.specs.Plan.{task, all-of, any-of, Plan, Child, Under, Before, direct, WellFormed}
+use Rattle.runs.proofs.Base.{_≡_, refl, ap, _∙_, sym, _⊎_, inl, inr, _↔_, Iff·trans, _≢_, [], _∷_, _++_, append-nil, ℕ, arith, ℕ-discrete, T}
+use Rattle.runs.specs.Plan.{task, all-of, Plan, Child, Under, Before, direct, WellFormed}
 use Rattle.runs.specs.Execution.{Event, start, finish, History, nodeOf, statusAfter, all-done, Complete, Execution, Completed}
+use Rattle.runs.specs.Summary.{May}
 use Rattle.runs.proofs.Plan.{Branch, one-branch, before-rank, before-trans, before-irrefl, decBefore}
 use Rattle.runs.proofs.Execution.{All, all-nil, all-cons, earlier-append, Anything, branch-of, part, part-nil, part-in, part-out}
 use Rattle.runs.proofs.Execution.{execution-last, earlier-execution, execution-under, part-append, part-other, part-all, part-completed}
-use Rattle.runs.proofs.Execution.{any-completed, completed-pick, complete-stays, extend-completed, Staged, stage, apart, task-ended}
-use Rattle.runs.proofs.Execution.{task-completed, picks-any}
+use Rattle.runs.proofs.Execution.{complete-stays, extend-completed, Staged, stage, apart}
+use Rattle.runs.proofs.Summary.MayMust.{whole, may-task}
 use Rattle.runs.proofs.Summary.Quiet.{MayQuiet, quiet-stage, quiet-anything}
 
 pub data LastIs (Q H : Event → Type 0) : History → Type 0 where
@@ -35,30 +36,21 @@ module _ {Q H : Event → Type 0} where
   last-over h (here x) = here x
   last-over h (past q l) = past q (last-over h l)
 
-pub record MayLast (p : Plan) (Q H : Event → Type 0) (n : ℕ) : Type 0 where
-  pub history : History
-  pub completed : Completed p n history
-  pub is : LastIs Q H history
+abbrev pub MayLast : Plan → (Q H : Event → Type 0) → ℕ → Type 0
+MayLast p Q H n = May p n (LastIs Q H)
 
 module _ (p : Plan) (w : WellFormed p) (Q H : Event → Type 0) where
   -- task: the finish is in H, or it is in Q and the start is in H
   pub last-task : {n : ℕ} → p .tree .kind n ≡ task → MayLast p Q H n ↔ (H (finish n) ⊎ (Q (finish n) × H (start n)))
-  last-task {n} k = (λ m. to (rw (task-completed p w k (m .completed)) at (m .is)), from)
+  last-task {n} k = Iff·trans (may-task p w (LastIs Q H) k) (to, from)
     where
-      to : LastIs Q H (finish n ∷ start n ∷ []) → H (finish n) ⊎ (Q (finish n) × H (start n))
+      to : LastIs Q H (whole n) → H (finish n) ⊎ (Q (finish n) × H (start n))
       to (here x) = inl x
       to (past q (here x)) = inr (q, x)
 
-      from : H (finish n) ⊎ (Q (finish n) × H (start n)) → MayLast p Q H n
-      from (inl x) = record { history = finish n ∷ start n ∷ []; completed = task-ended p w k; is = here x }
-      from (inr (q, x)) = record { history = finish n ∷ start n ∷ []; completed = task-ended p w k; is = past q (here x) }
-
-  -- any-of: some branch
-  pub last-any : {n : ℕ} → p .tree .kind n ≡ any-of → MayLast p Q H n ↔ ((c : ℕ) × Child p n c × MayLast p Q H c)
-  last-any {n} k = (
-    λ m. let (c, hc, x) = any-completed p w k (m .completed) in (c, hc, record { history = m .history; completed = x; is = m .is }),
-    λ x. record { history = x .2 .history; completed = completed-pick p w (picks-any k) (x .1) (x .2 .completed); is = x .2 .is },
-  )
+      from : H (finish n) ⊎ (Q (finish n) × H (start n)) → LastIs Q H (whole n)
+      from (inl x) = here x
+      from (inr (q, x)) = past q (here x)
 
   abbrev pub LastAll : ℕ → Type 0
   LastAll n = (c : ℕ) × Child p n c × MayLast p Q H c × ((b : ℕ) → Child p n b → Before p c b → MayQuiet p Q b)
@@ -70,7 +62,7 @@ module _ (p : Plan) (w : WellFormed p) (Q H : Event → Type 0) where
     record {
       history = part p w c (g ++ (e ∷ r));
       completed = part-completed p w k wh hc;
-      is = rw (part-append p w c g (e ∷ r), part-in p w c e r u) (last-past (part-all p w c q) (here x));
+      holds = rw (part-append p w c g (e ∷ r), part-in p w c e r u) (last-past (part-all p w c q) (here x));
     },
     quiet-after,
   )
@@ -97,7 +89,7 @@ module _ (p : Plan) (w : WellFormed p) (Q H : Event → Type 0) where
           record {
             history = part p w a (g ++ (e ∷ r));
             completed = part-completed p w k wh ha;
-            quiet = rw (part-append p w a g (e ∷ r), nil, append-nil (part p w a g)) (part-all p w a q);
+            holds = rw (part-append p w a g (e ∷ r), nil, append-nil (part p w a g)) (part-all p w a q);
           }
 
   -- some children of n run to their end, the others not begun, and in the whole an event in H has only Q after it
@@ -181,7 +173,7 @@ module _ (p : Plan) (w : WellFormed p) (Q H : Event → Type 0) where
     third : Staged p w Q n h₂ Later
     third = stage p w Q n k h₂ Later decLater
         (λ a ha x. let y = after a ha (x .0) (x .1) in
-        (y .history, rw (empty₂ a ha (λ e. not-self e (x .1)) (λ z. z .2 (x .1)), append-nil (y .history)) (y .completed), y .quiet))
+        (y .history, rw (empty₂ a ha (λ e. not-self e (x .1)) (λ z. z .2 (x .1)), append-nil (y .history)) (y .completed), y .holds))
         (λ a b ha hb x o. at a ha (closed a b (x .0) o) (position a)) (second .0)
       where
         at : (a : ℕ) → Child p n a → D a → Position a → Later a ⊎ Complete p (statusAfter h₂) a
@@ -196,7 +188,7 @@ module _ (p : Plan) (w : WellFormed p) (Q H : Event → Type 0) where
       execution = third .execution;
       got = λ a ha x. done-at a ha x (position a);
       kept = λ a ha x. third .kept a ha (λ y. x (y .0)) ∙ empty₂ a ha (λ e. x (rw e dd)) (λ y. x (y .0));
-      is = last-past (third .good) (last-over h₁ (m .is));
+      is = last-past (third .good) (last-over h₁ (m .holds));
     }
       where
         done-at : (a : ℕ) → Child p n a → D a → Position a → Complete p (statusAfter (third .more ++ h₂)) a
@@ -209,11 +201,11 @@ module _ (p : Plan) (w : WellFormed p) (Q H : Event → Type 0) where
   last-all-from {n} k (c, hc, m, after) = build (ending k (λ a. Unit {0}) (λ a. yes tt) (λ a b x o. tt) c hc tt m (λ b hb x q. after b hb q))
     where
       build : Ending n (λ a. Unit {0}) → MayLast p Q H n
-      build s = record { history = s .history; completed = record { execution = s .execution; complete = all-done k (λ a ha. s .got a ha tt) }; is = s .is }
+      build s = record { history = s .history; completed = record { execution = s .execution; complete = all-done k (λ a ha. s .got a ha tt) }; holds = s .is }
 
   -- all-of: some child ends with H, and all that stands after it is quiet
   pub last-all : {n : ℕ} → p .tree .kind n ≡ all-of → MayLast p Q H n ↔ LastAll n
   last-all {n} k = (
-    λ m. let a = last-at (m .is) in last-all-to (a .later) (a .event) (a .before) k (rw (a .splits) at (m .completed)) (a .hit) (a .quiet),
+    λ m. let a = last-at (m .holds) in last-all-to (a .later) (a .event) (a .before) k (rw (a .splits) at (m .completed)) (a .hit) (a .quiet),
     last-all-from k,
   )

@@ -63,7 +63,7 @@ module _ (p : Plan) (w : WellFormed p) (Q H : Event → Type 0) where
     λ a q. record {
       history = part p w a (m .before);
       completed = completed-before p w (m .event) (m .before) (b .child) (m .execution) (b .beneath) q;
-      quiet = part-all p w a (m .quiet);
+      holds = part-all p w a (m .quiet);
     },
   )
     where

@@ -27,15 +27,15 @@ module _ (p : Plan) (f : ℕ) where
   -- some completed execution does not assert the flag
   pub avoid-is-quiet : {n : ℕ} → May p n (λ h. lastAsserted p h f ≡ none) ↔ MayQuiet p (Unasserted p f) n
   avoid-is-quiet = (
-    λ m. record { history = m .history; completed = m .completed; quiet = unasserted-all p f (m .history) (m .holds) },
-    λ m. record { history = m .history; completed = m .completed; holds = all-unasserted p f (m .quiet) },
+    λ m. record { history = m .history; completed = m .completed; holds = unasserted-all p f (m .history) (m .holds) },
+    λ m. record { history = m .history; completed = m .completed; holds = all-unasserted p f (m .holds) },
   )
 
   -- may external postcondition: the literal is asserted last
   pub may-post-is-last : {n : ℕ} (v : Bool) → May p n (ExternalPost p f v) ↔ MayLast p (Unasserted p f) (Asserts p f v) n
   may-post-is-last {n} v = (
-    λ m. record { history = m .history; completed = m .completed; is = some-last v (m .history) (m .holds) },
-    λ m. record { history = m .history; completed = m .completed; holds = last-some (m .is) },
+    λ m. record { history = m .history; completed = m .completed; holds = some-last v (m .history) (m .holds) },
+    λ m. record { history = m .history; completed = m .completed; holds = last-some (m .holds) },
   )
 
   -- must external postcondition: no completed execution avoids the flag, none asserts the opposite last

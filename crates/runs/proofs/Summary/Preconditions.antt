@@ -63,7 +63,7 @@ module _ (p : Plan) (w : WellFormed p) (f : ℕ) (v : Bool) where
 
   -- must external precondition: no completed execution is neutral throughout, and none is neutral up to an event that covers the precondition
   pub must-pre-is : {n : ℕ} → Node p n → Must p n (ExternalPre p f v) ↔ ((¬ MayQuiet p (Neutral p f v) n) × (¬ MayMeet p (Neutral p f v) (Covers p f v) n))
-  must-pre-is {n} l = (λ m. (λ q. quiet-not (m (q .history) (q .completed)) (q .quiet), λ q. meet-not m q), from)
+  must-pre-is {n} l = (λ m. (λ q. quiet-not (m (q .history) (q .completed)) (q .holds), λ q. meet-not m q), from)
     where
       quiet-not : {h : History} → ExternalPre p f v h → All (Neutral p f v) h → ⊥
       quiet-not x a = (all-at (x .at) a) .0 (x .needs)
@@ -84,6 +84,6 @@ module _ (p : Plan) (w : WellFormed p) (f : ℕ) (v : Bool) where
       from (a, b) h wh = at (outcome h)
         where
           at : Outcome h → ExternalPre p f v h
-          at (all-neutral q) = absurd (a (record { history = h; completed = wh; quiet = q }))
+          at (all-neutral q) = absurd (a (record { history = h; completed = wh; holds = q }))
           at (needed x) = x
           at (covered e r q s al) = absurd (b (record { event = e; before = r; execution = earlier-execution p w q (wh .execution); hit = s; quiet = al }))

@@ -1,40 +1,29 @@
 -- Quiet Q: some completed execution has all its events in Q. Its rules by children.
-use Rattle.runs.proofs.Base.{_≡_, inl, _↔_, [], _∷_, _++_, append-nil, ℕ, T}
-use Rattle.runs.specs.Plan.{task, all-of, any-of, Plan, Child, WellFormed, Node}
-use Rattle.runs.specs.Execution.{Event, start, finish, History, all-done, none-yet, Completed}
+use Rattle.runs.proofs.Base.{_≡_, inl, _↔_, Iff·trans, [], _++_, append-nil, ℕ, T}
+use Rattle.runs.specs.Summary.{May}
+use Rattle.runs.proofs.Summary.MayMust.{whole, may-task}
+use Rattle.runs.specs.Plan.{task, all-of, Plan, Child, WellFormed, Node}
+use Rattle.runs.specs.Execution.{Event, start, finish, all-done, none-yet}
 use Rattle.runs.proofs.Execution.{All, all-nil, all-cons, all-append, Anything, all-anything, part, part-nil, part-all, part-completed}
-use Rattle.runs.proofs.Execution.{any-completed, completed-pick, Staged, stage, completed-execution, task-ended, task-completed, picks-any}
+use Rattle.runs.proofs.Execution.{Staged, stage, completed-execution}
 
-module _ (p : Plan) (Q : Event → Type 0) where
-  pub record MayQuiet (n : ℕ) : Type 0 where
-    pub history : History
-    pub completed : Completed p n history
-    pub quiet : All Q history
+abbrev pub MayQuiet : Plan → (Event → Type 0) → ℕ → Type 0
+MayQuiet p Q n = May p n (All Q)
 
 module _ (p : Plan) (w : WellFormed p) (Q : Event → Type 0) where
   -- task: start and finish are in Q
   pub quiet-task : {n : ℕ} → p .tree .kind n ≡ task → MayQuiet p Q n ↔ (Q (start n) × Q (finish n))
-  quiet-task {n} k = (
-    λ m. to (rw (task-completed p w k (m .completed)) at (m .quiet)),
-    λ q. record { history = finish n ∷ start n ∷ []; completed = task-ended p w k; quiet = all-cons (q .1) (all-cons (q .0) all-nil) },
-  )
+  quiet-task {n} k = Iff·trans (may-task p w (All Q) k) (to, λ q. all-cons (q .1) (all-cons (q .0) all-nil))
     where
-      to : All Q (finish n ∷ start n ∷ []) → Q (start n) × Q (finish n)
+      to : All Q (whole n) → Q (start n) × Q (finish n)
       to (all-cons b (all-cons a c)) = (a, b)
-
-  -- any-of: some branch is quiet
-  pub quiet-any : {n : ℕ} → p .tree .kind n ≡ any-of → MayQuiet p Q n ↔ ((c : ℕ) × Child p n c × MayQuiet p Q c)
-  quiet-any {n} k = (
-    λ m. let (c, hc, x) = any-completed p w k (m .completed) in (c, hc, record { history = m .history; completed = x; quiet = m .quiet }),
-    λ x. record { history = x .2 .history; completed = completed-pick p w (picks-any k) (x .1) (x .2 .completed); quiet = x .2 .quiet },
-  )
 
   -- a closed set of children can be completed from nothing, each quietly
   pub quiet-stage : {n : ℕ} → p .tree .kind n ≡ all-of → (D : ℕ → Type 0) → ((c : ℕ) → Dec (D c))
       → ((a b : ℕ) → Child p n a → Child p n b → D b → T (p .order a b) → D a)
       → ((c : ℕ) → Child p n c → D c → MayQuiet p Q c) → Staged p w Q n [] D
   quiet-stage {n} k D decD closed history = stage p w Q n k [] D decD
-      (λ c hc d. let m = history c hc d in (m .history, rw (part-nil p w c, append-nil (m .history)) (m .completed), m .quiet))
+      (λ c hc d. let m = history c hc d in (m .history, rw (part-nil p w c, append-nil (m .history)) (m .completed), m .holds))
       (λ a b ha hb db o. inl (closed a b ha hb db o)) none-yet
 
   -- all-of: every child is quiet
@@ -43,7 +32,7 @@ module _ (p : Plan) (w : WellFormed p) (Q : Event → Type 0) where
     λ m c hc. record {
       history = part p w c (m .history);
       completed = part-completed p w k (m .completed) hc;
-      quiet = part-all p w c (m .quiet);
+      holds = part-all p w c (m .holds);
     },
     λ r. build (quiet-stage k (λ c. Unit {0}) (λ c. yes tt) (λ a b ha hb d o. tt) (λ c hc d. r c hc)),
   )
@@ -55,9 +44,9 @@ module _ (p : Plan) (w : WellFormed p) (Q : Event → Type 0) where
           execution = s .execution;
           complete = all-done k (λ c hc. s .got c hc tt);
         };
-        quiet = all-append (s .good) all-nil;
+        holds = all-append (s .good) all-nil;
       }
 
 -- every node has a completed execution, of which nothing is asked
 pub quiet-anything : (p : Plan) (w : WellFormed p) (n : ℕ) → Node p n → MayQuiet p Anything n
-quiet-anything p w n l = let (h, x) = completed-execution p w n l in record { history = h; completed = x; quiet = all-anything h }
+quiet-anything p w n l = let (h, x) = completed-execution p w n l in record { history = h; completed = x; holds = all-anything h }

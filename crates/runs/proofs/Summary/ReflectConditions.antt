@@ -9,14 +9,15 @@ use Rattle.runs.specs.Model.Marks.{mustIncB}
 use Rattle.runs.specs.Model.Trees.{everyChildB}
 use Rattle.runs.proofs.Reflect.{Reflects, r-map, r-both, r-either, r-implies, r-negate, r-true}
 use Rattle.runs.proofs.Plan.{child-lt, before-child, r-by-kind, r-some-child, r-every-child, r-before}
-use Rattle.runs.proofs.Execution.{Anything}
+use Rattle.runs.proofs.Execution.{All, Anything}
 use Rattle.runs.proofs.Summary.Events.{r-unasserted, r-asserts, r-pre, r-begins-inc, r-neutral, r-covers}
 use Rattle.runs.proofs.Summary.Inconditions.{may-inc-is-meet, must-inc-is}
-use Rattle.runs.proofs.Summary.Last.{MayLast, last-task, last-any, last-all}
+use Rattle.runs.proofs.Summary.Last.{LastIs, MayLast, last-task, last-all}
+use Rattle.runs.proofs.Summary.MayMust.{may-any}
 use Rattle.runs.proofs.Summary.Meet.{MayMeet, meet-task, meet-any, meet-all}
 use Rattle.runs.proofs.Summary.Postconditions.{avoid-is-quiet, may-post-is-last, must-post-is}
 use Rattle.runs.proofs.Summary.Preconditions.{may-pre-is-meet, must-pre-is}
-use Rattle.runs.proofs.Summary.Quiet.{MayQuiet, quiet-task, quiet-any, quiet-all}
+use Rattle.runs.proofs.Summary.Quiet.{MayQuiet, quiet-task, quiet-all}
 
 module _ (p : Plan) (w : WellFormed p) where
   module _ (Q : Event → Type 0) (q : Event → Bool) (rq : (e : Event) → Reflects (q e) (Q e)) where
@@ -25,7 +26,7 @@ module _ (p : Plan) (w : WellFormed p) where
     r-quiet-in zero n l b = absurd (omega (arith, w .node-below n l))
     r-quiet-in (suc k) n l b = r-by-kind (p .tree .kind n) _ _ _ (λ kn. r-map (Iff·symm (quiet-task p w Q kn)) (r-both _ _ (rq _) (rq _)))
         (λ kn. r-map (Iff·symm (quiet-all p w Q kn)) (r-every-child p w (MayQuiet p Q) _ (λ c hc. r-quiet-in k c (hc .node) (omega (arith, child-lt p w hc)))))
-        (λ kn. r-map (Iff·symm (quiet-any p w Q kn)) (r-some-child p w (MayQuiet p Q) _ (λ c hc. r-quiet-in k c (hc .node) (omega (arith, child-lt p w hc)))))
+        (λ kn. r-map (Iff·symm (may-any p w (All Q) kn)) (r-some-child p w (MayQuiet p Q) _ (λ c hc. r-quiet-in k c (hc .node) (omega (arith, child-lt p w hc)))))
 
     pub r-quiet : (n : ℕ) → Node p n → Reflects (quietB p q n) (MayQuiet p Q n)
     unfolding quietB
@@ -62,7 +63,7 @@ module _ (p : Plan) (w : WellFormed p) where
           (λ kn. let e = last-all p w Q H kn in r-map (λ x. e .1 (x .0, x .1, x .2 .0, x .2 .1), λ y. let x = e .0 y in (x .0, x .1, (x .2, x .3)))
           (r-some-child p w (λ c. MayLast p Q H c × ((a : ℕ) → Child p n a → Before p c a → MayQuiet p Q a)) _
           (λ c hc. r-both _ _ (r-last-in k c (hc .node) (omega (arith, child-lt p w hc))) (r-others k n (Before p c) _ (r-before p w c) b))))
-          (λ kn. r-map (Iff·symm (last-any p w Q H kn))
+          (λ kn. r-map (Iff·symm (may-any p w (LastIs Q H) kn))
           (r-some-child p w (MayLast p Q H) _ (λ c hc. r-last-in k c (hc .node) (omega (arith, child-lt p w hc)))))
 
       pub r-last : (n : ℕ) → Node p n → Reflects (lastB p q m n) (MayLast p Q H n)
