@@ -6,6 +6,8 @@ pub mod Summary
 pub mod Verdict
 pub mod Calls
 pub mod Demand3
+-- What the rules by children are about.
+pub mod Classes
 -- What computes, proved to be the same.
 pub mod Tests
 pub mod Model

@@ -10,7 +10,7 @@ use Rattle.runs.specs.Execution.{Event, start, finish, nodeOf, asserts as signO
 use Rattle.runs.specs.Summary.{TaskWith, Silent}
 use Rattle.runs.proofs.Reflect.{clash}
 use Rattle.runs.proofs.Plan.Chains.{before-child}
-use Rattle.runs.proofs.Summary.Events.{Neutral, Covers}
+use Rattle.runs.specs.Classes.{Neutral, Covers}
 use Rattle.runs.proofs.Summary.Quiet.{quiet-all}
 use Rattle.runs.proofs.Summary.Meet.{meet-all}
 use Rattle.runs.proofs.Summary.ByChildren.{avoids-all, may-pre-all, may-post-all, may-inc-all, must-inc-all}

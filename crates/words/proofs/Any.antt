@@ -11,8 +11,7 @@ use Rattle.runs.specs.Execution.{lastAsserted}
 use Rattle.runs.specs.Summary.{TaskWith, ExternalPre, ExternalPost, Incondition}
 use Rattle.runs.proofs.Reflect.{clash}
 use Rattle.runs.proofs.Plan.Trees.{Branch, branch, child-under, under-trans}
-use Rattle.runs.proofs.Summary.Events.{Neutral, Covers}
-use Rattle.runs.proofs.Execution.Histories.{All}
+use Rattle.runs.specs.Classes.{All, Neutral, Covers}
 use Rattle.runs.proofs.Summary.Meet.{meet-any}
 use Rattle.runs.proofs.Summary.MayMust.{may-any, must-any}
 use Rattle.runs.proofs.Summary.Clobber.{clobber-any}

@@ -9,7 +9,7 @@ use Rattle.runs.specs.Execution.{start, finish, lastAssertedOf, lastAsserted}
 use Rattle.runs.specs.Summary.{TaskWith}
 use Rattle.runs.proofs.Reflect.{clash}
 use Rattle.runs.proofs.Execution.Final.{under-task}
-use Rattle.runs.proofs.Summary.Events.{Neutral, Covers}
+use Rattle.runs.specs.Classes.{Neutral, Covers}
 use Rattle.runs.proofs.Summary.Quiet.{quiet-task}
 use Rattle.runs.proofs.Summary.Meet.{meet-task}
 use Rattle.runs.proofs.Summary.ByChildren.{pre-task, post-task, inc-task}

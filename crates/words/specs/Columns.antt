@@ -9,9 +9,7 @@ use Rattle.bits.specs.Bits.{Says}
 use Rattle.runs.specs.Plan.{pre, inc, post, Plan}
 use Rattle.runs.specs.Execution.{lastAsserted}
 use Rattle.runs.specs.Summary.{May, Must, ExternalPre, ExternalPost, Incondition, MayClobber, TaskWith, MustClobber}
-use Rattle.runs.proofs.Summary.Events.{Neutral, Covers}
-use Rattle.runs.proofs.Summary.Quiet.{MayQuiet}
-use Rattle.runs.proofs.Summary.Meet.{MayMeet}
+use Rattle.runs.specs.Classes.{Neutral, Covers, MayQuiet, MayMeet}
 use Rattle.words.specs.Tables.{signNum}
 
 -- Each but the first is for a sign. `requires`: some task has the literal as pre- or incondition; `asserts`: as in- or postcondition. The last two are the

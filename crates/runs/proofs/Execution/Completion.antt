@@ -4,7 +4,8 @@ use Rattle.runs.specs.Plan.{Kind, task, all-of, any-of, Picks, Plan, its
 use Rattle.runs.specs.Execution.{Status, waiting, running, done, start, finish, History, statusAfter, task-done, all-done, any-done, can-start}
 use Rattle.runs.specs.Execution.{can-finish, Execution, none-yet, one-more, Completed}
 use Rattle.runs.proofs.Plan.{child-under, from-leaves}
-use Rattle.runs.proofs.Execution.Histories.{after-same, Anything, all-anything}
+use Rattle.runs.specs.Classes.{Anything}
+use Rattle.runs.proofs.Execution.Histories.{after-same, all-anything}
 use Rattle.runs.proofs.Execution.Locality.{own-ready}
 use Rattle.runs.proofs.Execution.Parts.{part, part-execution}
 use Rattle.runs.proofs.Execution.AnyOf.{pick-join, OneOf, through, pick-execution}

@@ -2,6 +2,7 @@
 use Rattle.runs.proofs.Base.{_≡_, refl, ap, _≢_, _⊎_, inl, inr, Bool, true, false, cond, [], _∷_, _++_, ℕ, T, eqb, eqb→eq, eqb-refl}
 use Rattle.runs.specs.Execution.{waiting, Event, History, nodeOf, statusOf, statusAfter, Earlier, now, then}
 use Rattle.runs.proofs.Reflect.{clash}
+use Rattle.runs.specs.Classes.{All, all-nil, all-cons, Anything}
 
 -- the states
 true-of : (b : Bool) → T b → b ≡ true
@@ -28,11 +29,6 @@ pub after-cong : (e : Event) (h k : History) (x : ℕ) → statusAfter h x ≡ s
 unfolding statusAfter
 after-cong e h k x q = ap (λ z. cond (eqb x (nodeOf e)) (statusOf e) z) q
 
--- every event of a list
-pub data All (Q : Event → Type 0) : History → Type 0 where
-  all-nil : All Q []
-  all-cons : {e : Event} {h : History} → Q e → All Q h → All Q (e ∷ h)
-
 module _ {Q : Event → Type 0} where
   pub all-append : {g h : History} → All Q g → All Q h → All Q (g ++ h)
   all-append all-nil b = b
@@ -51,10 +47,6 @@ module _ {Q : Event → Type 0} where
 
   pub all-at : {e : Event} {r h : History} → Earlier (e ∷ r) h → All Q h → Q e
   all-at q a = all-head (all-earlier q a)
-
--- no condition on the events
-abbrev pub Anything : Event → Type 0
-Anything e = Unit {0}
 
 pub all-anything : (h : History) → All Anything h
 all-anything [] = all-nil

@@ -3,7 +3,8 @@ use Rattle.runs.proofs.Base.{_≡_, refl, sym, ap, _∙_, _≢_, _↔_,
 use Rattle.runs.specs.Plan.{Plan, Child, Under, WellFormed}
 use Rattle.runs.specs.Execution.{Event, History, nodeOf, statusAfter, Complete, Enabled, Execution, none-yet, one-more, Earlier, now, then}
 use Rattle.runs.proofs.Plan.{one-branch, decUnder}
-use Rattle.runs.proofs.Execution.Histories.{after-other, after-cong, All, all-nil, all-cons}
+use Rattle.runs.specs.Classes.{All, all-nil, all-cons}
+use Rattle.runs.proofs.Execution.Histories.{after-other, after-cong}
 use Rattle.runs.proofs.Execution.Locality.{Agree, agree-sym, complete-local, enabled-local, enabled-under, enabled-down}
 
 abbrev keep : {A : Type 0} → Dec A → Event → History → History

@@ -3,7 +3,8 @@ use Rattle.runs.proofs.Base.{_≡_, refl, sym, _∙_, _⊎_, inl, inr, 
 use Rattle.runs.specs.Plan.{all-of, Plan, Child, WellFormed}
 use Rattle.runs.specs.Execution.{Event, History, statusAfter, Complete, Execution, Completed}
 use Rattle.runs.proofs.Plan.{decChild}
-use Rattle.runs.proofs.Execution.Histories.{All, all-nil, all-append, all-left}
+use Rattle.runs.specs.Classes.{All, all-nil}
+use Rattle.runs.proofs.Execution.Histories.{all-append, all-left}
 use Rattle.runs.proofs.Execution.Locality.{complete-local}
 use Rattle.runs.proofs.Execution.Parts.{part, after-part, execution-under, part-append, part-other}
 use Rattle.runs.proofs.Execution.Extension.{complete-stays, agree-append, extend}

@@ -8,15 +8,16 @@ use Rattle.runs.specs.Summary.{May, Must, ExternalPre, ExternalPost, Inc
 use Rattle.runs.specs.Model.Marks.{quietB, beginsIncB}
 use Rattle.runs.proofs.Reflect.{clash, Reflects, decided, r-negate}
 use Rattle.runs.proofs.Plan.{before-child, r-some-child}
-use Rattle.runs.proofs.Execution.{Anything, earlier-inv, earlier-nil}
-use Rattle.runs.proofs.Summary.Events.{Unasserted, PreOn, BeginsInc, Asserts, r-begins-inc}
+use Rattle.runs.specs.Classes.{Anything, Unasserted, Asserts, PreOn, BeginsInc, MayQuiet}
+use Rattle.runs.proofs.Execution.{earlier-inv, earlier-nil}
+use Rattle.runs.proofs.Summary.Events.{r-begins-inc}
 use Rattle.runs.proofs.Summary.Inconditions.{incondition-begun, begun-incondition, may-inc-is-meet, must-inc-is}
 use Rattle.runs.proofs.Summary.Last.{last-all}
 use Rattle.runs.proofs.Summary.MayMust.{whole}
 use Rattle.runs.proofs.Summary.Meet.{meet-all}
 use Rattle.runs.proofs.Summary.Postconditions.{avoid-is-quiet, may-post-is-last}
 use Rattle.runs.proofs.Summary.Preconditions.{may-pre-is-meet}
-use Rattle.runs.proofs.Summary.Quiet.{MayQuiet, quiet-all, quiet-anything}
+use Rattle.runs.proofs.Summary.Quiet.{quiet-all, quiet-anything}
 use Rattle.runs.proofs.Summary.ReflectConditions.{r-quiet}
 
 module _ (p : Plan) (w : WellFormed p) where

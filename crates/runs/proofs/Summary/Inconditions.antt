@@ -4,11 +4,10 @@ use Rattle.runs.specs.Plan.{Plan, Node, WellFormed}
 use Rattle.runs.specs.Execution.{Event, start, finish, History, Completed, Earlier, now, then}
 use Rattle.runs.specs.Summary.{May, Must, Incondition}
 use Rattle.runs.proofs.Reflect.{decided}
-use Rattle.runs.proofs.Execution.{after-same, All, all-nil, all-cons, Anything, all-anything, earlier-append, earlier-trans, all-at}
+use Rattle.runs.specs.Classes.{All, all-nil, all-cons, Anything, BeginsInc, MayQuiet, MayMeet}
+use Rattle.runs.proofs.Execution.{after-same, all-anything, earlier-append, earlier-trans, all-at}
 use Rattle.runs.proofs.Execution.{earlier-execution, Extended, extends, running-started}
-use Rattle.runs.proofs.Summary.Events.{BeginsInc, r-begins-inc}
-use Rattle.runs.proofs.Summary.Meet.{MayMeet}
-use Rattle.runs.proofs.Summary.Quiet.{MayQuiet}
+use Rattle.runs.proofs.Summary.Events.{r-begins-inc}
 
 module _ (p : Plan) (f : ℕ) (v : Bool) where
   -- an event of the history begins the incondition

@@ -1,18 +1,14 @@
--- Last Q H: some completed execution has an event in H with only Q after it. Its rules by children.
+-- Last (`MayLast`): its rules by children. At a choice it is `may-any`.
 use Rattle.runs.proofs.Base.{_≡_, refl, ap, _∙_, sym, _⊎_, inl, inr, _↔_, Iff·trans, _≢_, [], _∷_, _++_, append-nil, ℕ, arith, ℕ-discrete, T}
 use Rattle.runs.specs.Plan.{task, all-of, Plan, Child, Under, Before, direct, WellFormed}
 use Rattle.runs.specs.Execution.{Event, start, finish, History, nodeOf, statusAfter, all-done, Complete, Execution, Completed}
-use Rattle.runs.specs.Summary.{May}
 use Rattle.runs.proofs.Plan.{Branch, one-branch, before-rank, before-trans, before-irrefl, decBefore}
-use Rattle.runs.proofs.Execution.{All, all-nil, all-cons, earlier-append, Anything, branch-of, part, part-nil, part-in, part-out}
+use Rattle.runs.specs.Classes.{All, all-nil, all-cons, Anything, MayQuiet, LastIs, here, past, MayLast}
+use Rattle.runs.proofs.Execution.{earlier-append, branch-of, part, part-nil, part-in, part-out}
 use Rattle.runs.proofs.Execution.{execution-last, earlier-execution, execution-under, part-append, part-other, part-all, part-completed}
 use Rattle.runs.proofs.Execution.{complete-stays, extend-completed, Staged, stage, apart}
 use Rattle.runs.proofs.Summary.MayMust.{whole, may-task}
-use Rattle.runs.proofs.Summary.Quiet.{MayQuiet, quiet-stage, quiet-anything}
-
-pub data LastIs (Q H : Event → Type 0) : History → Type 0 where
-  here : {e : Event} {r : History} → H e → LastIs Q H (e ∷ r)
-  past : {e : Event} {r : History} → Q e → LastIs Q H r → LastIs Q H (e ∷ r)
+use Rattle.runs.proofs.Summary.Quiet.{quiet-stage, quiet-anything}
 
 pub record LastAt (Q H : Event → Type 0) (h : History) : Type 0 where
   pub later : History
@@ -35,9 +31,6 @@ module _ {Q H : Event → Type 0} where
   pub last-over : {g : History} (h : History) → LastIs Q H g → LastIs Q H (g ++ h)
   last-over h (here x) = here x
   last-over h (past q l) = past q (last-over h l)
-
-abbrev pub MayLast : Plan → (Q H : Event → Type 0) → ℕ → Type 0
-MayLast p Q H n = May p n (LastIs Q H)
 
 module _ (p : Plan) (w : WellFormed p) (Q H : Event → Type 0) where
   -- task: the finish is in H, or it is in Q and the start is in H

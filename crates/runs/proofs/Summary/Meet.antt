@@ -1,20 +1,13 @@
--- Meet Q H: some execution comes to an event in H with only Q before it. Its rules by children.
+-- Meet (`MayMeet`): its rules by children.
 use Rattle.runs.proofs.Base.{_≡_, _∙_, _⊎_, inl, inr, _↔_, [], _∷_, _++_, append-nil, ℕ, arith}
 use Rattle.runs.specs.Plan.{task, all-of, any-of, Plan, Child, Before, direct, chain, WellFormed}
-use Rattle.runs.specs.Execution.{Event, start, finish, History, nodeOf, statusAfter, Execution}
+use Rattle.runs.specs.Execution.{Event, start, finish, History, nodeOf, statusAfter}
 use Rattle.runs.proofs.Plan.{child-under, Branch, before-rank, decBefore}
-use Rattle.runs.proofs.Execution.{completed-before, All, all-nil, all-cons, all-append, branch-of, part, part-nil, part-in, part-execution}
+use Rattle.runs.specs.Classes.{All, all-nil, all-cons, MayQuiet, MayMeet}
+use Rattle.runs.proofs.Execution.{completed-before, all-append, branch-of, part, part-nil, part-in, part-execution}
 use Rattle.runs.proofs.Execution.{execution-last, part-all, pick-join, any-split, extend, Staged, TaskExecution, begun, ended, task-execution}
 use Rattle.runs.proofs.Execution.{task-begun, task-ended, picks-any}
-use Rattle.runs.proofs.Summary.Quiet.{MayQuiet, quiet-stage}
-
-module _ (p : Plan) (Q H : Event → Type 0) where
-  pub record MayMeet (n : ℕ) : Type 0 where
-    pub event : Event
-    pub before : History
-    pub execution : Execution p n (event ∷ before)
-    pub hit : H event
-    pub quiet : All Q before
+use Rattle.runs.proofs.Summary.Quiet.{quiet-stage}
 
 module _ (p : Plan) (w : WellFormed p) (Q H : Event → Type 0) where
   -- task: the start is in H, or it is in Q and the finish is in H

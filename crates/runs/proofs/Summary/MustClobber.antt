@@ -9,7 +9,8 @@ use Rattle.runs.proofs.Plan.{Branch, decUnder, decBefore}
 use Rattle.runs.proofs.Execution.{all-at, earlier-nil, earlier-inv, branch-of, enabled-of-task, part, part-nil, part-in, part-out}
 use Rattle.runs.proofs.Execution.{execution-tail, execution-last, earlier-execution, part-completed, any-completed, completed-execution, apart}
 use Rattle.runs.proofs.Execution.{completed-before}
-use Rattle.runs.proofs.Summary.Events.{Unasserted, unasserted-all}
+use Rattle.runs.specs.Classes.{Unasserted}
+use Rattle.runs.proofs.Summary.Events.{unasserted-all}
 
 -- in the history h a task with the precondition starts after a last assertion of its opposite
 pub record Fails (p : Plan) (f : ℕ) (v : Bool) (h : History) : Type 0 where

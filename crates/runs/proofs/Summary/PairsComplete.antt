@@ -6,11 +6,12 @@ use Rattle.runs.specs.Execution.{lastAsserted}
 use Rattle.runs.specs.Summary.{Clobbers, precondition, incondition, TaskWith, ClobberByPairs, in-child, unordered-pair, passed-on, MayClobber}
 use Rattle.runs.proofs.Reflect.{clash}
 use Rattle.runs.proofs.Plan.{child-under, Branch, branch, one-branch, before-irrefl, decBefore}
-use Rattle.runs.proofs.Execution.{after-nil, All, earlier-append, OfTask, enabled-of-task, all-of-rests, branch-of, part, part-in, part-out}
+use Rattle.runs.specs.Classes.{All, Unasserted, here}
+use Rattle.runs.proofs.Execution.{after-nil, earlier-append, OfTask, enabled-of-task, all-of-rests, branch-of, part, part-in, part-out}
 use Rattle.runs.proofs.Execution.{after-part, part-execution, execution-tail, execution-last, earlier-execution, part-append, part-all, apart}
 use Rattle.runs.proofs.Execution.{completed-before, running-moved, running-task, moved-under, none-runs}
-use Rattle.runs.proofs.Summary.Events.{Unasserted, all-unasserted}
-use Rattle.runs.proofs.Summary.Last.{here, last-at, last-past}
+use Rattle.runs.proofs.Summary.Events.{all-unasserted}
+use Rattle.runs.proofs.Summary.Last.{last-at, last-past}
 use Rattle.runs.proofs.Summary.Postconditions.{last-some, some-last}
 use Rattle.runs.proofs.Summary.Preconditions.{may-pre-is-meet}
 

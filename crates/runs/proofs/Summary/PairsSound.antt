@@ -5,12 +5,11 @@ use Rattle.runs.specs.Execution.{running, Event, start, finish, History,
 use Rattle.runs.specs.Summary.{Clobbers, precondition, incondition, Clobbered, TaskWith, May, ExternalPre, ExternalPost}
 use Rattle.runs.proofs.Reflect.{dec-or}
 use Rattle.runs.proofs.Plan.{one-branch, before-irrefl, decBefore}
-use Rattle.runs.proofs.Execution.{after-same, earlier-append, Anything, enabled-under, part, part-nil, after-part, execution-tail}
+use Rattle.runs.specs.Classes.{Anything, Unasserted, Asserts, PreOn, MayMeet, here}
+use Rattle.runs.proofs.Execution.{after-same, earlier-append, enabled-under, part, part-nil, after-part, execution-tail}
 use Rattle.runs.proofs.Execution.{execution-last, earlier-execution, execution-under, part-append, part-own, part-other, complete-stays}
 use Rattle.runs.proofs.Execution.{agree-append, extend, Staged, running-moved, moved-under}
-use Rattle.runs.proofs.Summary.Events.{Unasserted, Asserts, PreOn}
-use Rattle.runs.proofs.Summary.Last.{ending, Ending, last-past, here, last-over}
-use Rattle.runs.proofs.Summary.Meet.{MayMeet}
+use Rattle.runs.proofs.Summary.Last.{ending, Ending, last-past, last-over}
 use Rattle.runs.proofs.Summary.Postconditions.{last-some, some-last, may-post-is-last, avoid-is-quiet}
 use Rattle.runs.proofs.Summary.Preconditions.{may-pre-is-meet}
 use Rattle.runs.proofs.Summary.Quiet.{quiet-stage, quiet-anything}

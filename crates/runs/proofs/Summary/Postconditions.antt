@@ -4,9 +4,8 @@ use Rattle.runs.specs.Plan.{Plan}
 use Rattle.runs.specs.Execution.{History, Completed, lastAssertedOf, asserts, lastAsserted}
 use Rattle.runs.specs.Summary.{May, Must, ExternalPost}
 use Rattle.runs.proofs.Reflect.{clash}
-use Rattle.runs.proofs.Summary.Events.{Unasserted, unasserted-all, all-unasserted, Asserts}
-use Rattle.runs.proofs.Summary.Last.{LastIs, here, past, MayLast}
-use Rattle.runs.proofs.Summary.Quiet.{MayQuiet}
+use Rattle.runs.specs.Classes.{Unasserted, Asserts, MayQuiet, LastIs, here, past, MayLast}
+use Rattle.runs.proofs.Summary.Events.{unasserted-all, all-unasserted}
 
 module _ (p : Plan) (f : ℕ) where
   pub last-some : {v : Bool} {h : History} → LastIs (Unasserted p f) (Asserts p f v) h → lastAsserted p h f ≡ some v

@@ -4,10 +4,9 @@ use Rattle.runs.specs.Plan.{Plan, Node, WellFormed}
 use Rattle.runs.specs.Execution.{Event, History, Execution, Completed, asserts, Earlier, now, then}
 use Rattle.runs.specs.Summary.{May, Must, ExternalPre}
 use Rattle.runs.proofs.Reflect.{decided}
-use Rattle.runs.proofs.Execution.{All, all-nil, all-cons, earlier-append, earlier-compare, all-at, earlier-execution, Extended, extends}
-use Rattle.runs.proofs.Summary.Events.{r-pre, r-unasserted, Unasserted, PreOn, Neutral, Covers, unasserted-all, all-unasserted}
-use Rattle.runs.proofs.Summary.Meet.{MayMeet}
-use Rattle.runs.proofs.Summary.Quiet.{MayQuiet}
+use Rattle.runs.specs.Classes.{All, all-nil, all-cons, Unasserted, PreOn, Neutral, Covers, MayQuiet, MayMeet}
+use Rattle.runs.proofs.Execution.{earlier-append, earlier-compare, all-at, earlier-execution, Extended, extends}
+use Rattle.runs.proofs.Summary.Events.{r-pre, r-unasserted, unasserted-all, all-unasserted}
 
 module _ (p : Plan) (w : WellFormed p) (f : ℕ) (v : Bool) where
   -- may external precondition: meet the precondition, the flag unasserted before

@@ -1,14 +1,11 @@
--- Quiet Q: some completed execution has all its events in Q. Its rules by children.
+-- Quiet (`MayQuiet`): its rules by children. At a choice it is `may-any`.
 use Rattle.runs.proofs.Base.{_≡_, inl, _↔_, Iff·trans, [], _++_, append-nil, ℕ, T}
-use Rattle.runs.specs.Summary.{May}
 use Rattle.runs.proofs.Summary.MayMust.{whole, may-task}
 use Rattle.runs.specs.Plan.{task, all-of, Plan, Child, WellFormed, Node}
 use Rattle.runs.specs.Execution.{Event, start, finish, all-done, none-yet}
-use Rattle.runs.proofs.Execution.{All, all-nil, all-cons, all-append, Anything, all-anything, part, part-nil, part-all, part-completed}
+use Rattle.runs.specs.Classes.{All, all-nil, all-cons, Anything, MayQuiet}
+use Rattle.runs.proofs.Execution.{all-append, all-anything, part, part-nil, part-all, part-completed}
 use Rattle.runs.proofs.Execution.{Staged, stage, completed-execution}
-
-abbrev pub MayQuiet : Plan → (Event → Type 0) → ℕ → Type 0
-MayQuiet p Q n = May p n (All Q)
 
 module _ (p : Plan) (w : WellFormed p) (Q : Event → Type 0) where
   -- task: start and finish are in Q

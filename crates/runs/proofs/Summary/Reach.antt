@@ -3,8 +3,9 @@ use Rattle.runs.proofs.Base.{_≡_, refl, ap, _⊎_, inl, inr, _∷_, �
 use Rattle.runs.specs.Plan.{Kind, task, all-of, any-of, Plan, Node, Child, Under, WellFormed}
 use Rattle.runs.specs.Execution.{Event, start, finish, History, nodeOf, Execution}
 use Rattle.runs.proofs.Plan.{Branch, branch, from-leaves, before-child}
-use Rattle.runs.proofs.Execution.{Anything, OfTask, all-of-rests, choice-rests, under-task, picks-any}
-use Rattle.runs.proofs.Summary.Meet.{MayMeet, meet-task, meet-any, meet-all}
+use Rattle.runs.specs.Classes.{Anything, MayMeet}
+use Rattle.runs.proofs.Execution.{OfTask, all-of-rests, choice-rests, under-task, picks-any}
+use Rattle.runs.proofs.Summary.Meet.{meet-task, meet-any, meet-all}
 use Rattle.runs.proofs.Summary.Quiet.{quiet-anything}
 
 module _ (p : Plan) (w : WellFormed p) where

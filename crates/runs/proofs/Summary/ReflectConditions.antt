@@ -9,15 +9,15 @@ use Rattle.runs.specs.Model.Marks.{mustIncB}
 use Rattle.runs.specs.Model.Trees.{everyChildB}
 use Rattle.runs.proofs.Reflect.{Reflects, r-map, r-both, r-either, r-implies, r-negate, r-true}
 use Rattle.runs.proofs.Plan.{child-lt, before-child, r-by-kind, r-some-child, r-every-child, r-before}
-use Rattle.runs.proofs.Execution.{All, Anything}
+use Rattle.runs.specs.Classes.{All, Anything, MayQuiet, MayMeet, LastIs, MayLast}
 use Rattle.runs.proofs.Summary.Events.{r-unasserted, r-asserts, r-pre, r-begins-inc, r-neutral, r-covers}
 use Rattle.runs.proofs.Summary.Inconditions.{may-inc-is-meet, must-inc-is}
-use Rattle.runs.proofs.Summary.Last.{LastIs, MayLast, last-task, last-all}
+use Rattle.runs.proofs.Summary.Last.{last-task, last-all}
 use Rattle.runs.proofs.Summary.MayMust.{may-any}
-use Rattle.runs.proofs.Summary.Meet.{MayMeet, meet-task, meet-any, meet-all}
+use Rattle.runs.proofs.Summary.Meet.{meet-task, meet-any, meet-all}
 use Rattle.runs.proofs.Summary.Postconditions.{avoid-is-quiet, may-post-is-last, must-post-is}
 use Rattle.runs.proofs.Summary.Preconditions.{may-pre-is-meet, must-pre-is}
-use Rattle.runs.proofs.Summary.Quiet.{MayQuiet, quiet-task, quiet-all}
+use Rattle.runs.proofs.Summary.Quiet.{quiet-task, quiet-all}
 
 module _ (p : Plan) (w : WellFormed p) where
   module _ (Q : Event → Type 0) (q : Event → Bool) (rq : (e : Event) → Reflects (q e) (Q e)) where
