@@ -1,29 +1,14 @@
 -- What the bits of words say, and those of the words made of them. Each law takes the equation of the word that the code made. Assumes nothing.
-use mathlib.Core.Path.{_≡_}
+use mathlib.Core.Path.{_≡_, refl}
 use mathlib.Core.Logic.{_⊎_, inl, inr, _↔_}
-use mathlib.Core.Bool.{Bool, true, false, not, _&&_, _||_}
+use mathlib.Core.Bool.{Bool, true, false, not}
 use Prim.Native.Nat.{ℕ, _^_, _<_}
 use native.Mathlib.Decide.{ℕ-discrete}
 use lib.Dec.{T}
 use lib.Bits.{bitAnd, bitOr, bitXor}
 use Rattle.bits.specs.Bits.{bit, ones, Says}
+use Rattle.bits.proofs.Tests.{and-tests, or-tests, not-test}
 use Rattle.bits.proofs.Equations.{bit-and, bit-or, bit-less, bit-none, bit-all, bit-not, one-same, one-other}
-
-and-tests : (a b : Bool) → (T a × T b) ↔ T (a && b)
-and-tests true b = (λ x. x .1, λ t. (tt, t))
-and-tests false b = (λ x. x .0, λ t. absurd t)
-
-or-tests : (a b : Bool) → (T a ⊎ T b) ↔ T (a || b)
-or-tests true b = (λ x. tt, λ t. inl tt)
-or-tests false b = (join, inr)
-  where
-    join : ⊥ ⊎ T b → T b
-    join (inl x) = absurd x
-    join (inr x) = x
-
-not-test : (a : Bool) → (¬ T a) ↔ T (not a)
-not-test true = (λ k. k tt, λ t. absurd t)
-not-test false = (λ k. tt, λ t x. x)
 
 module _ {w f : ℕ} {A : Type 0} where
   pub says-map : {B : Type 0} → A ↔ B → Says w f A → Says w f B
@@ -88,6 +73,10 @@ module _ {z f : ℕ} {A : Type 0} where
   pub says-all : f < 64 → z ≡ ones → A → Says z f A
   says-all l e a = record { to = λ t. a; from = λ x. rw (e, bit-all f l) tt }
 
+  -- of the flags of a word that says A, those with B
+  pub says-among : {s : ℕ} {B : Type 0} → Says s f A → Says z f (T (bit s f) × B) → Says z f (A × B)
+  says-among a b = says-map (λ x. (a .to (x .0), x .1), λ x. (a .from (x .0), x .1)) b
+
   -- one bit more: `x | 2 ^ k`
   pub says-set : {x : ℕ} (k : ℕ) → z ≡ bitOr x (2 ^ k) → Says x f A → Says z f (A ⊎ (f ≡ k))
   says-set {x} k e a = says-or e a (at (ℕ-discrete f k))
@@ -95,3 +84,15 @@ module _ {z f : ℕ} {A : Type 0} where
       at : Dec (f ≡ k) → Says (2 ^ k) f (f ≡ k)
       at (yes q) = record { to = λ t. q; from = λ x. rw (q, one-same k) tt }
       at (no ne) = record { to = λ t. absurd (rw (one-other k f ne) at t); from = λ x. absurd (ne x) }
+
+-- neither x nor y: `(x | y) ^ ones`
+pub says-neither : {x y z f : ℕ} {A B : Type 0} → f < 64 → z ≡ bitXor (bitOr x y) ones → Says x f A → Says y f B → Says z f (¬ (A ⊎ B))
+says-neither {x} {y} l e a b = says-not {x = bitOr x y} l e (says-or {x = x} {y = y} refl a b)
+
+-- a word that is zero has no flag
+pub no-flag : (w f : ℕ) → w ≡ 0 → ¬ T (bit w f)
+no-flag w f e t = rw (e, bit-none f) at t
+
+-- the flags of `x & y` are among those of x
+pub among-left : (x y f : ℕ) → T (bit (bitAnd x y) f) → T (bit x f)
+among-left x y f t = ((says-and {x = x} {y = y} refl (says-self x f) (says-self y f)) .to t) .0

@@ -1,4 +1,4 @@
--- Words as numbers: words with the same bits are equal; taking bits away makes a word smaller. Assumes nothing.
+-- Words as numbers: words with the same bits are equal; a word without the bits of another. Assumes nothing.
 use mathlib.Core.Path.{_≡_, refl, sym, ap, _∙_}
 use mathlib.Core.Bool.{Bool, true, false, _&&_}
 use Prim.Native.Nat.{ℕ, zero, suc, _+_, _^_, _/_, _%_, _<_}
@@ -6,7 +6,7 @@ use native.Mathlib.Nat.{pow-suc}
 use native.Mathlib.Omega.{arith}
 use lib.Dec.{T, eqb}
 use lib.Pow.{shr-shr}
-use lib.Bits.{bitAnd, bitXor, and-le-l, xor-add-and}
+use lib.Bits.{bitAnd, bitOr, bitXor, and-le-l, and-le-r, or-add-and, xor-add-and}
 use borrow.Author.Tests.{eqb-true, eqb-false}
 use Rattle.bits.specs.Bits.{bit}
 use Rattle.bits.proofs.Equations.{bit-and, bit-none}
@@ -32,6 +32,9 @@ false-of false k = refl
 -- a word with no bit is zero
 pub no-bits : (w : ℕ) → w < 2 ^ 64 → ((f : ℕ) → f < 64 → ¬ T (bit w f)) → w ≡ 0
 no-bits w l h = same-bits 64 w 0 l (omega arith) (λ f m. false-of (bit w f) (h f m) ∙ sym (bit-none f))
+
+pub or-zero : (x y : ℕ) → bitOr x y ≡ 0 → (x ≡ 0) × (y ≡ 0)
+or-zero x y e = omega (arith, or-add-and x y, and-le-l x y, and-le-r x y)
 
 -- x without the bits of y, and the bits that they have in common, make x
 pub less-add : (x y : ℕ) → x < 2 ^ 64 → bitXor x (bitAnd x y) + bitAnd x y ≡ x

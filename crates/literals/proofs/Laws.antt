@@ -15,7 +15,7 @@ use Rattle.runs.specs.Verdict.{Fails}
 use Rattle.words.specs.Tables.{signNum}
 use Rattle.words.specs.Columns as columns
 use Rattle.words.specs.Columns.{Right, wordAt}
-use Rattle.words.proofs.Any.{sign-small}
+use Rattle.words.proofs.Signs.{sign-small}
 use Rattle.literals.specs.Words.{wordOf, markAt, firstWords, MarkWords, StartWord}
 
 pub mark-small : (m : Mark) → byteOf m < 8

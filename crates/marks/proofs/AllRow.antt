@@ -9,12 +9,12 @@ use lib.Dec.{T}
 use lib.ListN.{getD}
 use Rattle.bits.specs.Bits.{bit, ones, Says}
 use Rattle.bits.proofs.Says.{says-map, says-eq, says-dec, says-or, says-not, says-none}
-use Rattle.runs.specs.Plan.{all-of, Plan, Child, WellFormed}
+use Rattle.runs.specs.Plan.{all-of, Plan, WellFormed}
 use Rattle.runs.proofs.Summary.Clobber.{clobber-all}
 use Rattle.runs.proofs.Summary.ReflectClobber.{must-clobber-all}
 use Rattle.words.specs.Columns.{Column, avoid, quiet, covered, may-pre, may-post, may-inc, requires, asserts, may-clobber, must-inc, must-clobber}
 use Rattle.words.specs.Columns.{indexOf, Fact, Row}
-use Rattle.words.specs.Groups.{Within, WithinRow}
+use Rattle.groups.specs.Groups.{Within, WithinRow}
 use Rattle.words.proofs.Rows.{index-small}
 use Rattle.pairs.specs.declared.Literals.{Literals}
 use Rattle.pairs.specs.Pairs.{Pair, MustPair, SomePair, wordOf}

@@ -7,7 +7,7 @@ use lib.Bits.{bitOr}
 use lib.ListN.{getD}
 use Rattle.runs.specs.Plan.{all-of, Plan}
 use Rattle.words.specs.Columns.{Column, avoid, quiet, covered, may-pre, may-post, may-inc, requires, asserts, may-clobber, must-inc, must-clobber, indexOf, Row}
-use Rattle.words.specs.Groups.{Within}
+use Rattle.groups.specs.Groups.{Within}
 use Rattle.pairs.specs.declared.Literals.{Literals}
 use Rattle.pairs.specs.Pairs.{Pair, MustPair, SomePair, OfPlans, wordOf}
 

@@ -1,15 +1,15 @@
 // The rows of a plan's nodes, by functions for all-of and any-of groups that call each other.
 ghost use mathlib.Core.Path.{_≡_};
-ghost use Prim.Native.Nat.{_+_, _≤_, _<_};
+ghost use Prim.Native.Nat.{_≤_, _<_};
 ghost use lib.ListN.{length, getD};
 ghost use Rattle.words.specs.Tables.{Shaped};
 ghost use Rattle.marks.specs.Clobbers.{AllOfRow, ClobberWords, Ored};
 ghost use Rattle.marks.specs.Filled.{Filled, TasksFilled, AllFilled};
+use groups::all_words;
+use groups::any_words;
 use mustpairs::must_pairs;
 use pairs::Literals;
 use pairs::clobbering_pairs;
-use words::all_words;
-use words::any_words;
 use words::task_words;
 use words::wide;
 use words::write_row;

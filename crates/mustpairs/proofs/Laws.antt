@@ -1,15 +1,15 @@
 -- The words of a pair of children say what the pair must clobber. Assumes nothing.
 use mathlib.Core.Path.{_≡_, refl}
-use mathlib.Core.Logic.{_≢_, _⊎_, inl, inr, ⊎-elim, _↔_, Iff·symm}
-use mathlib.Core.Bool.{Bool, true, false, not}
+use mathlib.Core.Logic.{_⊎_, inl, inr, ⊎-elim, _↔_, Iff·trans, Iff·symm}
+use mathlib.Core.Bool.{Bool, not}
 use mathlib.Core.List.{List}
 use Prim.Native.Nat.{ℕ, _+_, _-_, _≤_, _<_}
 use native.Mathlib.Omega.{arith}
 use lib.Bits.{bitAnd, bitOr, bitXor}
-use lib.Dec.{T, eqb, eqb→eq, eqb-refl}
+use lib.Dec.{T}
 use lib.ListN.{getD}
 use Rattle.bits.specs.Bits.{bit, ones, Says}
-use Rattle.bits.proofs.Says.{says-map, says-dec, says-self, says-and, says-or, says-not}
+use Rattle.bits.proofs.Says.{says-map, says-dec, says-self, says-and, says-or, says-not, says-neither, no-flag}
 use Rattle.runs.specs.Plan.{Plan, Node, Child, Before, WellFormed}
 use Rattle.runs.specs.Summary.{Must, ExternalPre, ExternalPost}
 use Rattle.runs.proofs.Summary.Preconditions.{must-pre-is}
@@ -17,36 +17,26 @@ use Rattle.runs.proofs.Summary.Postconditions.{must-post-is}
 use Rattle.words.specs.Tables.{signNum}
 use Rattle.words.specs.Columns.{avoid, quiet, covered, may-post, wordAt, Right}
 use Rattle.words.specs.Segments.{Some}
+use Rattle.words.proofs.Signs.{opposite}
+use Rattle.words.proofs.Rows.{read}
 use Rattle.words.proofs.Segments.{some-next, some-child}
-use Rattle.words.proofs.Sibling.{silent-cell}
+use Rattle.groups.proofs.Sibling.{silent-cell}
 use Rattle.pairs.specs.Pairs.{Undisturbed, MustPair, SomePair, Pairing}
-use Rattle.pairs.proofs.Laws.{no-flag, opposite, read, part-all}
+use Rattle.pairs.proofs.Laws.{part-all}
 use Rattle.mustpairs.specs.Words.{UndisturbedPart}
 
-pub not-two : (x : ℕ) → T (not (eqb x 2)) ↔ (x ≢ 2)
-not-two x = (λ t e. no (eqb x 2) t (rw e (eqb-refl 2)), λ k. yes-not (eqb x 2) (λ t. k (eqb→eq x 2 t)))
-  where
-    no : (b : Bool) → T (not b) → ¬ T b
-    no true t u = t
-    no false t u = u
-
-    yes-not : (b : Bool) → ¬ T b → T (not b)
-    yes-not true k = absurd (k tt)
-    yes-not false k = tt
-
--- the flags of neither word
-none-of : {A B : Type 0} {x y z f : ℕ} → f < 64 → z ≡ bitXor (bitOr x y) ones → Says x f A → Says y f B → Says z f ((¬ A) × (¬ B))
-none-of {x = x} {y = y} l e a b = says-map (λ k. (λ h. k (inl h), λ h. k (inr h)), λ k h. ⊎-elim (k .0) (k .1) h)
-    (says-not {x = bitOr x y} l e (says-or {x = x} {y = y} refl a b))
+-- neither of two
+both-not : {A B : Type 0} → (¬ (A ⊎ B)) ↔ ((¬ A) × (¬ B))
+both-not = (λ k. (λ h. k (inl h), λ h. k (inr h)), λ k h. ⊎-elim (k .0) (k .1) h)
 
 -- the words of what must be required, and must be left
 module _ {p : Plan} (w : WellFormed p) {rows : List ℕ} {n : ℕ} (r : Right p rows n) (v : Bool) (s : ℕ) (e : s ≡ signNum v) {z : ℕ} (f : ℕ) (l : f < 64) where
   pub must-pre-says : Node p n → z ≡ bitXor (bitOr (wordAt rows n (1 + s)) (wordAt rows n (3 + s))) ones → Says z f (Must p n (ExternalPre p f v))
-  must-pre-says m q = says-map (Iff·symm (must-pre-is p w f v m)) (none-of {x = wordAt rows n (1 + s)} {y = wordAt rows n (3 + s)} l q
+  must-pre-says m q = says-map (Iff·trans both-not (Iff·symm (must-pre-is p w f v m))) (says-neither {x = wordAt rows n (1 + s)} {y = wordAt rows n (3 + s)} l q
       (read r (quiet v) (1 + s) _ f (omega (arith, e)) refl l) (read r (covered v) (3 + s) _ f (omega (arith, e)) refl l))
 
   pub must-post-says : z ≡ bitXor (bitOr (wordAt rows n 0) (wordAt rows n (7 + (1 - s)))) ones → Says z f (Must p n (ExternalPost p f v))
-  must-post-says q = says-map (Iff·symm (must-post-is p f v)) (none-of {x = wordAt rows n 0} {y = wordAt rows n (7 + (1 - s))} l q
+  must-post-says q = says-map (Iff·trans both-not (Iff·symm (must-post-is p f v))) (says-neither {x = wordAt rows n 0} {y = wordAt rows n (7 + (1 - s))} l q
       (r .says avoid f l) (read r (may-post (not v)) (7 + (1 - s)) _ f (omega (arith, opposite v s e)) refl l))
 
 -- an equivalent on the right

@@ -1,7 +1,7 @@
 // Rule (b) of must clobber: the pairs of children of an all-of group that clobber a literal in every completed execution; for all flags at once.
 ghost use mathlib.Core.Path.{_≡_};
 ghost use mathlib.Core.Logic.{_↔_};
-ghost use Prim.Native.Nat.{_+_, _*_, _<_};
+ghost use Prim.Native.Nat.{_<_};
 ghost use lib.Bits.{bitOr, bitXor};
 ghost use lib.Dec.{T};
 ghost use lib.ListN.{getD};
@@ -11,7 +11,7 @@ ghost use Rattle.words.specs.Columns.{wordAt};
 ghost use Rattle.pairs.specs.Pairs.{Part};
 ghost use Rattle.mustpairs.specs.Words.{MustPreWord, MustPostWord, UndisturbedPart, UndisturbedWord, MustPairWord, WithChildWord, MustPairsWord};
 ghost use Rattle.mustpairs.specs.Disturbs.{Disturbs};
-use words::narrowed;
+use groups::narrowed;
 use words::wide;
 use words::word_at;
 

@@ -10,7 +10,7 @@ use lib.Bits.{bitAnd, bitOr, bitXor}
 use lib.Dec.{T}
 use lib.ListN.{getD}
 use Rattle.bits.specs.Bits.{bit, Says}
-use Rattle.bits.proofs.Says.{says-dec, says-self, says-and, says-or, says-less}
+use Rattle.bits.proofs.Says.{says-dec, says-self, says-and, says-or, says-less, no-flag}
 use Rattle.bits.proofs.Words.{no-bits, less-add}
 use Rattle.runs.specs.Plan.{Plan, Child}
 use Rattle.words.specs.Segments.{Every}
@@ -18,7 +18,7 @@ use Rattle.words.proofs.Segments.{every-child}
 use Rattle.pairs.specs.declared.Found.{Found}
 use Rattle.pairs.specs.declared.Literals.{Literals}
 use Rattle.pairs.specs.Pairs.{Pair, SomePair, Pairing, wordOf, Unclobbered, Search, AllPairs}
-use Rattle.pairs.proofs.Laws.{no-flag, joined}
+use Rattle.pairs.proofs.Laws.{joined}
 
 -- one literal word more, one less
 abbrev pub gained : Literals → Literals → Literals

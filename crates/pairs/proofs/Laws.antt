@@ -1,51 +1,28 @@
 -- The words of a pair of children say what the pair does; the search for a pair. Assumes nothing.
-use mathlib.Core.Path.{_≡_, refl, ap, _∙_}
+use mathlib.Core.Path.{_≡_, refl}
 use mathlib.Core.Logic.{_≢_, _⊎_, inl, inr, _↔_, by-cases}
 use mathlib.Core.Bool.{Bool, true, false, not}
 use mathlib.Core.List.{List}
 use Prim.Native.Nat.{ℕ, _+_, _-_, _≤_, _<_}
 use native.Mathlib.Decide.{decLt}
 use native.Mathlib.Omega.{arith}
-use lib.Bits.{bitAnd, bitOr, and-le-l, and-le-r, or-add-and}
+use lib.Bits.{bitAnd, bitOr}
 use lib.Dec.{T}
 use lib.ListN.{getD}
 use Rattle.bits.specs.Bits.{bit, Says}
-use Rattle.bits.proofs.Equations.{bit-none}
-use Rattle.bits.proofs.Says.{says-map, says-eq, says-self, says-and, says-or, says-none}
+use Rattle.bits.proofs.Says.{says-map, says-self, says-and, says-or, says-none, no-flag}
+use Rattle.bits.proofs.Words.{or-zero}
 use Rattle.runs.specs.Plan.{Plan, Child, Before, Unordered}
 use Rattle.runs.specs.Summary.{MayClobber, ClobberByPairs, in-child, unordered-pair, passed-on}
 use Rattle.words.specs.Tables.{signNum, Position, Shaped}
-use Rattle.words.specs.Columns.{Column, avoid, may-pre, may-post, requires, asserts, indexOf, Fact, wordAt, Right}
+use Rattle.words.specs.Columns.{avoid, may-pre, may-post, requires, asserts, indexOf, Fact, wordAt}
 use Rattle.words.specs.Segments.{Every}
-use Rattle.words.specs.Siblings.{Narrows}
+use Rattle.groups.specs.Siblings.{Narrows}
+use Rattle.words.proofs.Signs.{opposite}
+use Rattle.words.proofs.Rows.{read, cell}
 use Rattle.words.proofs.Segments.{listed, every-next, every-child}
-use Rattle.words.proofs.Sibling.{cell}
 use Rattle.pairs.specs.declared.Literals.{Literals}
 use Rattle.pairs.specs.Pairs.{Between, Pair, SomePair, Pairing, Part, PartWord, BetweenPart, BetweenWord, wordOf, PairWords, NoneRequired, FirstPartner, Unclobbered, Search}
-
-pub opposite : (v : Bool) (s : ℕ) → s ≡ signNum v → 1 - s ≡ signNum (not v)
-opposite true s e = rw e
-opposite false s e = rw e
-
--- a word read from a right row
-pub read : {p : Plan} {rows : List ℕ} {d : ℕ} → Right p rows d → (k : Column) (i x f : ℕ) → i ≡ indexOf k → x ≡ wordAt rows d i → f < 64
-    → Says x f (Fact p d f k)
-read {rows = rows} {d = d} r k i x f e q l = says-eq (q ∙ ap (λ (j : ℕ). wordAt rows d j) e) (r .says k f l)
-
--- a word that is zero has no flag
-pub no-flag : (w f : ℕ) → w ≡ 0 → ¬ T (bit w f)
-no-flag w f e t = rw (e, bit-none f) at t
-
--- the flags of `x & y` are among those of x
-pub among-left : (x y f : ℕ) → T (bit (bitAnd x y) f) → T (bit x f)
-among-left x y f t = ((says-and {x = x} {y = y} refl (says-self x f) (says-self y f)) .to t) .0
-
--- of the flags of a word that says A, those with B
-pub says-of : {A B : Type 0} {s w f : ℕ} → Says s f A → Says w f (T (bit s f) × B) → Says w f (A × B)
-says-of a b = says-map (λ x. (a .to (x .0), x .1), λ x. (a .from (x .0), x .1)) b
-
-pub or-zero : (x y : ℕ) → bitOr x y ≡ 0 → (x ≡ 0) × (y ≡ 0)
-or-zero x y e = omega (arith, or-add-and x y, and-le-l x y, and-le-r x y)
 
 -- c requires no wanted literal
 pub none-required : (rows : List ℕ) (wanted : Literals) (c a b x y : ℕ) → a ≡ wordAt rows c 11 → b ≡ wordAt rows c 5 → x ≡ wordAt rows c 12 → y ≡ wordAt rows c 6

@@ -13,7 +13,7 @@ use Rattle.runs.specs.Summary.{Must, ExternalPre, ExternalPost, Silent}
 use Rattle.words.specs.Tables.{signNum, code, RepresentsOrder}
 use Rattle.words.specs.Columns.{avoid, may-pre, may-post, requires, asserts}
 use Rattle.words.specs.Columns.{indexOf, Fact, wordAt}
-use Rattle.words.specs.Groups.{Group}
+use Rattle.groups.specs.Groups.{Group}
 use Rattle.words.specs.Segments.{Every}
 use Rattle.pairs.specs.declared.Found.{Found}
 use Rattle.pairs.specs.declared.Literals.{Literals}

@@ -1,14 +1,14 @@
 // The pairs of children of an all-of group that may clobber, or must clobber, a literal: for all flags at once, from the rows of the children.
 ghost use mathlib.Core.Path.{_≡_};
 ghost use mathlib.Core.Logic.{_↔_};
-ghost use Prim.Native.Nat.{ℕ, _+_, _*_, _≤_, _<_};
+ghost use Prim.Native.Nat.{ℕ, _+_, _≤_, _<_};
 ghost use lib.Dec.{T};
 ghost use lib.ListN.{getD};
 ghost use Rattle.bits.specs.Bits.{bit};
 ghost use Rattle.words.specs.Tables.{code, Position, Shaped};
 ghost use Rattle.pairs.specs.Pairs.{Part, BetweenPart, BetweenWord, PairWord, PairWords, FirstPartner, Search, AllPairs};
-use words::apart;
-use words::narrowed;
+use groups::apart;
+use groups::narrowed;
 use words::wide;
 use words::word_at;
 

@@ -11,7 +11,7 @@ use lib.Dec.{T, ltb}
 use borrow.Author.Tests.{lt-ltb, ltb-true}
 use Rattle.bits.specs.Bits.{bit, Says}
 use Rattle.bits.proofs.Words.{no-bits}
-use Rattle.bits.proofs.Says.{says-map, says-none, says-set}
+use Rattle.bits.proofs.Says.{says-map, says-none, says-set, no-flag}
 use Rattle.answers.specs.Answers.{refusedOr}
 use Rattle.answers.proofs.First.{answer-none, answer-some}
 use Rattle.format.specs.Format.{flagCount, startFlag}
@@ -28,7 +28,6 @@ use Rattle.runs.specs.Model.Verdicts.{mayFailB, mustFailB, judge, verdict}
 use Rattle.runs.proofs.Reflect.{Reflects}
 use Rattle.runs.proofs.Verdict.Exact.{MayFail, MustFail, SomeLiteral, may-fail-flag, must-fail-may, r-may-fail, r-must-fail, verdict-exact}
 use Rattle.runs.proofs.Calls.Demand3.{demand3}
-use Rattle.pairs.proofs.Laws.{no-flag}
 use Rattle.literals.specs.Words.{MarkWords, StartWord, FailsWord}
 use Rattle.summary.specs.declared.Verdict.{Verdict}
 use Rattle.summary.specs.declared.Answer.{Answer}

@@ -1,9 +1,6 @@
--- Laws of the words of a node.
+-- Laws of rows of words, and of the words of a task.
+pub mod Signs
 pub mod Segments
+pub mod Rows
 pub mod Task
 pub mod TaskWords
-pub mod Any
-pub mod Rows
-pub mod All
-pub mod Sibling
-pub mod Merge

@@ -3,5 +3,3 @@ pub mod Tables
 pub mod Columns
 pub mod Segments
 pub mod Tasks
-pub mod Groups
-pub mod Siblings

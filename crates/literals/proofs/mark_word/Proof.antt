@@ -1,5 +1,5 @@
 -- `mark_word` meets its contract. Assumes nothing.
-use mathlib.Core.Path.{_≡_, refl, sym, _∙_}
+use mathlib.Core.Path.{sym, _∙_}
 use Prim.Native.Nat.{_%_}
 use native.Mathlib.Omega.{arith}
 use Rattle.literals.proofs.Laws.{mark-from, sign-is, mark-is, first-small, column-says}

@@ -4,7 +4,7 @@ use Prim.Native.Nat.{ℕ, _≤_, _<_, _-_}
 use lib.ListN.{length, getD, length-set}
 use native.Mathlib.Omega.{arith}
 use borrow.Author.Needs.{needs}
-use Rattle.words.proofs.Merge.{filled}
+use Rattle.words.proofs.Rows.{filled}
 use Rattle.literals.specs.Words.{WordIs, wordOf}
 use Rattle.literals.proofs.Laws.{word-small}
 use Rattle.literals.proofs.mark_words.Statement.{statement}

@@ -16,7 +16,7 @@ use Rattle.marks.proofs.any_of.Reads as any-of
 use Rattle.marks.proofs.any_of.Kinds as any-of-kinds
 use Rattle.marks.proofs.+all_of+any_of.Lts-any_of as any-of-lts
 use Rattle.marks.proofs.all_row.Reads as all-row-reads
-use Rattle.words.proofs.any_words.Reads as any-words-reads
+use Rattle.groups.proofs.any_words.Reads as any-words-reads
 use Rattle.words.proofs.wide.Reads as wide-reads
 use Rattle.words.proofs.write_row.Reads as write-row-reads
 use Rattle.marks.proofs.+all_of+any_of.{statement}

@@ -3,7 +3,7 @@ use mathlib.Core.Path.{_≡_, refl, _∙_}
 use Prim.Native.Nat.{ℕ, _≤_, _<_, _-_}
 use lib.Bits.{bitOr}
 use lib.ListN.{length, getD, length-set}
-use Rattle.words.proofs.Merge.{filled}
+use Rattle.words.proofs.Rows.{filled}
 use native.Mathlib.Omega.{arith}
 use borrow.Author.Needs.{needs}
 use Rattle.marks.proofs.ored.Statement.{statement}

@@ -1,13 +1,13 @@
 -- `disturbs` meets its contract. Assumes nothing.
-use Rattle.mustpairs.proofs.Laws.{not-two}
+use Rattle.bits.proofs.Tests.{unequal}
 use borrow.Author.Needs.{needs}
 use Rattle.mustpairs.proofs.disturbs.Statement.{statement}
 use Rattle.mustpairs.proofs.disturbs.Tie as tie
 
 returns-4 : tie.Need-returns-4
 returns-4 c = (
-  λ t. record { not-c = c .before .before .before .before .if1 .left; not-d = c .before .before .before .if2 .left; not-before = c .before .if3 .left; not-after = (not-two _) .0 t },
-  λ x. (not-two _) .1 (x .not-after),
+  λ t. record { not-c = c .before .before .before .before .if1 .left; not-d = c .before .before .before .if2 .left; not-before = c .before .if3 .left; not-after = (unequal _ 2) .0 t },
+  λ x. (unequal _ 2) .1 (x .not-after),
 )
 
 pub disturbs-spec : {M : Type 1} → statement M

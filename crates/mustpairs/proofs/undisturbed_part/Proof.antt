@@ -1,7 +1,7 @@
 -- `undisturbed_part` meets its contract. Assumes nothing.
 use Prim.Native.Nat.{_≤_, _-_}
 use mathlib.Core.Path.{_≡_}
-use Rattle.words.proofs.Sibling.{implied, neither}
+use Rattle.groups.proofs.Sibling.{implied, neither}
 use Rattle.mustpairs.specs.Words.{UndisturbedPart}
 use Rattle.pairs.proofs.Laws.{part-none, part-more, part-empty}
 use native.Mathlib.Omega.{arith}

@@ -1,7 +1,7 @@
 -- `between_part` meets its contract. Assumes nothing.
 use Prim.Native.Nat.{_≤_, _-_}
 use mathlib.Core.Path.{_≡_}
-use Rattle.words.proofs.Sibling.{implied}
+use Rattle.groups.proofs.Sibling.{implied}
 use Rattle.pairs.specs.Pairs.{BetweenPart}
 use Rattle.pairs.proofs.Laws.{part-none, part-more, part-empty}
 use native.Mathlib.Omega.{arith}

@@ -1,8 +1,8 @@
 -- `pair_word` meets its contract: a case for each place where it returns. Assumes nothing.
 use mathlib.Core.Path.{refl, sym}
-use Rattle.bits.proofs.Says.{says-map, says-none}
-use Rattle.words.proofs.Sibling.{apart-is}
-use Rattle.pairs.proofs.Laws.{no-flag, among-left, kid-below, says-of, passed-says, apart-says, passed-pair, no-passed-pair, apart-pair, no-pair}
+use Rattle.bits.proofs.Says.{says-map, says-none, says-among, no-flag, among-left}
+use Rattle.groups.proofs.Sibling.{apart-is}
+use Rattle.pairs.proofs.Laws.{kid-below, passed-says, apart-says, passed-pair, no-passed-pair, apart-pair, no-pair}
 use native.Mathlib.Omega.{arith}
 use borrow.Author.Needs.{needs}
 use Rattle.pairs.proofs.pair_word.Statement.{statement}
@@ -21,7 +21,7 @@ returns-2 c = (
   λ f l t. among-left _ _ f (c .between .ensures .0 f l t),
   λ p g hc kd v e f l. let q = sym (c .before .before .before .before .before .before .wide .ensures) in let hd = rw q at kd in
       rw q (says-map (passed-pair g hc hd ((g .orders .before _ _ (hd .node) (hc .node)) .0 (c .before .before .before .before .if1 .taken)))
-      (says-of (passed-says g hc hd v _ _ _ _ f e l (c .before .before .before .word-at .ensures) (c .before .before .word-at2 .ensures))
+      (says-among (passed-says g hc hd v _ _ _ _ f e l (c .before .before .before .word-at .ensures) (c .before .before .word-at2 .ensures))
       (rw q at (c .between .ensures .1 p g hc kd f l)))),
 )
 

@@ -1,5 +1,5 @@
 -- `stands_between` meets its contract. Assumes nothing.
-use Rattle.words.proofs.Sibling.{equal}
+use Rattle.bits.proofs.Tests.{equal}
 use borrow.Author.Needs.{needs}
 use Rattle.pairs.proofs.stands_between.Statement.{statement}
 use Rattle.pairs.proofs.stands_between.Tie as tie

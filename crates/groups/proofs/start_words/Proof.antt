@@ -1,10 +1,10 @@
 -- `start_words` meets its contract. Assumes nothing.
 use mathlib.Core.Path.{_≡_}
 use Prim.Native.Nat.{_≤_, _-_}
-use Rattle.words.proofs.Merge.{Starting, start-none, start-more, started}
+use Rattle.groups.proofs.Merge.{Starting, start-none, start-more, started}
 use native.Mathlib.Omega.{arith}
-use Rattle.words.proofs.start_words.Statement.{statement}
-use Rattle.words.proofs.start_words.Tie as tie
+use Rattle.groups.proofs.start_words.Statement.{statement}
+use Rattle.groups.proofs.start_words.Tie as tie
 
 abbrev Inv-loop : tie.InvT-loop
 Inv-loop first last out₀ k₀ out k = ((first ≤ k) × (k ≤ last)) × Starting first k out

@@ -2,8 +2,8 @@
 use mathlib.Core.Path.{refl}
 use mathlib.Core.Logic.{⊎-elim}
 use native.Mathlib.Omega.{arith}
-use Rattle.words.proofs.joined.Statement.{statement}
-use Rattle.words.proofs.joined.Tie as tie
+use Rattle.groups.proofs.joined.Statement.{statement}
+use Rattle.groups.proofs.joined.Tie as tie
 
 returns : tie.Need-returns
 returns c = record { every = λ a b. absurd (omega arith); some = λ x. refl }

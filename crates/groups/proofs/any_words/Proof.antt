@@ -3,11 +3,11 @@ use mathlib.Core.Path.{_≡_}
 use Prim.Native.Nat.{_+_, _≤_, _<_, _-_}
 use lib.ListN.{getD}
 use Rattle.runs.specs.Plan.{Plan}
-use Rattle.words.specs.Groups.{Group}
-use Rattle.words.proofs.Merge.{AnyWords, joined-none, joined-more, unmasked, child-row, any-row}
+use Rattle.groups.specs.Groups.{Group}
+use Rattle.groups.proofs.Merge.{AnyWords, joined-none, joined-more, unmasked, child-row, any-row}
 use native.Mathlib.Omega.{arith}
-use Rattle.words.proofs.any_words.Statement.{statement}
-use Rattle.words.proofs.any_words.Tie as tie
+use Rattle.groups.proofs.any_words.Statement.{statement}
+use Rattle.groups.proofs.any_words.Tie as tie
 
 abbrev Inv-loop : tie.InvT-loop
 Inv-loop from kids rows n node mask words₀ end i₀ words i =

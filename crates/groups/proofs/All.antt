@@ -14,10 +14,11 @@ use Rattle.runs.specs.Classes.{Neutral, Covers}
 use Rattle.runs.proofs.Summary.Quiet.{quiet-all}
 use Rattle.runs.proofs.Summary.Meet.{meet-all}
 use Rattle.runs.proofs.Summary.ByChildren.{avoids-all, may-pre-all, may-post-all, may-inc-all, must-inc-all}
 use Rattle.words.specs.Columns.{Column, avoid, quiet, covered, may-pre, may-post, may-inc, requires, asserts, may-clobber, must-inc, must-clobber}
 use Rattle.words.specs.Columns.{indexOf, Fact}
-use Rattle.words.specs.Groups.{Others, Within}
-use Rattle.words.proofs.Any.{sign-small, with-child}
+use Rattle.groups.specs.Groups.{Others, Within}
+use Rattle.words.proofs.Signs.{sign-small}
+use Rattle.groups.proofs.Any.{with-child}
 
 module _ (p : Plan) (w : WellFormed p) {n : ℕ} (l : Node p n) (k : p .tree .kind n ≡ all-of) (f : ℕ) where
   group-all : p .tree .kind n ≢ task

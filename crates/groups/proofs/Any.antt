@@ -2,7 +2,7 @@
 -- the last columns where every branch has it. Assumes nothing.
 use mathlib.Core.Path.{_≡_}
 use mathlib.Core.Logic.{_≢_, _⊎_, inl, inr, _↔_}
-use mathlib.Core.Bool.{Bool, true, false}
+use mathlib.Core.Bool.{Bool}
 use mathlib.Core.Option.{none}
 use Prim.Native.Nat.{ℕ, _<_, _≤_}
 use native.Mathlib.Omega.{arith}
@@ -16,13 +16,9 @@ use Rattle.runs.proofs.Summary.Meet.{meet-any}
 use Rattle.runs.proofs.Summary.MayMust.{may-any, must-any}
 use Rattle.runs.proofs.Summary.Clobber.{clobber-any}
 use Rattle.runs.proofs.Summary.ReflectClobber.{must-clobber-any}
-use Rattle.words.specs.Tables.{signNum}
 use Rattle.words.specs.Columns.{Column, avoid, quiet, covered, may-pre, may-post, may-inc, requires, asserts, may-clobber, must-inc, must-clobber}
 use Rattle.words.specs.Columns.{indexOf, Fact}
-
-pub sign-small : (v : Bool) → signNum v < 2
-sign-small true = omega arith
-sign-small false = omega arith
+use Rattle.words.proofs.Signs.{sign-small}
 
 module _ (p : Plan) (w : WellFormed p) where
   -- some task under a group has it: some task under a child

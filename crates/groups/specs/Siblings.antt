@@ -9,11 +9,11 @@ use lib.ListN.{getD}
 use Rattle.bits.specs.Bits.{bit, ones, Says}
 use Rattle.runs.specs.Plan.{Plan, Child, Before, Unordered}
 use Rattle.runs.specs.Summary.{Silent}
-use Rattle.words.specs.declared.Siblings.{Siblings}
+use Rattle.groups.specs.declared.Siblings.{Siblings}
 use Rattle.words.specs.Tables.{code, RepresentsOrder}
 use Rattle.words.specs.Columns.{Column, avoid, quiet, covered, may-pre, may-post, may-inc, requires, asserts, may-clobber, must-inc, must-clobber}
 use Rattle.words.specs.Columns.{indexOf, Fact, wordAt}
-use Rattle.words.specs.Groups.{Group}
+use Rattle.groups.specs.Groups.{Group}
 
 -- by the table, a and b are unordered
 pub record Apart (order : List ℕ) (a b : ℕ) : Type 0 where

@@ -1,7 +1,7 @@
 -- `mask_words` meets its contract. Assumes nothing.
-use Rattle.words.proofs.Sibling.{mask-is}
-use Rattle.words.proofs.mask_words.Statement.{statement}
-use Rattle.words.proofs.mask_words.Tie as tie
+use Rattle.groups.proofs.Sibling.{mask-is}
+use Rattle.groups.proofs.mask_words.Statement.{statement}
+use Rattle.groups.proofs.mask_words.Tie as tie
 
 returns : tie.Need-returns
 returns c = mask-is _

@@ -1,26 +1,28 @@
 -- One sibling more, and what the words come to over all siblings. Assumes nothing.
 use mathlib.Core.Path.{_≡_, refl}
 use mathlib.Core.Logic.{_≢_, _⊎_, inl, inr, _↔_}
-use mathlib.Core.Bool.{Bool, true, false, not}
+use mathlib.Core.Bool.{true, false, not}
 use mathlib.Core.List.{List, [], _∷_}
 use Prim.Native.Nat.{ℕ, _+_, _≤_, _<_}
 use native.Mathlib.Omega.{arith}
 use lib.Bits.{bitAnd, bitOr, bitXor}
-use lib.Dec.{T, eqb, eqb→eq, eqb-refl}
+use lib.Dec.{T, eqb}
 use lib.ListN.{getD}
 use Rattle.bits.specs.Bits.{bit, ones, Says}
-use Rattle.bits.proofs.Says.{says-map, says-eq, says-self, says-and, says-or, says-not, says-all}
+use Rattle.bits.proofs.Tests.{unequal}
+use Rattle.bits.proofs.Says.{says-map, says-eq, says-self, says-and, says-neither, says-all}
 use Rattle.runs.specs.Plan.{Plan, Child, Before, Unordered}
 use Rattle.runs.specs.Summary.{Silent}
-use Rattle.words.specs.declared.Siblings.{Siblings}
+use Rattle.groups.specs.declared.Siblings.{Siblings}
 use Rattle.words.specs.Tables.{code, RepresentsOrder}
 use Rattle.words.specs.Columns.{Column, avoid, quiet, covered, may-pre, may-post, may-inc, requires, asserts, may-clobber, must-inc, must-clobber}
 use Rattle.words.specs.Columns.{indexOf, Fact, wordAt, Right}
 use Rattle.words.specs.Segments.{Every}
-use Rattle.words.specs.Groups.{Group, Others}
-use Rattle.words.specs.Siblings.{Apart, Narrows, Limits, SiblingWords, maskOf, Masks}
-use Rattle.words.proofs.All.{silent-is}
+use Rattle.groups.specs.Groups.{Group, Others}
+use Rattle.groups.specs.Siblings.{Apart, Narrows, Limits, SiblingWords, maskOf, Masks}
+use Rattle.groups.proofs.All.{silent-is}
+use Rattle.words.proofs.Rows.{cell}
 use Rattle.words.proofs.Segments.{every-next, every-none, every-child}
 
 module _ {w r : ℕ} {C : Type 0} {A : ℕ → Type 0} where
   pub narrows-kept : ¬ C → r ≡ w → Narrows w r C A
@@ -36,25 +38,13 @@ narrows-taken {w} {r} y c e = record { says = λ f l. says-map (λ x. (x .0, λ 
 
 -- the flags of neither word
 pub neither : (x y f : ℕ) → f < 64 → T (bit (bitXor (bitOr x y) ones) f) ↔ (¬ (T (bit x f) ⊎ T (bit y f)))
-neither x y f l = let s = says-not {x = bitOr x y} l refl (says-or {x = x} {y = y} refl (says-self x f) (says-self y f)) in (s .to, s .from)
+neither x y f l = let s = says-neither {x = x} {y = y} l refl (says-self x f) (says-self y f) in (s .to, s .from)
 
 pub apart-test : {order : List ℕ} (a b : ℕ) → code order a b ≢ 1 → code order a b ≢ 2 → T (not (eqb a b)) ↔ Apart order a b
 apart-test {order} a b k l = (
-  λ t. record { not-before = k; not-after = l; distinct = λ e. no-test (eqb a b) t (rw e (eqb-refl b)) },
-  λ x. no-from (eqb a b) (λ t. x .distinct (eqb→eq a b t)),
+  λ t. record { not-before = k; not-after = l; distinct = (unequal a b) .0 t },
+  λ x. (unequal a b) .1 (x .distinct),
 )
-  where
-    no-test : (c : Bool) → T (not c) → ¬ T c
-    no-test true t u = t
-    no-test false t u = u
-
-    no-from : (c : Bool) → ¬ T c → T (not c)
-    no-from true k = absurd (k tt)
-    no-from false k = tt
-
--- two numbers are equal exactly if the test says so
-pub equal : (a b : ℕ) → T (eqb a b) ↔ (a ≡ b)
-equal a b = (eqb→eq a b, λ e. rw e (eqb-refl b))
 
 module _ {order : List ℕ} {p : Plan} (o : RepresentsOrder order p) {n a b : ℕ} (ha : Child p n a) (hb : Child p n b) where
   pub apart-is : Apart order a b ↔ Unordered p a b
@@ -63,21 +53,17 @@ module _ {order : List ℕ} {p : Plan} (o : RepresentsOrder order p) {n a b : �
     λ x. record { distinct = x .distinct; not-before = λ q. x .not-before (e .0 q); not-after = λ q. x .not-after (g .0 q) },
   )
 
--- the words of a right row, read as they stand
-module _ {p : Plan} {rows : List ℕ} {b : ℕ} (r : Right p rows b) {f : ℕ} (l : f < 64) where
-  pub cell : (k : Column) → T (bit (wordAt rows b (indexOf k)) f) ↔ Fact p b f k
-  cell k = (r .says k f l .to, r .says k f l .from)
+-- a node under which no task asserts the flag, by the words of its row
+pub silent-cell : {p : Plan} {rows : List ℕ} {b f : ℕ} → Right p rows b → f < 64 → (¬ (T (bit (wordAt rows b 13) f) ⊎ T (bit (wordAt rows b 14) f))) ↔ Silent p f b
+silent-cell {p} {rows} {b} {f} r l = (λ k. (silent-is p f b) .0 (λ x. k (down x)), λ s x. (silent-is p f b) .1 s (up x))
+  where
+    up : T (bit (wordAt rows b 13) f) ⊎ T (bit (wordAt rows b 14) f) → Fact p b f (asserts false) ⊎ Fact p b f (asserts true)
+    up (inl t) = inl ((cell r l (asserts false)) .0 t)
+    up (inr t) = inr ((cell r l (asserts true)) .0 t)
 
-  pub silent-cell : (¬ (T (bit (wordAt rows b 13) f) ⊎ T (bit (wordAt rows b 14) f))) ↔ Silent p f b
-  silent-cell = (λ k. (silent-is p f b) .0 (λ x. k (down x)), λ s x. (silent-is p f b) .1 s (up x))
-    where
-      up : T (bit (wordAt rows b 13) f) ⊎ T (bit (wordAt rows b 14) f) → Fact p b f (asserts false) ⊎ Fact p b f (asserts true)
-      up (inl t) = inl ((cell (asserts false)) .0 t)
-      up (inr t) = inr ((cell (asserts true)) .0 t)
-
-      down : Fact p b f (asserts false) ⊎ Fact p b f (asserts true) → T (bit (wordAt rows b 13) f) ⊎ T (bit (wordAt rows b 14) f)
-      down (inl x) = inl ((cell (asserts false)) .1 x)
-      down (inr x) = inr ((cell (asserts true)) .1 x)
+    down : Fact p b f (asserts false) ⊎ Fact p b f (asserts true) → T (bit (wordAt rows b 13) f) ⊎ T (bit (wordAt rows b 14) f)
+    down (inl x) = inl ((cell r l (asserts false)) .1 x)
+    down (inr x) = inr ((cell r l (asserts true)) .1 x)
 
 -- if the premise is the same and the conclusion is, the implication is
 pub implied : {C D A B : Type 0} → C ↔ D → A ↔ B → (C → A) ↔ (D → B)

@@ -2,13 +2,13 @@
 use mathlib.Core.Path.{_≡_, _∙_}
 use Prim.Native.Nat.{ℕ, _≤_, _<_, _-_}
 use lib.ListN.{length, getD, length-set}
 use Rattle.words.specs.Columns.{wordAt}
-use Rattle.words.specs.Groups.{JoinedWord}
-use Rattle.words.proofs.Merge.{filled}
+use Rattle.groups.specs.Groups.{JoinedWord}
+use Rattle.words.proofs.Rows.{filled}
 use native.Mathlib.Omega.{arith}
 use borrow.Author.Needs.{needs}
-use Rattle.words.proofs.merged.Statement.{statement}
-use Rattle.words.proofs.merged.Tie as tie
+use Rattle.groups.proofs.merged.Statement.{statement}
+use Rattle.groups.proofs.merged.Tie as tie
 
 abbrev Inv-loop : tie.InvT-loop
 Inv-loop first last rows child words mask out₀ k₀ out k =

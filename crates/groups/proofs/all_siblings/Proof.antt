@@ -3,15 +3,15 @@ use mathlib.Core.Path.{_≡_, refl}
 use Prim.Native.Nat.{_+_, _≤_, _<_, _-_}
 use lib.ListN.{getD}
 use Rattle.runs.specs.Plan.{Plan, Child}
 use Rattle.words.specs.Tables.{RepresentsOrder}
 use Rattle.words.specs.Segments.{Every}
-use Rattle.words.specs.Groups.{Group}
-use Rattle.words.specs.Siblings.{SiblingWords}
+use Rattle.groups.specs.Groups.{Group}
+use Rattle.groups.specs.Siblings.{SiblingWords}
 use Rattle.words.proofs.Segments.{listed}
-use Rattle.words.proofs.Sibling.{with-sibling, no-siblings, all-siblings}
+use Rattle.groups.proofs.Sibling.{with-sibling, no-siblings, all-siblings}
 use native.Mathlib.Omega.{arith}
-use Rattle.words.proofs.all_siblings.Statement.{statement}
-use Rattle.words.proofs.all_siblings.Tie as tie
+use Rattle.groups.proofs.all_siblings.Statement.{statement}
+use Rattle.groups.proofs.all_siblings.Tie as tie
 
 abbrev Inv-loop : tie.InvT-loop
 Inv-loop from kids order rows n node child s₀ end i₀ s i =

@@ -3,15 +3,15 @@ use mathlib.Core.Path.{_≡_}
 use Prim.Native.Nat.{_+_, _≤_, _<_, _-_}
 use lib.ListN.{getD}
 use Rattle.runs.specs.Plan.{Plan}
 use Rattle.words.specs.Tables.{RepresentsOrder}
-use Rattle.words.specs.Groups.{Group}
+use Rattle.groups.specs.Groups.{Group}
 use Rattle.bits.proofs.Says.{says-eq}
-use Rattle.words.proofs.Sibling.{masked}
+use Rattle.groups.proofs.Sibling.{masked}
 use Rattle.words.proofs.Segments.{listed}
-use Rattle.words.proofs.Merge.{AllWords, joined-none, joined-more, child-row, all-row}
+use Rattle.groups.proofs.Merge.{AllWords, joined-none, joined-more, child-row, all-row}
 use native.Mathlib.Omega.{arith}
-use Rattle.words.proofs.all_words.Statement.{statement}
-use Rattle.words.proofs.all_words.Tie as tie
+use Rattle.groups.proofs.all_words.Statement.{statement}
+use Rattle.groups.proofs.all_words.Tie as tie
 
 abbrev Inv-loop : tie.InvT-loop
 Inv-loop from kids order rows n node words₀ end i₀ words i =

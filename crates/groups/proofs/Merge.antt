@@ -10,18 +10,12 @@ use lib.Seq.{getD-set-same, getD-set-other}
 use Rattle.bits.specs.Bits.{ones, Says}
 use Rattle.bits.proofs.Says.{says-map, says-and, says-all}
 use Rattle.runs.specs.Plan.{all-of, any-of, Plan}
 use Rattle.words.specs.Columns.{Column, indexOf, Fact, wordAt, Right, Row}
-use Rattle.words.specs.Groups.{Group, Others, WithinRow, Merged, Unmerged, Joined}
-use Rattle.words.proofs.Any.{some-branch, every-branch}
-use Rattle.words.proofs.All.{every-part, some-part}
+use Rattle.groups.specs.Groups.{Group, Others, WithinRow, Merged, Unmerged, Joined}
+use Rattle.groups.proofs.Any.{some-branch, every-branch}
+use Rattle.groups.proofs.All.{every-part, some-part}
 use Rattle.words.proofs.Rows.{index-small}
 use Rattle.words.proofs.Segments.{listed, every-more, some-more, every-none, some-none, every-child, some-child}
-
--- an array filled from the front: what holds of each word written holds of one more
-pub filled : (P : ℕ → ℕ → Type 0) (out : List ℕ) (k x : ℕ) → k < length out → P k x → ((j : ℕ) → j < k → P j (getD out j 0))
-    → (j : ℕ) → j < k + 1 → P j (getD (set out k x) j 0)
-filled P out k x l p h j m = by-cases (ℕ-discrete j k) (λ e. rw (e, getD-set-same out k x 0 l) p)
-    (λ ne. rw (getD-set-other out k j x 0 ne) (h j (omega arith)))
 
 -- an array of zeros
 abbrev zeros : ℕ → List ℕ
