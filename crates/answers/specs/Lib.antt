@@ -1,2 +1,3 @@
 -- What a call answers and leaves. Definitions only.
 pub mod Answers
+pub mod Zeros

@@ -11,7 +11,7 @@ use Rattle.rules.specs.Rules.{refusal, badOrder, cause13, cause14}
 use Rattle.rules.proofs.Laws.{none-at}
 use Rattle.plan.specs.Meaning.{planOf}
 use Rattle.plan.proofs.Accepted.{Clean}
-use Rattle.plan.proofs.Rising.{first-rises}
+use Rattle.rules.proofs.Rising.{first-rises}
 use Rattle.plan.proofs.Meaning.{siblings, child-is, means}
 use Rattle.runs.specs.Plan.{Before, direct, chain}
 

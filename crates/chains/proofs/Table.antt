@@ -6,6 +6,7 @@ use Prim.Native.Nat.{ℕ, _+_, _-_, _*_, _<_, _≤_}
 use native.Mathlib.Decide.{ℕ-discrete, decLt}
 use native.Mathlib.Omega.{arith}
 use lib.ListN.{length}
+use Rattle.answers.specs.Zeros.{Zeros}
 use Rattle.words.specs.Tables.{code, RepresentsOrder}
 use Rattle.format.specs.Format.{orderCount, earlierOf, laterOf}
 use Rattle.rules.specs.Rules.{refusal}
@@ -13,7 +14,7 @@ use Rattle.plan.specs.Meaning.{planOf}
 use Rattle.plan.proofs.Accepted.{clean}
 use Rattle.plan.proofs.Meaning.{means}
 use Rattle.runs.specs.Plan.{Node}
-use Rattle.chains.specs.Links.{Blank, Linked, Reached}
+use Rattle.chains.specs.Links.{Linked, Reached}
 use Rattle.chains.proofs.Chains.{ChainFrom, Sorted, chain-none, chain-weaken, chain-rises, chain-split, chain-begins, chain-before, before-chain}
 
 -- v is the code of x and y
@@ -25,7 +26,7 @@ pub record Tabled (b order : List ℕ) (i : ℕ) : Type 0 where
   pub long : length order ≡ 16384
   pub coded : (x y : ℕ) → x < 128 → y < 128 → Coded b i (code order x y) x y
 
-pub tabled-none : {b order : List ℕ} → Blank order → Tabled b order (orderCount b)
+pub tabled-none : {b order : List ℕ} → Zeros 16384 order → Tabled b order (orderCount b)
 tabled-none {b} {order} h =
     record {
       long = h .long;

@@ -3,13 +3,8 @@ use mathlib.Core.Path.{_≡_}
 use mathlib.Core.Logic.{_⊎_}
 use mathlib.Core.List.{List}
 use Prim.Native.Nat.{ℕ, _<_}
-use lib.ListN.{length, getD}
+use lib.ListN.{length}
 use Rattle.words.specs.Tables.{code}
-
--- a table with no relation
-pub record Blank (order : List ℕ) : Type 0 where
-  pub long : length order ≡ 16384
-  pub zero : (j : ℕ) → j < 16384 → getD order j 0 ≡ 0
 
 -- a is put before the nodes of `To`, and nothing else is changed
 pub record Linked (old new : List ℕ) (a : ℕ) (To : ℕ → Type 0) : Type 0 where

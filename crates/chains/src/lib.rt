@@ -2,10 +2,11 @@
 ghost use mathlib.Core.Path.{_≡_};
 ghost use Prim.Native.Nat.{_<_};
 ghost use lib.ListN.{length};
+ghost use Rattle.answers.specs.Zeros.{Zeros};
 ghost use Rattle.rules.specs.Rules.{refusal};
 ghost use Rattle.plan.specs.Meaning.{planOf};
 ghost use Rattle.words.specs.Tables.{RepresentsOrder};
-ghost use Rattle.chains.specs.Links.{Blank, Linked, Reached};
+ghost use Rattle.chains.specs.Links.{Linked, Reached};
 use format::fields::orders;
 
 const BEFORE: u8 = 1;
@@ -38,14 +39,14 @@ fn link_all(order: &mut [u8; 16384], a: usize, b: usize)
 
 // A table with no relation.
 pub fn no_order() -> [u8; 16384]
-    ensures { λ r. ⌜ Blank r ⌝ }
+    ensures { λ r. ⌜ Zeros 16384 r ⌝ }
 {
     [0u8; 16384]
 }
 
 // Orders rise by (earlier, later), and earlier is the lower number: from the last to the first, all that comes after `later` is known at each.
 pub fn fill_order(plan: &[u8], order: &mut [u8; 16384])
-    requires { ⌜ (refusal (now plan) ≡ 0) × Blank (now order) ⌝ }
+    requires { ⌜ (refusal (now plan) ≡ 0) × Zeros 16384 (now order) ⌝ }
     ensures { λ r. ⌜ RepresentsOrder (now (order .exit)) (planOf (now (plan .entry))) ⌝ }
 {
     let mut i = orders(plan);

@@ -19,7 +19,7 @@ use Rattle.rules.specs.Rules.{refusal}
 use Rattle.rules.proofs.Laws.{either, and-both, and-of}
 use Rattle.plan.specs.Meaning.{placeNumber, signNumber, signIn}
 use Rattle.plan.proofs.Accepted.{clean}
-use Rattle.plan.proofs.Causes.{Usable, usable, condition-fits}
+use Rattle.rules.proofs.Causes.{Usable, usable, condition-fits}
 use Rattle.plan.proofs.Meaning.{is, has, sign-is, sign-has, kind-is}
 use Rattle.runs.specs.Plan.{Place}
 use Rattle.runs.specs.Tests.{sameB}

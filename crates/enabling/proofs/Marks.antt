@@ -12,7 +12,7 @@ use Rattle.rules.specs.Rules.{refusal}
 use Rattle.rules.proofs.Laws.{not-passed}
 use Rattle.plan.specs.Meaning.{planOf}
 use Rattle.plan.proofs.Accepted.{clean}
-use Rattle.plan.proofs.Causes.{parent-group}
+use Rattle.rules.proofs.Causes.{parent-group}
 use Rattle.plan.proofs.Meaning.{means-well-formed}
 use Rattle.runs.specs.Plan.{itself, below, Under, WellFormed}
 use Rattle.runs.specs.Model.Trees.{underB}

@@ -12,7 +12,7 @@ use borrow.Author.Tests.{ne-eqb}
 use Rattle.format.specs.Format.{u16At, nodeCount, condCount, orderCount, flagCount, wholeLength}
 use Rattle.rules.specs.Rules.{refusal, cause2}
 use Rattle.rules.proofs.Laws.{either}
-use Rattle.plan.proofs.Causes.{limits}
+use Rattle.rules.proofs.Causes.{limits}
 use Rattle.plan.proofs.Chain.{second, third}
 use Rattle.listing.specs.Text.{refusedText, printed}
 

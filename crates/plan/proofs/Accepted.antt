@@ -11,7 +11,7 @@ use Rattle.format.specs.Format.{flagCount, startFlag, wholeLength, Whole}
 use Rattle.rules.specs.Rules.{refusal, cause1, cause2, cause3, badStart, cause4, cause5, cause6, cause7, cause8, cause9, cause10, cause11, cause12, cause13, cause14}
 use Rattle.rules.proofs.Laws.{and-of, none-at, not-passed}
 use Rattle.plan.specs.Parts.{fromNodes, fromConditions, fromOrders}
-use Rattle.plan.proofs.Causes.{limits, whole}
+use Rattle.rules.proofs.Causes.{limits, whole}
 
 -- what a reader of accepted bytes may rest on
 pub record Clean (b : List ℕ) : Type 0 where

@@ -1,7 +1,7 @@
 -- The plan that accepted bytes mean: its conditions and orders are those of the bytes, and it is `Accepted`. Assumes nothing.
 use mathlib.Core.Path.{_≡_, refl, ap, _∙_, sym}
 use mathlib.Core.Logic.{_⊎_, inl, inr, ⊎-elim, by-cases, _≢_}
-use mathlib.Core.Bool.{Bool, true, false, cond, not, _&&_, _||_, true≢false, false≢true}
+use mathlib.Core.Bool.{Bool, true, false, cond, not, _&&_, _||_, true≢false, or-true}
 use mathlib.Core.List.{List}
 use mathlib.Core.Option.{some, none}
 use Prim.Native.Nat.{ℕ, zero, suc, _+_, _*_, _<_, _≤_}
@@ -14,11 +14,11 @@ use Rattle.codes.specs.Values.{flagOf, signOf, placeOf, valueBad}
 use Rattle.format.specs.Format.{nodeCount, condCount, orderCount, flagCount, parentOf, kindOf, minutesOf, condNode, condValue, earlierOf, laterOf, isKind, isGroup}
 use Rattle.rules.specs.Rules.{refusal, badEntry, cause6, childless, cause8, bothSigns, cause11, noPost, postOf, cause12, isChild, badPair, badOrder, cause13}
 use Rattle.rules.specs.Search.{someBelow}
-use Rattle.rules.proofs.Laws.{or-none, or-split, and-both, and-of, none-at, found-at, some-yes, not-passed, or-true}
+use Rattle.rules.proofs.Laws.{or-none, or-split, and-both, and-of, none-at, found-at, some-yes, not-passed, true-T, T-true}
 use Rattle.runs.specs.Plan.{task, all-of, Place, inc, post, Accepted, WellFormed}
 use Rattle.runs.proofs.Plan.Accepted.{accepted-well-formed, accepted-rank}
 use Rattle.plan.specs.Meaning.{kindAt, placeNumber, signNumber, conditionIs, hasCondition, signIn, orderIs, hasOrder, planOf, kindNumber, ConditionPair, OrderPair, Means}
-use Rattle.plan.proofs.Causes.{condition-fits, parent-group, root-parent, both-signs-of, post-of}
+use Rattle.rules.proofs.Causes.{condition-fits, parent-group, root-parent, both-signs-of, post-of}
 use Rattle.plan.proofs.Accepted.{Clean, clean}
 
 -- ---- conditions
@@ -104,14 +104,6 @@ module _ (b : List ℕ) (k : Place) (t f : ℕ) where
         sign-has v (has b (placeNumber k) t f (signNumber v) (r .at) (record { below = r .below; node = r .node; place = w .2; flag = w .0; sign = w .1 }))
 
 -- ---- orders
-true-T : (t : Bool) → t ≡ true → T t
-true-T true e = tt
-true-T false e = absurd (false≢true e)
-
-T-true : (t : Bool) → T t → t ≡ true
-T-true true e = refl
-T-true false e = absurd e
-
 module _ (b : List ℕ) (x y : ℕ) where
   pub order-is : T (hasOrder b x y) → OrderPair b x y
   unfolding hasOrder orderIs

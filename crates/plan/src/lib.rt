@@ -1,14 +1,12 @@
 // Rules 1 to 14: whether a plan (01: book) is accepted.
-mod passes;
-
 use format::fields::conditions;
 use format::fields::flags;
 use format::fields::nodes;
 use format::fields::orders;
 use passes::Pass;
 use passes::refuses;
-use rules::search::Rule;
-use rules::search::broken;
+use searches::Rule;
+use searches::broken;
 ghost use mathlib.Core.Path.{_≡_};
 ghost use Prim.Native.Nat.{_≤_};
 ghost use lib.ListN.{length};

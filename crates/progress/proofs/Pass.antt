@@ -12,7 +12,7 @@ use lib.Seq.{getD-set-same, getD-set-other}
 use Rattle.format.specs.Format.{nodeCount, parentOf, isKind}
 use Rattle.rules.specs.Rules.{isChild}
 use Rattle.rules.proofs.Laws.{and-both, and-of, not-passed}
-use Rattle.plan.proofs.Causes.{parent-group}
+use Rattle.rules.proofs.Causes.{parent-group}
 use Rattle.plan.proofs.Meaning.{child-is}
 use Rattle.plan.specs.Meaning.{planOf}
 use Rattle.runs.specs.Tests.{sameB}

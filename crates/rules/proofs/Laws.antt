@@ -1,21 +1,18 @@
 -- The laws of `someBelow`, and of tests. Assumes nothing.
 use mathlib.Core.Path.{_≡_, refl, ap, _∙_, sym}
 use mathlib.Core.Logic.{_⊎_, inl, inr, ⊎-elim}
-use mathlib.Core.Bool.{Bool, true, false, _&&_, _||_, false≢true, true≢false}
+use mathlib.Core.Bool.{Bool, true, false, _&&_, _||_, false≢true, true≢false, or-true}
 use Prim.Native.Nat.{ℕ, zero, suc, _+_, _-_, _≤_, _<_}
 use native.Mathlib.Nat.{eq-or-lt-of-le, le-of-suc-le-suc}
 use native.Mathlib.Numerals.{add-one}
 use native.Mathlib.Omega.{arith}
 use mathlib.Core.List.{List}
 use lib.ListN.{length}
+use lib.Dec.{T}
 use Rattle.format.specs.Format.{Whole}
 use Rattle.rules.specs.Search.{someBelow}
 
 -- ---- Bool
-pub or-true : (a : Bool) → (a || true) ≡ true
-or-true true = refl
-or-true false = refl
-
 pub or-split : (a b : Bool) → (a || b) ≡ true → (a ≡ true) ⊎ (b ≡ true)
 or-split true b h = inl refl
 or-split false b h = inr h
@@ -48,6 +45,14 @@ same false false f g = refl
 pub not-passed : (a : Bool) → (a ≡ true → ⊥) → a ≡ false
 not-passed true f = absurd (f refl)
 not-passed false f = refl
+
+pub true-T : (a : Bool) → a ≡ true → T a
+true-T true e = tt
+true-T false e = absurd (false≢true e)
+
+pub T-true : (a : Bool) → T a → a ≡ true
+T-true true t = refl
+T-true false t = absurd t
 
 -- a whole plan has its head
 pub whole-head : {b : List ℕ} → Whole b → 16 ≤ length b

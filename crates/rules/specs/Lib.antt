@@ -1,3 +1,2 @@
 pub mod Search
 pub mod Rules
-pub mod Indexed

@@ -1,3 +1,2 @@
-// The causes 1 to 14 for which a plan (01: book) is refused, and the search for an index that breaks a rule.
-pub mod search;
+// The causes 1 to 14 for which a plan (01: book) is refused, and the tests of single flags, characters, nodes, conditions and orders.
 pub mod tests;

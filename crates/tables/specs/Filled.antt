@@ -1,24 +1,17 @@
 -- The tables of an accepted plan, before and after they are filled. Definitions only.
-use mathlib.Core.Path.{_≡_}
 use mathlib.Core.List.{List}
-use Prim.Native.Nat.{ℕ, _<_}
-use lib.ListN.{length, getD}
+use Prim.Native.Nat.{ℕ}
+use Rattle.answers.specs.Zeros.{Zeros}
 use Rattle.format.specs.Format.{nodeCount}
 use Rattle.plan.specs.Meaning.{planOf}
 use Rattle.words.specs.Tables.{Shaped, Represents}
-use Rattle.chains.specs.Links.{Blank}
-
--- n zeros
-pub record Zeros (n : ℕ) (xs : List ℕ) : Type 0 where
-  pub long : length xs ≡ n
-  pub zero : (j : ℕ) → j < n → getD xs j 0 ≡ 0
 
 -- tables with nothing in them
 pub record Fresh (kind from kids order conds : List ℕ) : Type 0 where
   pub no-kinds : Zeros 128 kind
   pub no-starts : Zeros 129 from
   pub no-kids : Zeros 128 kids
-  pub no-order : Blank order
+  pub no-order : Zeros 16384 order
   pub no-conditions : Zeros 768 conds
 
 -- tables of the plan that the bytes b mean

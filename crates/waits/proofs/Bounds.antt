@@ -12,7 +12,7 @@ use Rattle.format.specs.Format.{nodeCount, parentOf, kindOf, minutesOf, earlier
 use Rattle.rules.specs.Rules.{isChild, badEntry, cause6}
 use Rattle.rules.proofs.Laws.{none-at, or-none, not-passed}
 use Rattle.plan.proofs.Accepted.{Clean}
-use Rattle.plan.proofs.Causes.{root-parent, parent-group}
+use Rattle.rules.proofs.Causes.{root-parent, parent-group}
 use Rattle.plan.proofs.Meaning.{kind-is, kind-of, kind-group, group-is, group-of, kind-limit}
 use Rattle.waits.specs.Waits.{lengthOf, waitWithin, waitsTo, longestWait}
 use Rattle.waits.proofs.Greatest.{greatest-le, greatest-least}

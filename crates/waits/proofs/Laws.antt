@@ -12,7 +12,7 @@ use Rattle.rules.proofs.Laws.{none-at}
 use Rattle.runs.specs.Plan.{Kind, task, all-of, any-of}
 use Rattle.plan.specs.Meaning.{kindAt}
 use Rattle.plan.proofs.Accepted.{Clean}
-use Rattle.plan.proofs.Causes.{parent-group}
+use Rattle.rules.proofs.Causes.{parent-group}
 use Rattle.plan.proofs.Meaning.{child-is, siblings, kind-task, kind-all-of, kind-of}
 use Rattle.progress.proofs.Sound.{kind-any-of}
 use Rattle.waits.specs.Waits.{greatest, waitBy, lengthAs, lengthBy, lengthOf, waitWithin}

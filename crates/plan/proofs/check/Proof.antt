@@ -1,7 +1,7 @@
 -- `plan::check` meets its contract. Assumes nothing.
 use native.Mathlib.Omega.{arith}
 use Rattle.plan.proofs.Chain.{first, second, third, rest}
-use Rattle.plan.proofs.Causes.{limits, whole}
+use Rattle.rules.proofs.Causes.{limits, whole}
 use Rattle.rules.specs.Rules.{cause2}
 use Rattle.format.specs.Format.{Limits}
 use denote.Ref.{now}

@@ -4,7 +4,7 @@ use Prim.Native.Nat.{ℕ, _≤_, _-_}
 use Rattle.format.specs.Format.{condCount}
 use Rattle.tables.proofs.Conditions.{Noted, noted-none, noted-more, noted-all}
 use Rattle.plan.proofs.Accepted.{clean}
-use Rattle.plan.proofs.Causes.{usable}
+use Rattle.rules.proofs.Causes.{usable}
 use Rattle.reader.specs.declared.items.Condition.{Condition}
 use native.Mathlib.Omega.{arith}
 use borrow.Author.Needs.{needs}

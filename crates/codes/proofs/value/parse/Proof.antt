@@ -5,7 +5,6 @@ use Rattle.codes.specs.Values.{parsedOf}
 use borrow.Author.Tests.{lt-leb}
 use mathlib.Core.Path.{_∙_}
 use Prim.Native.Nat.{_-_}
-use borrow.Author.Needs.{needs}
 use Rattle.codes.proofs.value.parse.Statement.{statement}
 use Rattle.codes.proofs.value.parse.Tie as tie
 
@@ -35,12 +34,12 @@ pub parse-spec : {M : Type 1} → statement M
 parse-spec =
     tie.close
     (tie.spec
-    (λ c κs. search needs)
-    (λ c κs. search needs)
-    (λ c κs. search needs)
-    (λ c κs. search needs)
-    (λ c κs. search needs)
-    (λ c κs. search needs)
+    (λ c κs. tt)
+    (λ c κs. tt)
+    (λ c κs. tt)
+    (λ c κs. tt)
+    (λ c κs. tt)
+    (λ c κs. tt)
     returns
     returns-2
     returns-3

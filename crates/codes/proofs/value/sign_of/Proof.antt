@@ -1,28 +1,18 @@
 -- `codes::value::sign_of` meets its contract. Assumes nothing.
 use native.Mathlib.Omega.{arith}
-use mathlib.Core.Path.{_≡_, _∙_}
-use Rattle.codes.specs.declared.value.Parsed.the-variants as parsed
-use Rattle.codes.specs.Values.{parsedOf}
+use mathlib.Core.Path.{sym, _∙_}
 use Rattle.codes.proofs.Values.{says, refused}
-use borrow.Author.Needs.{needs}
 use Rattle.codes.proofs.value.sign_of.Statement.{statement}
 use Rattle.codes.proofs.value.sign_of.Tie as tie
 
 returns : tie.Need-returns
 returns c =
-    let v = c .before .before .before .before .before .args .v in
-    let e : parsedOf v ≡ parsed.Accepted (c .before .before .c .given .0 .0) = cc in
-    let s = says v (c .before .before .c .given .0 .0) e in
+    let k = c .before .before in
+    let s = says _ _ (sym (k .before .before .parse .ensures) ∙ k .c .given .1) in
     c .sign-number .ensures ∙ s .sign
 
 returns-2 : tie.Need-returns-2
-returns-2 c =
-    let v = c .before .before .before .args .v in
-    let e : parsedOf v ≡ parsed.Refused = cc in
-    let l = refused v e in
-    absurd (omega arith)
+returns-2 c = absurd (omega (arith, refused _ (sym (c .before .before .parse .ensures) ∙ c .enum-told .given .1)))
 
 pub sign-of-spec : {M : Type 1} → statement M
-sign-of-spec =
-    tie.close
-    (tie.spec (λ c κs. search needs) (λ c. search needs) (λ c κs. search needs) (λ c. search needs) returns returns-2)
+sign-of-spec = tie.close (tie.spec (λ c κs. tt) (λ c. c .match .keys1) (λ c κs. tt) (λ c. c .match .keys2) returns returns-2)

@@ -1,23 +1,23 @@
 -- `format::fields::condition_value` meets its contract. Assumes nothing.
+use native.Mathlib.Omega.{arith}
 use Rattle.format.specs.Format.{condValue}
-use borrow.Author.Needs.{needs}
 use Rattle.format.proofs.fields.condition_value.Statement.{statement}
 use Rattle.format.proofs.fields.condition_value.Tie as tie
 
 returns : tie.Need-returns
 unfolding condValue
-returns c = cc
+returns c = rw (c .u16-at .ensures, c .before .conditions .ensures, c .before .before .nodes .ensures)
 
 pub condition-value-spec : {M : Type 1} → statement M
 condition-value-spec =
     tie.close
     (tie.spec
-    (λ c κs. search needs)
-    (λ c. search needs)
-    (λ c. search needs)
-    (λ c κs. search needs)
-    (λ c. search needs)
-    (λ c. search needs)
-    (λ c. search needs)
-    (λ c κs. search needs)
+    (λ c κs. c .before .pre .1 .limits .long)
+    (λ c. omega arith)
+    (λ c. omega arith)
+    (λ c κs. c .before .before .pre .1 .limits .long)
+    (λ c. omega arith)
+    (λ c. omega arith)
+    (λ c. omega arith)
+    (λ c κs. omega arith)
     returns)

@@ -1,12 +1,17 @@
 -- `format::fields::conditions` meets its contract. Assumes nothing.
+use native.Mathlib.Omega.{arith}
 use Rattle.format.specs.Format.{condCount}
-use borrow.Author.Needs.{needs}
 use Rattle.format.proofs.fields.conditions.Statement.{statement}
 use Rattle.format.proofs.fields.conditions.Tie as tie
 
 returns : tie.Need-returns
 unfolding condCount
-returns c = search needs
+returns c = c .u16-at .ensures
 
 pub conditions-spec : {M : Type 1} → statement M
-conditions-spec = tie.close (tie.spec (λ c κs. search needs) (λ c. search needs) returns)
+conditions-spec =
+    tie.close
+    (tie.spec
+    (λ c κs. omega arith)
+    (λ c. omega arith)
+    returns)

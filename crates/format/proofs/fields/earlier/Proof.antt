@@ -1,23 +1,23 @@
 -- `format::fields::earlier` meets its contract. Assumes nothing.
+use native.Mathlib.Omega.{arith}
 use Rattle.format.specs.Format.{earlierOf}
-use borrow.Author.Needs.{needs}
 use Rattle.format.proofs.fields.earlier.Statement.{statement}
 use Rattle.format.proofs.fields.earlier.Tie as tie
 
 returns : tie.Need-returns
 unfolding earlierOf
-returns c = cc
+returns c = rw (c .before .conditions .ensures, c .before .before .nodes .ensures)
 
 pub earlier-spec : {M : Type 1} → statement M
 earlier-spec =
     tie.close
     (tie.spec
-    (λ c κs. search needs)
-    (λ c. search needs)
-    (λ c. search needs)
-    (λ c κs. search needs)
-    (λ c. search needs)
-    (λ c. search needs)
-    (λ c. search needs)
-    (λ c. search needs)
+    (λ c κs. c .before .pre .1 .limits .long)
+    (λ c. omega arith)
+    (λ c. omega arith)
+    (λ c κs. c .before .before .pre .1 .limits .long)
+    (λ c. omega arith)
+    (λ c. omega arith)
+    (λ c. omega arith)
+    (λ c. omega arith)
     returns)

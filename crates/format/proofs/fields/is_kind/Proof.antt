@@ -3,9 +3,7 @@ use native.Mathlib.Omega.{arith}
 use Prim.Native.Nat.{_<_, _≤_}
 use denote.Ref.{now}
 use Rattle.format.specs.Format.{nodeCount, isKind}
-use native.Mathlib.Omega.{arith}
 use borrow.Author.Tests.{lt-ltb, le-ltb}
-use borrow.Author.Needs.{needs}
 use Rattle.format.proofs.fields.is_kind.Statement.{statement}
 use Rattle.format.proofs.fields.is_kind.Tie as tie
 
@@ -24,4 +22,4 @@ returns-2 c =
     simp (le-ltb _ _ l)
 
 pub is-kind-spec : {M : Type 1} → statement M
-is-kind-spec = tie.close (tie.spec (λ c κs. search needs) (λ c κs. search needs) returns returns-2)
+is-kind-spec = tie.close (tie.spec (λ c κs. c .before .pre .limits .long) (λ c κs. (omega arith, c .before .before .before .pre)) returns returns-2)

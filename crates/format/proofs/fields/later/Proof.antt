@@ -1,25 +1,25 @@
 -- `format::fields::later` meets its contract. Assumes nothing.
+use native.Mathlib.Omega.{arith}
 use Rattle.format.specs.Format.{laterOf}
-use borrow.Author.Needs.{needs}
 use Rattle.format.proofs.fields.later.Statement.{statement}
 use Rattle.format.proofs.fields.later.Tie as tie
 
 returns : tie.Need-returns
 unfolding laterOf
-returns c = cc
+returns c = rw (c .before .orders .ensures, c .before .before .conditions .ensures, c .before .before .before .nodes .ensures)
 
 pub later-spec : {M : Type 1} → statement M
 later-spec =
     tie.close
     (tie.spec
-    (λ c κs. search needs)
-    (λ c. search needs)
-    (λ c. search needs)
-    (λ c κs. search needs)
-    (λ c. search needs)
-    (λ c. search needs)
-    (λ c κs. search needs)
-    (λ c. search needs)
-    (λ c. search needs)
-    (λ c. search needs)
+    (λ c κs. c .before .pre .1 .limits .long)
+    (λ c. omega arith)
+    (λ c. omega arith)
+    (λ c κs. c .before .before .pre .1 .limits .long)
+    (λ c. omega arith)
+    (λ c. omega arith)
+    (λ c κs. c .before .before .before .pre .1 .limits .long)
+    (λ c. omega arith)
+    (λ c. omega arith)
+    (λ c. omega arith)
     returns)

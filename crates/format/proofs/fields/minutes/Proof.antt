@@ -1,20 +1,26 @@
 -- `format::fields::minutes` meets its contract. Assumes nothing.
+use native.Mathlib.Omega.{arith}
 use Rattle.format.specs.Format.{minutesOf, entryAt}
-use borrow.Author.Needs.{needs}
 use Rattle.format.proofs.fields.minutes.Statement.{statement}
 use Rattle.format.proofs.fields.minutes.Tie as tie
 
 add-u16-at : tie.Need-add-u16-at
 unfolding entryAt
-add-u16-at c = search needs
+add-u16-at c = omega arith
 
 u16-at-requires : tie.Need-u16-at-requires
 unfolding entryAt
-u16-at-requires c κs = search needs
+u16-at-requires c κs = omega arith
 
 returns : tie.Need-returns
 unfolding minutesOf
-returns c = cc
+returns c = rw (c .u16-at .ensures, c .before .entry-at .ensures)
 
 pub minutes-spec : {M : Type 1} → statement M
-minutes-spec = tie.close (tie.spec (λ c κs. search needs) add-u16-at u16-at-requires returns)
+minutes-spec =
+    tie.close
+    (tie.spec
+    (λ c κs. c .before .pre)
+    add-u16-at
+    u16-at-requires
+    returns)

@@ -1,12 +1,17 @@
 -- `format::fields::nodes` meets its contract. Assumes nothing.
+use native.Mathlib.Omega.{arith}
 use Rattle.format.specs.Format.{nodeCount}
-use borrow.Author.Needs.{needs}
 use Rattle.format.proofs.fields.nodes.Statement.{statement}
 use Rattle.format.proofs.fields.nodes.Tie as tie
 
 returns : tie.Need-returns
 unfolding nodeCount
-returns c = search needs
+returns c = c .u16-at .ensures
 
 pub nodes-spec : {M : Type 1} → statement M
-nodes-spec = tie.close (tie.spec (λ c κs. search needs) (λ c. search needs) returns)
+nodes-spec =
+    tie.close
+    (tie.spec
+    (λ c κs. omega arith)
+    (λ c. omega arith)
+    returns)

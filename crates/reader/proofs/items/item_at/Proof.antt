@@ -1,7 +1,6 @@
 -- `reader::items::item_at` meets its contract: each branch's test says which part of the plan has the position. Assumes nothing.
 use mathlib.Core.Path.{ap, sym, _∙_}
 use native.Mathlib.Omega.{arith}
-use borrow.Author.Needs.{needs}
 use Rattle.reader.specs.Items.{itemCount}
 use Rattle.reader.specs.declared.items.Item.the-variants as item
 use Rattle.reader.proofs.Positions.{item-node, item-condition, item-order}
@@ -10,7 +9,7 @@ use Rattle.reader.proofs.items.item_at.Tie as tie
 
 order-at-requires : tie.Need-order-at-requires
 unfolding itemCount
-order-at-requires c κs = search needs
+order-at-requires c κs = (omega arith, c .before .before .before .before .before .pre .1)
 
 returns : tie.Need-returns
 returns c = ap item.Node (c .node-at .ensures) ∙ sym (item-node _ (omega arith))
@@ -25,11 +24,11 @@ pub item-at-spec : {M : Type 1} → statement M
 item-at-spec =
     tie.close
     (tie.spec
-    (λ c κs. search needs)
-    (λ c κs. search needs)
+    (λ c κs. c .before .pre .1 .limits .long)
+    (λ c κs. (omega arith, c .before .before .before .pre .1))
     returns
-    (λ c κs. search needs)
-    (λ c κs. search needs)
+    (λ c κs. c .before .before .before .pre .1 .limits .long)
+    (λ c κs. (omega arith, c .before .before .before .before .before .pre .1))
     returns-2
     order-at-requires
     returns-3)

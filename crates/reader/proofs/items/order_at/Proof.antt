@@ -1,10 +1,9 @@
 -- `reader::items::order_at` meets its contract. Assumes nothing.
-use borrow.Author.Needs.{needs}
 use Rattle.reader.proofs.items.order_at.Statement.{statement}
 use Rattle.reader.proofs.items.order_at.Tie as tie
 
 returns : tie.Need-returns
-returns c = cc
+returns c = rw (c .later .ensures, c .before .earlier .ensures)
 
 pub order-at-spec : {M : Type 1} → statement M
-order-at-spec = tie.close (tie.spec (λ c κs. search needs) (λ c κs. search needs) returns)
+order-at-spec = tie.close (tie.spec (λ c κs. c .before .pre) (λ c κs. c .before .before .pre) returns)

@@ -1,0 +1,10 @@
+-- `passes::blank` meets its contract. Assumes nothing.
+use Rattle.answers.proofs.Zeros.{zeros}
+use Rattle.passes.proofs.blank.Statement.{statement}
+use Rattle.passes.proofs.blank.Tie as tie
+
+returns : tie.Need-returns
+returns c = zeros 256
+
+pub blank-spec : {M : Type 1} → statement M
+blank-spec = tie.close (tie.spec returns)
