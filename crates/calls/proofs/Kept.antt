@@ -23,7 +23,7 @@ use Rattle.answers.specs.Answers.{overlay}
 use Rattle.state.proofs.Refused.{roomy, state-well}
 use Rattle.answers.proofs.Overlay.{length-overlay, at-overlay, past-overlay}
 use Rattle.state.proofs.Left.{fresh-accepted}
-use Rattle.progress.proofs.Sound.{has-room, byte-small}
+use Rattle.state.proofs.Passed.{has-room, byte-small}
 use Rattle.monitor.specs.Events.{placeOf, withEvent, eventState}
 use Rattle.monitor.proofs.Chain.{answer-task, refused-22, accepted}
 use Rattle.monitor.proofs.Events.{next-length, byte-other, byte-flags}

@@ -9,7 +9,7 @@ use Rattle.runs.specs.Model.Monitor.{returned}
 use Rattle.runs.proofs.Calls.First.{answered}
 use Rattle.answers.proofs.First.{first-none}
 use Rattle.state.specs.State.{stateRefusal, worldOf}
-use Rattle.progress.proofs.Sound.{well-formed}
+use Rattle.state.proofs.Passed.{well-formed}
 use Rattle.monitor.specs.declared.Move.{Move}
 use Rattle.monitor.specs.Events.{eventOf, placeOf, withEvent, eventReturn, eventState, Called}
 use Rattle.monitor.proofs.Chain.{node-of, place-is, status-of, refused-16, refused-22, accepted}

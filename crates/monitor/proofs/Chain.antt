@@ -15,17 +15,18 @@ use Rattle.rules.proofs.Laws.{either}
 use mathlib.Core.Option.{none}
 use Rattle.plan.specs.Meaning.{planOf, kindAt, placeNumber, signIn}
 use Rattle.plan.proofs.Meaning.{kind-is, kind-of, kind-task, kind-limit}
+use Rattle.plan.proofs.Nodes.{is-node, node-is, plan-kind}
 use Rattle.runs.specs.Plan.{task}
 use Rattle.runs.specs.Execution.{Status, waiting, running, done, Event, start, finish, nodeOf, statusOf, asserts}
 use Rattle.runs.specs.Calls.{one, asks, statusByte, no-task, wrong-status, branch-begun, order-open, pre-unmet, inc-broken}
 use Rattle.runs.specs.Model.Monitor.{returned, refusalOf, firstOf, orElse, code, appliesB, taskB, statusB, branchBegunB, orderOpenB, preUnmetB, incBrokenB}
 use Rattle.runs.specs.Tests.{negate}
-use Rattle.runs.proofs.Reflect.{r-eq, r-map, clash}
+use Rattle.runs.proofs.Reflect.{r-eq, r-map, clash, true-T, T-true, same-test}
 use Rattle.runs.proofs.Calls.Reflect.{r-task, r-status}
 use Rattle.answers.specs.Answers.{first}
 use Rattle.answers.proofs.First.{first-none, first-some}
 use Rattle.state.specs.State.{byteOf, stateRefusal, statusIn, flagShown, worldOf}
-use Rattle.progress.proofs.Sound.{true-T, T-true, same-test, is-node, node-is, plan-kind, has-room, well-formed, byte-waiting, byte-running, byte-done}
+use Rattle.state.proofs.Passed.{has-room, well-formed, byte-waiting, byte-running, byte-done}
 use Rattle.conditions.specs.Conditions.{made, brokenAt}
 use Rattle.conditions.proofs.Refusals.{broken-is}
 use Rattle.monitor.specs.declared.Move.{Move}

@@ -24,7 +24,7 @@ use Rattle.runs.specs.Calls.{one, statusByte, no-task, wrong-status, branch-beg
 use Rattle.runs.specs.Model.Monitor.{returned, refusalOf, step, code, settle}
 use Rattle.state.specs.State.{byteOf, badFlag, badByte, malformed, stateRefusal, statusAt, statusIn, flagShown, worldOf}
 use Rattle.state.proofs.Refused.{room-long, state-good, state-well}
-use Rattle.progress.proofs.Sound.{has-room}
+use Rattle.state.proofs.Passed.{has-room}
 use Rattle.conditions.specs.Conditions.{made}
 use Rattle.conditions.proofs.Laws.{length-literals, made-flag}
 use Rattle.monitor.specs.Events.{placeOf, withEvent, eventState}

@@ -6,3 +6,4 @@ pub mod Chain
 pub mod Examples
 pub mod Accepted
 pub mod Meaning
+pub mod Nodes

@@ -12,7 +12,7 @@ use Rattle.runs.specs.Plan.{Place}
 use Rattle.runs.specs.Execution.{Status}
 use Rattle.runs.specs.Model.Monitor.{incBrokenB}
 use Rattle.state.specs.State.{byteOf, statusIn}
-use Rattle.progress.proofs.Sound.{has-room}
+use Rattle.state.proofs.Passed.{has-room}
 use Rattle.monitor.specs.Events.{eventOf, beginRefusal}
 use Rattle.monitor.proofs.Chain.{asks-of, place-is, node-of, answer-17, answer-18, answer-begin, answer-broken, broken-by}
 use native.Mathlib.Omega.{arith}

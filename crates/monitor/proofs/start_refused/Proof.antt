@@ -9,7 +9,7 @@ use Rattle.plan.specs.Meaning.{planOf}
 use Rattle.runs.specs.Execution.{start}
 use Rattle.runs.specs.Model.Monitor.{preUnmetB}
 use Rattle.state.specs.State.{flagShown}
-use Rattle.progress.proofs.Sound.{has-room}
+use Rattle.state.proofs.Passed.{has-room}
 use Rattle.conditions.specs.Conditions.{unmetAt}
 use Rattle.conditions.proofs.Refusals.{unmet-is}
 use Rattle.monitor.proofs.Chain.{begin-tree, begin-unmet}

@@ -1,10 +1,10 @@
 -- `monitor::tree_refused` meets its contract. Assumes nothing.
 use mathlib.Core.Path.{_≡_, sym, _∙_}
 use denote.Ref.{now}
-use Rattle.progress.proofs.Sound.{has-room}
 use Rattle.plan.specs.Meaning.{planOf}
 use Rattle.runs.specs.Model.Monitor.{orderOpenB}
 use Rattle.state.specs.State.{statusIn}
+use Rattle.state.proofs.Passed.{has-room}
 use Rattle.enabling.proofs.Orders.{open-is}
 use Rattle.monitor.proofs.Chain.{tree-19, tree-20, tree-none}
 use Rattle.monitor.proofs.tree_refused.Statement.{statement}
