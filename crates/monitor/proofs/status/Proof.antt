@@ -1,4 +1,4 @@
--- `monitor::status` meets its contract. Assumes nothing.
+-- `status` meets its contract. Assumes nothing.
 use mathlib.Core.Path.{_≡_, sym, _∙_}
 use denote.Ref.{now}
 use Rattle.state.specs.State.{stateRefusal}

@@ -1,4 +1,4 @@
--- `monitor::write_event` meets its contract. Assumes nothing.
+-- `write_event` meets its contract. Assumes nothing.
 use Rattle.monitor.specs.Events.{withEvent}
 use borrow.Author.Needs.{needs}
 use native.Mathlib.Omega.{arith}
