@@ -17,7 +17,7 @@ use Rattle.rules.proofs.Laws.{either}
 use Rattle.codes.specs.Values.{flagOf}
 use Rattle.format.specs.Format.{condValue, condCount}
 use Rattle.state.specs.State.{flagShown}
-use Rattle.progress.specs.Count.{num}
+use Rattle.counts.specs.Count.{num}
 use Rattle.conditions.specs.Conditions.{isOf, setAt, literals, made}
 use Rattle.conditions.proofs.Laws.{length-literals, flag-small}
 use Rattle.calls.specs.Shown.{flagByte}

@@ -23,9 +23,11 @@ use Rattle.answers.specs.Answers.{overlay}
 use Rattle.state.proofs.Refused.{roomy, state-well}
 use Rattle.answers.proofs.Overlay.{length-overlay, at-overlay, past-overlay}
 use Rattle.state.proofs.Left.{fresh-accepted}
-use Rattle.progress.proofs.Sound.{has-room, byte-small}
-use Rattle.monitor.specs.Events.{placeOf, withEvent, eventState}
-use Rattle.monitor.proofs.Chain.{answer-task, refused-22, accepted}
+use Rattle.state.proofs.Passed.{has-room, byte-small}
+use Rattle.refusals.specs.Refusals.{placeOf, eventRefusal}
+use Rattle.refusals.proofs.Chain.{answer-task}
+use Rattle.monitor.specs.Events.{afterEvent, eventState}
+use Rattle.monitor.proofs.Equations.{refused-22, accepted}
 use Rattle.monitor.proofs.Events.{next-length, byte-other, byte-flags}
 use Rattle.calls.specs.Shown.{shownByte}
 use Rattle.calls.specs.Demand3.{Bytes}
@@ -50,12 +52,6 @@ fresh-kept b s h e =
 
 -- ---- events
 module _ (b s z : List ℕ) (ok : stateRefusal b z ≡ 0) (h : Kept b s z) (e : Event) where
-  abbrev asked : ℕ
-  asked = returned (planOf b) (worldOf b z) (one e)
-
-  abbrev written : List ℕ
-  written = withEvent b (placeNumber (placeOf e)) (nodeOf e) (statusByte (statusOf e)) z
-
   eight-long : length (take 8 z) ≡ 8
   eight-long = length-take-le 8 z (omega (arith, has-room b z ok .room))
 
@@ -65,7 +61,7 @@ module _ (b s z : List ℕ) (ok : stateRefusal b z ≡ 0) (h : Kept b s z) (e : 
       (λ (l : i < 8). rw (getD-take 8 z i 0 l) (h .small i l))
       (λ l. rw (List·getD-eq-default (take 8 z) 0 {n = i} (omega (arith, eight-long))) (omega arith))
 
-  written-kept : isKind b (nodeOf e) 0 ≡ true → Kept b s written
+  written-kept : isKind b (nodeOf e) 0 ≡ true → Kept b s (afterEvent b z e)
   unfolding byteOf
   written-kept y =
       let l = kind-is b (nodeOf e) 0 y .0 in
@@ -77,14 +73,14 @@ module _ (b s z : List ℕ) (ok : stateRefusal b z ≡ 0) (h : Kept b s z) (e : 
         small = λ j m. rw (byte-flags b z ok k (nodeOf e) x y j m) (made-small b (placeNumber k) (nodeOf e) (take 8 z) (omega (arith, eight-long)) first-small j);
       }
     where
-      past : (j : ℕ) → 8 + nodeCount b ≤ j → nodeOf e < nodeCount b → isKind b (nodeOf e) 0 ≡ true → getD written j 0 ≡ getD z j 0
+      past : (j : ℕ) → 8 + nodeCount b ≤ j → nodeOf e < nodeCount b → isKind b (nodeOf e) 0 ≡ true → getD (afterEvent b z e) j 0 ≡ getD z j 0
       past j m l y =
           let q : 8 + (j - 8) ≡ j = omega arith in
           rw q at (byte-other b z ok (placeOf e) (nodeOf e) (statusByte (statusOf e)) y (j - 8) (λ w. omega arith))
 
   pub event-kept : Kept b s (eventState b z e)
   event-kept =
-      by-cases (ℕ-discrete asked 0)
+      by-cases (ℕ-discrete (eventRefusal b z e) 0)
       (λ w. rw (sym (accepted b z e ok w .1)) (written-kept (answer-task b z ok (nodeOf e) e refl w)))
       (λ n. rw (sym (refused-22 b z e ok n .1)) h)
 

@@ -18,7 +18,7 @@ use Rattle.runs.specs.Model.Monitor.{returns}
 use Rattle.runs.proofs.Calls.First.{worked-only}
 use Rattle.state.specs.Fresh.{Freshened}
 use Rattle.state.proofs.Left.{fresh-refused}
-use Rattle.progress.proofs.Sound.{well-formed}
+use Rattle.state.proofs.Passed.{well-formed}
 use Rattle.monitor.specs.Events.{Called}
 use Rattle.calls.specs.Shown.{shownByte}
 use Rattle.calls.specs.Lists.{Calls, no-calls, next-call, Listed}

@@ -3,7 +3,7 @@ use Prim.Native.Nat.{ℕ, _+_, _-_, _*_}
 use mathlib.Core.Bool.{Bool, cond}
 use lib.Dec.{ltb}
 use Rattle.runs.specs.Calls.{World, statusByte}
-use Rattle.progress.specs.Count.{num}
+use Rattle.counts.specs.Count.{num}
 
 -- the byte whose bit k is flag 8 i + k
 unfoldable pub flagByte : (ℕ → Bool) → ℕ → ℕ

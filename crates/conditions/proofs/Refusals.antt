@@ -22,8 +22,9 @@ use Rattle.runs.specs.Calls.{PreUnmet, IncBroken}
 use Rattle.runs.specs.Tests.{sameB}
 use Rattle.runs.specs.Model.Monitor.{preUnmetB, incBrokenB}
 use Rattle.runs.proofs.Calls.Reflect.{r-pre-unmet, r-inc-broken}
+use Rattle.runs.proofs.Reflect.{true-T, T-true, same-test}
 use Rattle.state.specs.State.{byteOf, flagShown, statusIn, stateRefusal}
-use Rattle.progress.proofs.Sound.{true-T, T-true, same-test, has-room, well-formed, byte-running}
+use Rattle.state.proofs.Passed.{has-room, well-formed, byte-running}
 use Rattle.conditions.specs.Conditions.{isOf, setAt, made, unmetAt, brokenAt}
 use Rattle.conditions.proofs.Laws.{flag-small, of-is, is-of, sign-at, found, made-flag, on-task}
 

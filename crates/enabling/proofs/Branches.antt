@@ -12,20 +12,21 @@ use Rattle.rules.specs.Rules.{isChild}
 use Rattle.rules.proofs.Laws.{and-both, and-of, not-passed}
 use Rattle.plan.specs.Meaning.{planOf, kindAt}
 use Rattle.plan.proofs.Meaning.{kind-is, kind-of, kind-limit}
+use Rattle.plan.proofs.Nodes.{kind-any-of, is-child, child-test, is-node, node-is, plan-kind}
 use Rattle.runs.specs.Plan.{Picks, Child, Under}
 use Rattle.runs.specs.Execution.{start, Begun, Rival, by-branch}
 use Rattle.runs.specs.Calls.{one, branch-begun, BranchBegun}
 use Rattle.runs.specs.Model.Monitor.{begunB, branchBegunB, appliesB}
-use Rattle.runs.proofs.Reflect.{Reflects}
+use Rattle.runs.proofs.Reflect.{Reflects, true-T, T-true}
 use Rattle.runs.proofs.Plan.Trees.{under-le, child-lt}
 use Rattle.runs.proofs.Execution.Completeness.{picks-any}
 use Rattle.runs.proofs.Calls.Reflect.{r-begun, r-applies}
 use Rattle.state.specs.State.{stateRefusal, statusIn}
-use Rattle.progress.specs.Count.{num, countBelow}
+use Rattle.state.proofs.Passed.{has-room, well-formed}
+use Rattle.counts.specs.Count.{num, countBelow}
 use Rattle.progress.specs.Progress.{countedAt, countedChild, childrenCounted}
 use Rattle.progress.specs.declared.Tally.the-variants as tallies
-use Rattle.progress.proofs.Count.{some-counted, counted-some, count-others}
-use Rattle.progress.proofs.Sound.{true-T, T-true, kind-any-of, is-child, child-test, is-node, node-is, plan-kind, has-room, well-formed}
+use Rattle.counts.proofs.Count.{some-counted, counted-some, count-others}
 use Rattle.enabling.specs.Enabling.{rivalAt}
 use Rattle.enabling.proofs.Marks.{up-or-here}
 

@@ -14,12 +14,13 @@ use Rattle.plan.specs.Meaning.{planOf}
 use Rattle.plan.proofs.Accepted.{clean}
 use Rattle.rules.proofs.Causes.{parent-group}
 use Rattle.plan.proofs.Meaning.{means-well-formed}
+use Rattle.plan.proofs.Nodes.{is-node}
 use Rattle.runs.specs.Plan.{itself, below, Under, WellFormed}
 use Rattle.runs.specs.Model.Trees.{underB}
 use Rattle.runs.proofs.Plan.Reflect.{r-under}
 use Rattle.runs.proofs.Plan.Trees.{under-le, under-trans}
-use Rattle.progress.specs.Count.{num}
-use Rattle.progress.proofs.Sound.{true-T, T-true, is-node}
+use Rattle.runs.proofs.Reflect.{true-T, T-true}
+use Rattle.counts.specs.Count.{num}
 
 -- a is n, or above its parent
 pub up-or-here : (b : List ℕ) {a n : ℕ} → Under (planOf b) a n → (a ≡ n) ⊎ Under (planOf b) a (parentOf b n)

@@ -14,16 +14,17 @@ use Rattle.rules.proofs.Laws.{and-both, and-of, none-at, found-at, some-yes}
 use Rattle.plan.specs.Meaning.{planOf}
 use Rattle.plan.proofs.Accepted.{clean}
 use Rattle.plan.proofs.Meaning.{siblings, child-is, order-is, has-order}
+use Rattle.plan.proofs.Nodes.{is-node}
 use Rattle.runs.specs.Execution.{start, Complete}
 use Rattle.runs.specs.Calls.{one, order-open, OrderOpen}
 use Rattle.runs.specs.Model.Monitor.{completeB, orderOpenB, appliesB}
 use Rattle.runs.specs.Model.Trees.{underB}
-use Rattle.runs.proofs.Reflect.{Reflects}
+use Rattle.runs.proofs.Reflect.{Reflects, true-T, T-true, same-test}
 use Rattle.runs.proofs.Plan.Reflect.{r-under}
 use Rattle.runs.proofs.Calls.Reflect.{r-complete, r-applies}
 use Rattle.state.specs.State.{stateRefusal, statusIn}
-use Rattle.progress.specs.Count.{num}
-use Rattle.progress.proofs.Sound.{true-T, T-true, same-test, is-node, has-room, well-formed}
+use Rattle.state.proofs.Passed.{has-room, well-formed}
+use Rattle.counts.specs.Count.{num}
 use Rattle.enabling.specs.Enabling.{openAt}
 
 -- an order's nodes are nodes

@@ -8,7 +8,7 @@ use Rattle.format.specs.Format.{isKind, earlierOf, laterOf}
 use Rattle.plan.specs.Meaning.{planOf}
 use Rattle.runs.specs.Model.Monitor.{completeB, begunB}
 use Rattle.state.specs.State.{statusIn}
-use Rattle.progress.specs.Count.{num}
+use Rattle.counts.specs.Count.{num}
 use Rattle.progress.specs.Progress.{childrenCounted}
 use Rattle.progress.specs.declared.Tally.the-variants.{Begun}
 

@@ -18,7 +18,7 @@ ghost use Rattle.plan.specs.Meaning.{planOf};
 ghost use Rattle.runs.specs.Model.Monitor.{branchBegunB};
 ghost use Rattle.runs.specs.Model.Trees.{underB};
 ghost use Rattle.state.specs.State.{stateRefusal, statusIn};
-ghost use Rattle.progress.specs.Count.{num};
+ghost use Rattle.counts.specs.Count.{num};
 ghost use Rattle.progress.specs.Progress.{childrenCounted};
 ghost use Rattle.progress.specs.declared.Tally.the-variants.{Begun, Ends};
 ghost use Rattle.enabling.specs.Enabling.{rivalAt, openAt};

@@ -5,12 +5,13 @@ use mathlib.Core.List.{List}
 use Prim.Native.Nat.{ℕ}
 use Rattle.answers.proofs.First.{answer-some}
 use Rattle.plan.specs.Meaning.{planOf}
+use Rattle.plan.proofs.Nodes.{is-node}
 use Rattle.runs.specs.Execution as execution
 use Rattle.runs.specs.Model.Monitor.{completeB}
-use Rattle.runs.proofs.Reflect.{Reflects, clash}
+use Rattle.runs.proofs.Reflect.{Reflects, clash, true-T, T-true}
 use Rattle.runs.proofs.Calls.Reflect.{r-complete}
 use Rattle.state.specs.State.{stateRefusal, statusIn}
-use Rattle.progress.proofs.Sound.{true-T, T-true, is-node, has-room, well-formed}
+use Rattle.state.proofs.Passed.{has-room, well-formed}
 use Rattle.monitor.specs.declared.Progress.the-variants.{Refused, Complete, Unfinished}
 use Rattle.monitor.specs.Status.{wordFor, statusAnswer, Told}
 

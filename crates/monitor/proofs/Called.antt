@@ -1,18 +1,20 @@
 -- The promise of `start` and `finish`, from its two equations and by what the function has at hand. Assumes nothing.
-use mathlib.Core.Path.{_≡_, sym, ap, _∙_}
+use mathlib.Core.Path.{_≡_, refl, sym, ap, _∙_}
 use mathlib.Core.List.{List}
 use Prim.Native.Nat.{ℕ}
 use Rattle.plan.specs.Meaning.{planOf, placeNumber}
 use Rattle.runs.specs.Execution.{Event, nodeOf, statusOf}
 use Rattle.runs.specs.Calls.{one, statusByte}
-use Rattle.runs.specs.Model.Monitor.{returned}
 use Rattle.runs.proofs.Calls.First.{answered}
 use Rattle.answers.proofs.First.{first-none}
 use Rattle.state.specs.State.{stateRefusal, worldOf}
-use Rattle.progress.proofs.Sound.{well-formed}
-use Rattle.monitor.specs.declared.Move.{Move}
-use Rattle.monitor.specs.Events.{eventOf, placeOf, withEvent, eventReturn, eventState, Called}
-use Rattle.monitor.proofs.Chain.{node-of, place-is, status-of, refused-16, refused-22, accepted}
+use Rattle.state.proofs.Passed.{well-formed}
+use Rattle.refusals.specs.declared.Move.{Move}
+use Rattle.refusals.specs.declared.Move.the-variants.{Start, Finish}
+use Rattle.refusals.specs.Refusals.{eventOf, placeOf, eventRefusal}
+use Rattle.refusals.proofs.Chain.{node-of, place-is}
+use Rattle.monitor.specs.Events.{withEvent, eventReturn, afterEvent, eventState, Called}
+use Rattle.monitor.proofs.Equations.{refused-16, refused-22, accepted}
 use Rattle.monitor.proofs.Events.{event-steps}
 
 pub called : (b s : List ℕ) (e : Event) {r : ℕ} {s′ : List ℕ} → r ≡ eventReturn b s e → s′ ≡ eventState b s e → Called b s e r s′
@@ -21,19 +23,24 @@ called b s e q h = record {
   returns = q;
   leaves = h;
   answered = λ ok.
-      rw (q ∙ sym (first-none (stateRefusal b s) (returned (planOf b) (worldOf b s) (one e)) ok), ap (worldOf b) h ∙ event-steps b s ok e .shows)
+      rw (q ∙ sym (first-none (stateRefusal b s) (eventRefusal b s e) ok), ap (worldOf b) h ∙ event-steps b s ok e .shows)
       (answered (planOf b) (well-formed b s ok) (worldOf b s) (one e));
 }
 
 pub called-16 : (b s : List ℕ) (e : Event) (r : ℕ) → r ≡ stateRefusal b s → (r ≡ 0 → ⊥) → Called b s e r s
 called-16 b s e r q n = let w = refused-16 b s e (λ z. n (q ∙ z)) in called b s e (q ∙ w .0) (w .1)
 
-pub called-22 : (b s : List ℕ) (e : Event) → stateRefusal b s ≡ 0 → (r : ℕ) → r ≡ returned (planOf b) (worldOf b s) (one e) → (r ≡ 0 → ⊥) → Called b s e r s
+pub called-22 : (b s : List ℕ) (e : Event) → stateRefusal b s ≡ 0 → (r : ℕ) → r ≡ eventRefusal b s e → (r ≡ 0 → ⊥) → Called b s e r s
 called-22 b s e ok r q n = let w = refused-22 b s e ok (λ z. n (q ∙ z)) in called b s e (q ∙ w .0) (w .1)
 
-pub called-0 : (b s : List ℕ) (m : Move) (t : ℕ) → stateRefusal b s ≡ 0 → returned (planOf b) (worldOf b s) (one (eventOf m t)) ≡ 0
+-- the status that a move gives does not depend on the task
+status-of : (m : Move) (t : ℕ) → statusOf (eventOf m 0) ≡ statusOf (eventOf m t)
+status-of Start t = refl
+status-of Finish t = refl
+
+pub called-0 : (b s : List ℕ) (m : Move) (t : ℕ) → stateRefusal b s ≡ 0 → eventRefusal b s (eventOf m t) ≡ 0
     → (q : ℕ) → q ≡ placeNumber (placeOf (eventOf m 0)) → (x : ℕ) → x ≡ statusByte (statusOf (eventOf m 0)) → (s′ : List ℕ) → s′ ≡ withEvent b q t x s → Called b s (eventOf m t) 0 s′
 called-0 b s m t ok z q eq x ex s′ h =
     let w = accepted b s (eventOf m t) ok z in
-    let y : withEvent b q t x s ≡ withEvent b (placeNumber (placeOf (eventOf m t))) (nodeOf (eventOf m t)) (statusByte (statusOf (eventOf m t))) s = rw (eq, ex, place-is m t, status-of m t, node-of m t) in
+    let y : withEvent b q t x s ≡ afterEvent b s (eventOf m t) = rw (eq, ex, place-is m t, status-of m t, node-of m t) in
     called b s (eventOf m t) (w .0) (h ∙ y ∙ w .1)

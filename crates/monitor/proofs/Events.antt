@@ -24,11 +24,13 @@ use Rattle.runs.specs.Calls.{one, statusByte, no-task, wrong-status, branch-beg
 use Rattle.runs.specs.Model.Monitor.{returned, refusalOf, step, code, settle}
 use Rattle.state.specs.State.{byteOf, badFlag, badByte, malformed, stateRefusal, statusAt, statusIn, flagShown, worldOf}
 use Rattle.state.proofs.Refused.{room-long, state-good, state-well}
-use Rattle.progress.proofs.Sound.{has-room}
+use Rattle.state.proofs.Passed.{has-room}
 use Rattle.conditions.specs.Conditions.{made}
 use Rattle.conditions.proofs.Laws.{length-literals, made-flag}
-use Rattle.monitor.specs.Events.{placeOf, withEvent, eventState}
-use Rattle.monitor.proofs.Chain.{answer-task, event-does, refused-22, accepted}
+use Rattle.refusals.specs.Refusals.{placeOf, eventRefusal}
+use Rattle.refusals.proofs.Chain.{answer-task, event-does}
+use Rattle.monitor.specs.Events.{withEvent, afterEvent, eventState}
+use Rattle.monitor.proofs.Equations.{refused-22, accepted}
 
 module _ (b s : List ℕ) (ok : stateRefusal b s ≡ 0) (k : Place) (t x : ℕ) (task : isKind b t 0 ≡ true) where
   abbrev flags : List ℕ
@@ -146,31 +148,25 @@ pub record Stepped (b s : List ℕ) (e : Event) : Type 0 where
   pub shows : worldOf b (eventState b s e) ≡ step (planOf b) (worldOf b s) (one e)
 
 module _ (b s : List ℕ) (ok : stateRefusal b s ≡ 0) (e : Event) where
-  abbrev asked : ℕ
-  asked = returned (planOf b) (worldOf b s) (one e)
-
-  abbrev written : List ℕ
-  written = withEvent b (placeNumber (placeOf e)) (nodeOf e) (statusByte (statusOf e)) s
-
-  same : asked ≡ 0 → isKind b (nodeOf e) 0 ≡ true → worldOf b written ≡ step (planOf b) (worldOf b s) (one e)
+  same : eventRefusal b s e ≡ 0 → isKind b (nodeOf e) 0 ≡ true → worldOf b (afterEvent b s e) ≡ step (planOf b) (worldOf b s) (one e)
   unfolding returned step worldOf
   same z y =
-      let fs : statusIn b written ≡ moved (statusIn b s) e = fun-ext (λ n. status-next b s ok (placeOf e) (nodeOf e) (statusByte (statusOf e)) y n ∙ ap (λ (a : Status). cond (eqb n (nodeOf e)) a (statusIn b s n)) (status-byte (statusOf e) .0)) in
-      let ff : flagShown written ≡ (λ f. Option·getD (asserts (planOf b) e f) (flagShown s f)) = fun-ext (λ f. shown-next b s ok (placeOf e) (nodeOf e) (statusByte (statusOf e)) y f ∙ ap (λ (o : Option Bool). Option·getD o (flagShown s f)) (sym (event-does b s ok e f))) in
+      let fs : statusIn b (afterEvent b s e) ≡ moved (statusIn b s) e = fun-ext (λ n. status-next b s ok (placeOf e) (nodeOf e) (statusByte (statusOf e)) y n ∙ ap (λ (a : Status). cond (eqb n (nodeOf e)) a (statusIn b s n)) (status-byte (statusOf e) .0)) in
+      let ff : flagShown (afterEvent b s e) ≡ (λ f. Option·getD (asserts (planOf b) e f) (flagShown s f)) = fun-ext (λ f. shown-next b s ok (placeOf e) (nodeOf e) (statusByte (statusOf e)) y f ∙ ap (λ (o : Option Bool). Option·getD o (flagShown s f)) (sym (event-does b s ok e f))) in
       let n : refusalOf (planOf b) (worldOf b s) (one e) ≡ none = code-none (refusalOf (planOf b) (worldOf b s) (one e)) z in
       rw n (cc (fs, ff))
 
-  moves : asked ≡ 0 → Stepped b s e
+  moves : eventRefusal b s e ≡ 0 → Stepped b s e
   moves z =
       let y = answer-task b s ok (nodeOf e) e refl z in
       let q = sym (accepted b s e ok z .1) in
       record { well-formed = ap (stateRefusal b) q ∙ still-well b s ok (placeOf e) (nodeOf e) (statusByte (statusOf e)) y (status-byte (statusOf e) .1); shows = ap (worldOf b) q ∙ same z y }
 
-  refused : (asked ≡ 0 → ⊥) → Stepped b s e
+  refused : (eventRefusal b s e ≡ 0 → ⊥) → Stepped b s e
   unfolding step returned
   refused n =
       let q = refused-22 b s e ok n .1 in
       record { well-formed = ap (stateRefusal b) (sym q) ∙ ok; shows = ap (worldOf b) (sym q) ∙ sym (settled (refusalOf (planOf b) (worldOf b s) (one e)) (worldOf b s) _ n) }
 
   pub event-steps : Stepped b s e
-  event-steps = by-cases (ℕ-discrete asked 0) (λ z. moves z) (λ n. refused n)
+  event-steps = by-cases (ℕ-discrete (eventRefusal b s e) 0) (λ z. moves z) (λ n. refused n)

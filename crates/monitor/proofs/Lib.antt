@@ -1,4 +1,4 @@
-pub mod Chain
 pub mod Answers
+pub mod Equations
 pub mod Events
 pub mod Called

@@ -1,3 +1,4 @@
 pub mod Chain
 pub mod Accepted
 pub mod Meaning
+pub mod Nodes

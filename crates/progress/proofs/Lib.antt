@@ -1,4 +1,2 @@
-pub mod Count
-pub mod Sound
 pub mod Progress
 pub mod Pass

@@ -15,15 +15,16 @@ use Rattle.rules.proofs.Laws.{and-both, and-of, not-passed}
 use Rattle.rules.proofs.Causes.{parent-group}
 use Rattle.plan.proofs.Meaning.{child-is}
 use Rattle.plan.specs.Meaning.{planOf}
+use Rattle.plan.proofs.Nodes.{child-test, is-node}
 use Rattle.runs.specs.Tests.{sameB}
 use Rattle.runs.specs.Model.Monitor.{completeB, begunB}
 use Rattle.state.specs.State.{stateRefusal, statusIn}
-use Rattle.progress.specs.Count.{num, countBelow}
+use Rattle.state.proofs.Passed.{has-room}
+use Rattle.counts.specs.Count.{num, countBelow}
 use Rattle.progress.specs.Progress.{countedAt, countedChild, childrenCounted}
 use Rattle.progress.specs.declared.Tally.{Tally}
 use Rattle.progress.specs.declared.Tally.the-variants.{Begun, Ends}
-use Rattle.progress.proofs.Count.{count-le, count-rest, count-back}
-use Rattle.progress.proofs.Sound.{child-test, is-node, has-room}
+use Rattle.counts.proofs.Count.{count-le, count-rest, count-back}
 
 -- the counted children of g among the last m nodes
 unfoldable pub part : Tally → List ℕ → List ℕ → ℕ → ℕ → ℕ

@@ -12,6 +12,7 @@ use Rattle.rules.specs.Rules.{isChild}
 use Rattle.rules.proofs.Laws.{and-both, and-of, not-passed}
 use Rattle.plan.specs.Meaning.{planOf}
 use Rattle.plan.proofs.Meaning.{kind-of, kind-is, kind-task, kind-all-of, kind-group, kind-limit}
+use Rattle.plan.proofs.Nodes.{kind-any-of, is-child, child-test, is-node, node-is, plan-kind}
 use Rattle.runs.specs.Plan.{task, itself, Child}
 use Rattle.runs.specs.Execution.{task-done, all-done, any-done, Complete, Begun}
 use Rattle.runs.specs.Tests.{sameB, negate}
@@ -19,15 +20,15 @@ use Rattle.runs.specs.Model.Monitor.{completeB, begunB}
 use Rattle.runs.proofs.Plan.Trees.{Branch, branch, child-under, under-trans}
 use Rattle.runs.proofs.Execution.Completeness.{picks-any, complete-task, complete-all, PickDone, branch-done, complete-pick}
 use Rattle.runs.proofs.Execution.Final.{under-task}
-use Rattle.runs.proofs.Reflect.{Reflects, r-map, r-eq, r-negate}
+use Rattle.runs.proofs.Reflect.{Reflects, r-map, r-eq, r-negate, true-T, T-true, same-test}
 use Rattle.runs.proofs.Calls.Reflect.{r-complete, r-begun}
 use Rattle.state.specs.State.{byteOf, stateRefusal, statusIn}
+use Rattle.state.proofs.Passed.{has-room, well-formed, byte-done, byte-waiting}
 use Rattle.progress.specs.Progress.{countedAt, countedChild, childrenCounted}
 use Rattle.progress.specs.declared.Tally.{Tally}
 use Rattle.progress.specs.declared.Tally.the-variants.{Ends}
 use Rattle.progress.specs.declared.Tally.the-variants as tallies
-use Rattle.progress.proofs.Count.{some-counted, counted-some}
-use Rattle.progress.proofs.Sound.{true-T, T-true, same-test, kind-any-of, is-child, child-test, is-node, node-is, plan-kind, has-room, well-formed, byte-done, byte-waiting}
+use Rattle.counts.proofs.Count.{some-counted, counted-some}
 
 passes : (x : Bool) → (not x ≡ true → ⊥) → T x
 passes true h = tt

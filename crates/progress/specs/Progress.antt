@@ -8,7 +8,7 @@ use Rattle.plan.specs.Meaning.{planOf}
 use Rattle.runs.specs.Tests.{sameB}
 use Rattle.runs.specs.Model.Monitor.{completeB, begunB}
 use Rattle.state.specs.State.{statusIn}
-use Rattle.progress.specs.Count.{countBelow}
+use Rattle.counts.specs.Count.{countBelow}
 use Rattle.progress.specs.declared.Tally.{Tally}
 use Rattle.progress.specs.declared.Tally.the-variants.{Begun, Ends}
 

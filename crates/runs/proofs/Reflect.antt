@@ -23,6 +23,21 @@ module _ {b : Bool} {A : Type 0} where
       at true to from = yes (to tt)
       at false to from = no from
 
+pub true-T : (t : Bool) → t ≡ true → T t
+true-T true e = tt
+true-T false e = clash cc
+
+pub T-true : (t : Bool) → T t → t ≡ true
+T-true true e = refl
+T-true false e = absurd e
+
+-- two tests that reflect the same are the same
+pub same-test : {A : Type 0} (x y : Bool) → Reflects x A → Reflects y A → x ≡ y
+same-test true true r q = refl
+same-test true false r q = absurd (q .from (r .to tt))
+same-test false true r q = absurd (r .from (q .to tt))
+same-test false false r q = refl
+
 pub dec-or : {A B : Type 0} → Dec A → Dec B → Dec (A ⊎ B)
 dec-or (yes a) d = yes (inl a)
 dec-or (no k) (yes b) = yes (inr b)

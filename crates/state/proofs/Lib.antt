@@ -1,3 +1,4 @@
 pub mod Refused
 pub mod Left
 pub mod Shown
+pub mod Passed

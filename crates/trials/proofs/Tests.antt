@@ -15,6 +15,7 @@ use Rattle.rules.specs.Rules.{refusal}
 use Rattle.rules.proofs.Laws.{and-both}
 use Rattle.plan.specs.Meaning.{planOf, startOf}
 use Rattle.plan.proofs.Meaning.{means-well-formed}
+use Rattle.plan.proofs.Nodes.{is-node}
 use Rattle.runs.specs.Calls.{World, fresh}
 use Rattle.runs.specs.Summary.{Mark, Marked}
 use Rattle.runs.specs.Tests.{both, allBelow}
@@ -22,10 +23,9 @@ use Rattle.runs.specs.Verdict.{Verdict-discrete}
 use Rattle.runs.specs.Model.Marks.{markedB}
 use Rattle.runs.specs.Model.Monitor.{returns, states}
 use Rattle.runs.specs.Model.Verdicts.{verdict}
-use Rattle.runs.proofs.Reflect.{Reflects, r-both, r-T, r-eq, r-lt, r-decide, r-all}
+use Rattle.runs.proofs.Reflect.{Reflects, r-both, r-T, r-eq, r-lt, r-decide, r-all, T-true}
 use Rattle.runs.proofs.Summary.Exact.{marks-exact}
 use Rattle.runs.proofs.Calls.First.{worked-only}
-use Rattle.progress.proofs.Sound.{T-true, is-node}
 use Rattle.calls.specs.Shown.{shownByte}
 use Rattle.summary.specs.Verdict.{answerOf}
 use Rattle.calls.specs.Demand3.{Bytes}

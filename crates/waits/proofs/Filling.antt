@@ -18,7 +18,7 @@ use Rattle.plan.specs.Meaning.{planOf}
 use Rattle.plan.proofs.Accepted.{Clean, clean}
 use Rattle.rules.proofs.Causes.{parent-group}
 use Rattle.plan.proofs.Meaning.{kind-limit, kind-task, means-well-formed}
-use Rattle.progress.proofs.Sound.{child-test, is-node, plan-kind}
+use Rattle.plan.proofs.Nodes.{child-test, is-node, plan-kind}
 use Rattle.chains.proofs.Chains.{Sorted}
 use Rattle.answers.specs.Zeros.{Zeros}
 use Rattle.waits.specs.Waits.{greatest, lengthOf, waitWithin, longestWait}

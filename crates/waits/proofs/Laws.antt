@@ -14,7 +14,7 @@ use Rattle.plan.specs.Meaning.{kindAt}
 use Rattle.plan.proofs.Accepted.{Clean}
 use Rattle.rules.proofs.Causes.{parent-group}
 use Rattle.plan.proofs.Meaning.{child-is, siblings, kind-task, kind-all-of, kind-of}
-use Rattle.progress.proofs.Sound.{kind-any-of}
+use Rattle.plan.proofs.Nodes.{kind-any-of}
 use Rattle.waits.specs.Waits.{greatest, waitBy, lengthAs, lengthBy, lengthOf, waitWithin}
 use Rattle.waits.proofs.Greatest.{greatest-same, greatest-le, greatest-least}
 

@@ -6,8 +6,8 @@ use Prim.Native.Nat.{_<_}
 use denote.Ref.{now}
 use Rattle.flags.specs.Flags.{flagIn}
 use Rattle.format.specs.Format.{nodeCount}
-use Rattle.progress.proofs.Sound.{has-room}
 use Rattle.state.proofs.Refused.{Roomy}
+use Rattle.state.proofs.Passed.{has-room}
 use Rattle.conditions.proofs.Laws.{on-task, broken-turn, kept-set, kept-clear}
 use borrow.Author.Needs.{needs}
 use native.Mathlib.Omega.{arith}

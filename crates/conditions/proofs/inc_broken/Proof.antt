@@ -6,11 +6,11 @@ use denote.Ref.{now}
 use Rattle.format.specs.Format.{condCount}
 use Rattle.rules.specs.Search.{someBelow}
 use Rattle.rules.proofs.Laws.{some-yes, none-more, none-none}
+use Rattle.state.proofs.Passed.{has-room}
 use lib.ListN.{replicate}
 use mathlib.Core.List.{List}
 use Prim.Native.Nat.{ℕ}
 use Rattle.flags.specs.Flags.{allByte}
-use Rattle.progress.proofs.Sound.{has-room}
 use Rattle.conditions.specs.Conditions.{brokenAt, made}
 use native.Mathlib.Omega.{arith}
 use Rattle.conditions.proofs.inc_broken.Statement.{statement}

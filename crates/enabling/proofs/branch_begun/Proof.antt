@@ -8,7 +8,7 @@ use Rattle.runs.specs.Plan.{itself, Under}
 use Rattle.runs.specs.Calls.{BranchBegun}
 use Rattle.state.specs.State.{statusIn}
 use Rattle.state.proofs.Refused.{Roomy}
-use Rattle.progress.proofs.Sound.{has-room}
+use Rattle.state.proofs.Passed.{has-room}
 use Rattle.enabling.proofs.Branches.{rival-here, rival-up, none-at-root, begun-yes, begun-no}
 use Rattle.enabling.proofs.Marks.{parent-lower, parent-above}
 use native.Mathlib.Omega.{arith}

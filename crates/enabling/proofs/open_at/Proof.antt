@@ -4,7 +4,7 @@ use Prim.Native.Nat.{_<_}
 use denote.Ref.{now}
 use Rattle.format.specs.Format.{nodeCount, earlierOf, laterOf}
 use Rattle.state.proofs.Refused.{Roomy}
-use Rattle.progress.proofs.Sound.{has-room}
+use Rattle.state.proofs.Passed.{has-room}
 use Rattle.enabling.specs.Enabling.{openAt}
 use Rattle.enabling.proofs.Orders.{order-nodes}
 use borrow.Author.Needs.{needs}

@@ -6,7 +6,7 @@ use denote.Ref.{now}
 use Rattle.format.specs.Format.{orderCount}
 use Rattle.rules.specs.Search.{someBelow}
 use Rattle.rules.proofs.Laws.{some-yes, none-more, none-none}
-use Rattle.progress.proofs.Sound.{has-room}
+use Rattle.state.proofs.Passed.{has-room}
 use Rattle.enabling.specs.Enabling.{openAt}
 use native.Mathlib.Omega.{arith}
 use Rattle.enabling.proofs.order_open.Statement.{statement}

@@ -3,7 +3,7 @@ use mathlib.Core.Path.{_≡_, sym, _∙_}
 use Prim.Native.Nat.{_<_}
 use denote.Ref.{now}
 use Rattle.state.proofs.Refused.{Roomy}
-use Rattle.progress.proofs.Sound.{has-room}
+use Rattle.state.proofs.Passed.{has-room}
 use Rattle.enabling.proofs.Branches.{own-begun, own-waits, no-choice}
 use Rattle.enabling.proofs.Marks.{parent-lower}
 use native.Mathlib.Omega.{arith}

@@ -1,13 +1,10 @@
--- `monitor::call` meets its contract. Assumes nothing.
+-- `call` meets its contract. Assumes nothing.
 use mathlib.Core.Path.{_≡_, sym, _∙_}
 use denote.Ref.{now}
-use Rattle.plan.specs.Meaning.{planOf}
 use Rattle.plan.proofs.Meaning.{kind-is}
-use Rattle.runs.specs.Calls.{one}
-use Rattle.runs.specs.Model.Monitor.{returned}
-use Rattle.state.specs.State.{stateRefusal, worldOf}
-use Rattle.monitor.specs.Events.{eventOf}
-use Rattle.monitor.proofs.Chain.{node-of, answer-task}
+use Rattle.state.specs.State.{stateRefusal}
+use Rattle.refusals.specs.Refusals.{eventOf, eventRefusal}
+use Rattle.refusals.proofs.Chain.{node-of, answer-task}
 use Rattle.monitor.proofs.Called.{called-16, called-22, called-0}
 use borrow.Author.Needs.{needs}
 use Rattle.monitor.proofs.call.Statement.{statement}
@@ -16,7 +13,7 @@ use Rattle.monitor.proofs.call.Tie as tie
 passed : (c : tie.Else1) → stateRefusal (now (c .before .before .before .before .before .args .plan)) (now (c .before .before .before .before .before .args .state)) ≡ 0
 passed c = sym (c .before .check-state .ensures) ∙ c .if1 .left
 
-none : (c : tie.Else2) → returned (planOf (now (c .before .before .before .before .before .before .before .before .args .plan))) (worldOf (now (c .before .before .before .before .before .before .before .before .args .plan)) (now (c .before .before .before .before .before .before .before .before .args .state))) (one (eventOf (c .before .before .before .before .before .before .before .before .args .m) (c .before .before .before .before .before .before .before .before .args .task))) ≡ 0
+none : (c : tie.Else2) → eventRefusal (now (c .before .before .before .before .before .before .before .before .args .plan)) (now (c .before .before .before .before .before .before .before .before .args .state)) (eventOf (c .before .before .before .before .before .before .before .before .args .m) (c .before .before .before .before .before .before .before .before .args .task)) ≡ 0
 none c = sym (c .before .refused .ensures) ∙ c .if2 .left
 
 returns : tie.Need-returns

@@ -1,8 +1,8 @@
--- `monitor::status` meets its contract. Assumes nothing.
+-- `status` meets its contract. Assumes nothing.
 use mathlib.Core.Path.{_≡_, sym, _∙_}
 use denote.Ref.{now}
-use Rattle.progress.proofs.Sound.{has-room}
 use Rattle.state.specs.State.{stateRefusal}
+use Rattle.state.proofs.Passed.{has-room}
 use Rattle.monitor.proofs.Answers.{told-refused, told-complete, told-unfinished}
 use borrow.Author.Needs.{needs}
 use native.Mathlib.Omega.{arith}

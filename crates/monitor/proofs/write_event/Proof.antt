@@ -1,8 +1,8 @@
--- `monitor::write_event` meets its contract. Assumes nothing.
-use Rattle.progress.proofs.Sound.{has-room}
+-- `write_event` meets its contract. Assumes nothing.
 use Rattle.monitor.specs.Events.{withEvent}
 use borrow.Author.Needs.{needs}
 use native.Mathlib.Omega.{arith}
+use Rattle.state.proofs.Passed.{has-room}
 use Rattle.monitor.proofs.write_event.Statement.{statement}
 use Rattle.monitor.proofs.write_event.Tie as tie
 

@@ -5,7 +5,7 @@ use Prim.Native.Nat.{ℕ, _+_, _-_, _≤_, _<_}
 use denote.Ref.{now}
 use Rattle.format.specs.Format.{nodeCount, parentOf}
 use Rattle.plan.proofs.Accepted.{Clean}
-use Rattle.progress.proofs.Sound.{has-room}
+use Rattle.state.proofs.Passed.{has-room}
 use Rattle.progress.proofs.Pass.{Holds, none-yet, part-le, own, all-counted, parent-small, counts, passes}
 use native.Mathlib.Omega.{arith}
 use Rattle.progress.proofs.children.Statement.{statement}

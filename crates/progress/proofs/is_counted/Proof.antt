@@ -5,7 +5,7 @@ use Rattle.progress.specs.Progress.{childrenCounted}
 use Rattle.progress.specs.declared.Tally.{Tally}
 use Rattle.progress.specs.declared.Tally.the-variants.{Begun, Ends}
 use mathlib.Core.Bool.{Bool, not}
-use Rattle.progress.proofs.Sound.{has-room}
+use Rattle.state.proofs.Passed.{has-room}
 use Rattle.progress.proofs.Pass.{at-begun, at-ends-any, at-ends-all}
 use borrow.Author.Needs.{needs}
 use Rattle.progress.proofs.is_counted.Statement.{statement}

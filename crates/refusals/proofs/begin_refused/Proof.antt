@@ -1,10 +1,10 @@
--- `monitor::begin_refused` meets its contract. Assumes nothing.
+-- `begin_refused` meets its contract. Assumes nothing.
 use mathlib.Core.Path.{_≡_, _∙_}
-use Rattle.monitor.specs.declared.Move.the-variants.{Start, Finish}
-use Rattle.monitor.proofs.Chain.{begin-start, begin-finish}
+use Rattle.refusals.specs.declared.Move.the-variants.{Start, Finish}
+use Rattle.refusals.proofs.Chain.{begin-start, begin-finish}
 use borrow.Author.Needs.{needs}
-use Rattle.monitor.proofs.begin_refused.Statement.{statement}
-use Rattle.monitor.proofs.begin_refused.Tie as tie
+use Rattle.refusals.proofs.begin_refused.Statement.{statement}
+use Rattle.refusals.proofs.begin_refused.Tie as tie
 
 returns : tie.Need-returns
 returns c =

@@ -1,4 +1,4 @@
--- `monitor::refused` meets its contract. Assumes nothing.
+-- `refused` meets its contract. Assumes nothing.
 use mathlib.Core.Path.{_≡_, sym, ap, _∙_}
 use mathlib.Core.Bool.{true}
 use Prim.Native.Nat.{_<_}
@@ -12,12 +12,12 @@ use Rattle.runs.specs.Plan.{Place}
 use Rattle.runs.specs.Execution.{Status}
 use Rattle.runs.specs.Model.Monitor.{incBrokenB}
 use Rattle.state.specs.State.{byteOf, statusIn}
-use Rattle.progress.proofs.Sound.{has-room}
-use Rattle.monitor.specs.Events.{eventOf, beginRefusal}
-use Rattle.monitor.proofs.Chain.{asks-of, place-is, node-of, answer-17, answer-18, answer-begin, answer-broken, broken-by}
+use Rattle.state.proofs.Passed.{has-room}
+use Rattle.refusals.specs.Refusals.{eventOf, beginRefusal}
+use Rattle.refusals.proofs.Chain.{asks-of, place-is, node-of, answer-17, answer-18, answer-begin, answer-broken, broken-by}
 use native.Mathlib.Omega.{arith}
-use Rattle.monitor.proofs.refused.Statement.{statement}
-use Rattle.monitor.proofs.refused.Tie as tie
+use Rattle.refusals.proofs.refused.Statement.{statement}
+use Rattle.refusals.proofs.refused.Tie as tie
 
 is-task : (c : tie.Else1) → isKind (now (c .before .before .before .before .args .plan)) (c .before .before .before .before .args .task) 0 ≡ true
 is-task c = sym (c .before .is-kind .ensures) ∙ not-false _ (c .if1 .left)

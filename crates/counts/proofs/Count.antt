@@ -1,19 +1,26 @@
 -- The laws of `countBelow`. Assumes nothing.
-use mathlib.Core.Path.{_≡_, refl, sym, ap, _∙_}
-use mathlib.Core.Logic.{⊎-elim, by-cases}
-use mathlib.Core.Bool.{Bool, true, false, not, _&&_, true≢false, false≢true}
+use mathlib.Core.Path.{_≡_, refl, sym, ap}
+use mathlib.Core.Logic.{by-cases}
+use mathlib.Core.Bool.{Bool, true, false, not, _&&_}
 use Prim.Native.Nat.{ℕ, zero, suc, _+_, _-_, _<_, _≤_}
 use native.Mathlib.Decide.{ℕ-discrete}
 use native.Mathlib.Omega.{arith}
 use lib.Dec.{eqb}
 use borrow.Author.Tests.{eq-eqb, ne-eqb}
-use Rattle.rules.proofs.Laws.{either}
-use Rattle.progress.specs.Count.{num, countBelow}
+use Rattle.counts.specs.Count.{num, countBelow}
+
+num-small : (x : Bool) → num x ≤ 1
+num-small true = omega arith
+num-small false = omega arith
+
+num-some : (x : Bool) → (num x ≡ 0 → ⊥) → x ≡ true
+num-some true h = refl
+num-some false h = absurd (h refl)
 
 pub count-le : (n : ℕ) (q : ℕ → Bool) → countBelow n q ≤ n
 unfolding countBelow
 count-le zero q = omega arith
-count-le (suc n) q = ⊎-elim (λ e. rw e (omega (arith, count-le n q))) (λ e. rw e (omega (arith, count-le n q))) (either (q n))
+count-le (suc n) q = omega (arith, count-le n q, num-small (q n))
 
 pub count-same : (n : ℕ) (p q : ℕ → Bool) → ((i : ℕ) → i < n → p i ≡ q i) → countBelow n p ≡ countBelow n q
 unfolding countBelow
@@ -43,10 +50,9 @@ pub counted-some : (n : ℕ) (q : ℕ → Bool) → (countBelow n q ≡ 0 → �
 unfolding countBelow
 counted-some zero q h = absurd (h refl)
 counted-some (suc n) q h =
-    ⊎-elim
-    (λ (e : q n ≡ true). (n, omega arith, e))
-    (λ (e : q n ≡ false). let w = counted-some n q (λ z. h (rw (e, z))) in (w .0, omega arith, w .2))
-    (either (q n))
+    by-cases (ℕ-discrete (num (q n)) 0)
+    (λ (e : num (q n) ≡ 0). let w = counted-some n q (λ z. h (omega arith)) in (w .0, omega arith, w .2))
+    (λ e. (n, omega arith, num-some (q n) e))
 
 shift : (n : ℕ) (q : ℕ → Bool) → countBelow (suc n) q ≡ num (q 0) + countBelow n (λ i. q (suc i))
 unfolding countBelow

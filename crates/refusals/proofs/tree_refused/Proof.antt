@@ -1,14 +1,14 @@
--- `monitor::tree_refused` meets its contract. Assumes nothing.
+-- `tree_refused` meets its contract. Assumes nothing.
 use mathlib.Core.Path.{_≡_, sym, _∙_}
 use denote.Ref.{now}
-use Rattle.progress.proofs.Sound.{has-room}
 use Rattle.plan.specs.Meaning.{planOf}
 use Rattle.runs.specs.Model.Monitor.{orderOpenB}
 use Rattle.state.specs.State.{statusIn}
+use Rattle.state.proofs.Passed.{has-room}
 use Rattle.enabling.proofs.Orders.{open-is}
-use Rattle.monitor.proofs.Chain.{tree-19, tree-20, tree-none}
-use Rattle.monitor.proofs.tree_refused.Statement.{statement}
-use Rattle.monitor.proofs.tree_refused.Tie as tie
+use Rattle.refusals.proofs.Chain.{tree-19, tree-20, tree-none}
+use Rattle.refusals.proofs.tree_refused.Statement.{statement}
+use Rattle.refusals.proofs.tree_refused.Tie as tie
 
 opens : (c : tie.After-order-open) → c .order-open .result ≡ orderOpenB (planOf (now (c .before .before .before .before .before .before .before .before .before .before .before .args .plan))) (statusIn (now (c .before .before .before .before .before .before .before .before .before .before .before .args .plan)) (now (c .before .before .before .before .before .before .before .before .before .before .before .args .state))) (c .before .before .before .before .before .before .before .before .before .before .before .args .task)
 opens c = c .order-open .ensures ∙ open-is _ _ (c .before .before .before .before .before .before .before .before .before .before .before .pre .1) _ _ (c .before .before .before .path .ensures .1)

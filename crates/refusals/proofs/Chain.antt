@@ -1,4 +1,4 @@
--- The chain of refusals 17 to 22, and the answers of whole calls. Assumes nothing.
+-- The chain of refusals 17 to 22. Assumes nothing.
 use mathlib.Core.Path.{_≡_, refl, sym, ap, _∙_}
 use mathlib.Core.Logic.{⊎-elim, _↔_}
 use mathlib.Core.Bool.{Bool, true, false, cond, not}
@@ -15,22 +15,23 @@ use Rattle.rules.proofs.Laws.{either}
 use mathlib.Core.Option.{none}
 use Rattle.plan.specs.Meaning.{planOf, kindAt, placeNumber, signIn}
 use Rattle.plan.proofs.Meaning.{kind-is, kind-of, kind-task, kind-limit}
+use Rattle.plan.proofs.Nodes.{is-node, node-is, plan-kind}
 use Rattle.runs.specs.Plan.{task}
 use Rattle.runs.specs.Execution.{Status, waiting, running, done, Event, start, finish, nodeOf, statusOf, asserts}
 use Rattle.runs.specs.Calls.{one, asks, statusByte, no-task, wrong-status, branch-begun, order-open, pre-unmet, inc-broken}
 use Rattle.runs.specs.Model.Monitor.{returned, refusalOf, firstOf, orElse, code, appliesB, taskB, statusB, branchBegunB, orderOpenB, preUnmetB, incBrokenB}
 use Rattle.runs.specs.Tests.{negate}
-use Rattle.runs.proofs.Reflect.{r-eq, r-map, clash}
+use Rattle.runs.proofs.Reflect.{r-eq, r-map, clash, true-T, T-true, same-test}
 use Rattle.runs.proofs.Calls.Reflect.{r-task, r-status}
 use Rattle.answers.specs.Answers.{first}
 use Rattle.answers.proofs.First.{first-none, first-some}
 use Rattle.state.specs.State.{byteOf, stateRefusal, statusIn, flagShown, worldOf}
-use Rattle.progress.proofs.Sound.{true-T, T-true, same-test, is-node, node-is, plan-kind, has-room, well-formed, byte-waiting, byte-running, byte-done}
+use Rattle.state.proofs.Passed.{has-room, well-formed, byte-waiting, byte-running, byte-done}
 use Rattle.conditions.specs.Conditions.{made, brokenAt}
 use Rattle.conditions.proofs.Refusals.{broken-is}
-use Rattle.monitor.specs.declared.Move.{Move}
-use Rattle.monitor.specs.declared.Move.the-variants.{Start, Finish}
-use Rattle.monitor.specs.Events.{eventOf, placeOf, treeRefusal, beginRefusal, withEvent, eventReturn, eventState}
+use Rattle.refusals.specs.declared.Move.{Move}
+use Rattle.refusals.specs.declared.Move.the-variants.{Start, Finish}
+use Rattle.refusals.specs.Refusals.{eventOf, placeOf, eventRefusal, treeRefusal, beginRefusal}
 
 -- ---- moves
 -- what does not depend on the task
@@ -41,10 +42,6 @@ asks-of Finish t = refl
 pub place-is : (m : Move) (t : ℕ) → placeOf (eventOf m 0) ≡ placeOf (eventOf m t)
 place-is Start t = refl
 place-is Finish t = refl
-
-pub status-of : (m : Move) (t : ℕ) → statusOf (eventOf m 0) ≡ statusOf (eventOf m t)
-status-of Start t = refl
-status-of Finish t = refl
 
 pub node-of : (m : Move) (t : ℕ) → nodeOf (eventOf m t) ≡ t
 node-of Start t = refl
@@ -91,7 +88,7 @@ module _ (b s : List ℕ) (ok : stateRefusal b s ≡ 0) where
   abbrev broken : Event → ℕ
   broken e = cond (incBrokenB (planOf b) (statusIn b s) e) 22 0
 
-  chain-of : (e : Event) → returned (planOf b) (worldOf b s) (one e)
+  chain-of : (e : Event) → eventRefusal b s e
       ≡ cond (not (taskB (planOf b) (nodeOf e))) 17 (cond (not (statusB (statusIn b s (nodeOf e)) (asks e))) 18 (first (beginRefusal b s e) (broken e)))
   unfolding returned refusalOf firstOf appliesB worldOf negate treeRefusal beginRefusal
   chain-of (start t) = start-chain (not (taskB (planOf b) t)) (not (statusB (statusIn b s t) waiting)) (branchBegunB (planOf b) (statusIn b s) t) (orderOpenB (planOf b) (statusIn b s) t) (preUnmetB (planOf b) (flagShown s) (start t)) (incBrokenB (planOf b) (statusIn b s) (start t))
@@ -99,7 +96,7 @@ module _ (b s : List ℕ) (ok : stateRefusal b s ≡ 0) where
 
   module _ (t : ℕ) (e : Event) (of : nodeOf e ≡ t) where
     abbrev answer : ℕ
-    answer = returned (planOf b) (worldOf b s) (one e)
+    answer = eventRefusal b s e
 
     chain : answer ≡ cond (not (isKind b t 0)) 17 (cond (not (statusB (statusIn b s t) (asks e))) 18 (first (beginRefusal b s e) (broken e)))
     chain = chain-of e ∙ rw (of, task-is t)
@@ -175,24 +172,3 @@ begin-start b s m t e = rw e
 pub begin-finish : (b s : List ℕ) (m : Move) (t : ℕ) → m ≡ Finish → 0 ≡ beginRefusal b s (eventOf m t)
 unfolding beginRefusal
 begin-finish b s m t e = rw e
-
--- ---- whole calls
-module _ (b s : List ℕ) (e : Event) where
-  abbrev asked : ℕ
-  asked = returned (planOf b) (worldOf b s) (one e)
-
-  abbrev written : List ℕ
-  written = withEvent b (placeNumber (placeOf e)) (nodeOf e) (statusByte (statusOf e)) s
-
-  pub refused-16 : (stateRefusal b s ≡ 0 → ⊥) → (stateRefusal b s ≡ eventReturn b s e) × (s ≡ eventState b s e)
-  unfolding eventReturn eventState
-  refused-16 n = let z = first-some (stateRefusal b s) asked n in (z, rw (ne-eqb (first (stateRefusal b s) asked) 0 (λ y. n (z ∙ y))))
-
-  module _ (ok : stateRefusal b s ≡ 0) where
-    pub refused-22 : (asked ≡ 0 → ⊥) → (asked ≡ eventReturn b s e) × (s ≡ eventState b s e)
-    unfolding eventReturn eventState
-    refused-22 n = (rw ok, rw (ok, ne-eqb asked 0 n))
-
-    pub accepted : asked ≡ 0 → (0 ≡ eventReturn b s e) × (written ≡ eventState b s e)
-    unfolding eventReturn eventState
-    accepted z = (rw (ok, z), rw (ok, z))

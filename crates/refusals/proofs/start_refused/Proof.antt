@@ -1,4 +1,4 @@
--- `monitor::start_refused` meets its contract. Assumes nothing.
+-- `start_refused` meets its contract. Assumes nothing.
 use mathlib.Core.Path.{_≡_, sym, ap, _∙_}
 use mathlib.Core.List.{List}
 use Prim.Native.Nat.{ℕ}
@@ -9,14 +9,14 @@ use Rattle.plan.specs.Meaning.{planOf}
 use Rattle.runs.specs.Execution.{start}
 use Rattle.runs.specs.Model.Monitor.{preUnmetB}
 use Rattle.state.specs.State.{flagShown}
-use Rattle.progress.proofs.Sound.{has-room}
+use Rattle.state.proofs.Passed.{has-room}
 use Rattle.conditions.specs.Conditions.{unmetAt}
 use Rattle.conditions.proofs.Refusals.{unmet-is}
-use Rattle.monitor.proofs.Chain.{begin-tree, begin-unmet}
+use Rattle.refusals.proofs.Chain.{begin-tree, begin-unmet}
 use borrow.Author.Needs.{needs}
 use native.Mathlib.Omega.{arith}
-use Rattle.monitor.proofs.start_refused.Statement.{statement}
-use Rattle.monitor.proofs.start_refused.Tie as tie
+use Rattle.refusals.proofs.start_refused.Statement.{statement}
+use Rattle.refusals.proofs.start_refused.Tie as tie
 
 unmet : (c : tie.After-pre-unmet) → preUnmetB (planOf (now (c .before .before .before .before .before .before .args .plan))) (flagShown (now (c .before .before .before .before .before .before .args .state))) (start (c .before .before .before .before .before .before .args .task)) ≡ c .pre-unmet .result
 unmet c =

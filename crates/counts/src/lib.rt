@@ -1,0 +1,1 @@
+// Definitions and laws only: how many numbers below n pass a test.
