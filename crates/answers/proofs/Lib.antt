@@ -1,2 +1,3 @@
 pub mod First
 pub mod Overlay
+pub mod Zeros

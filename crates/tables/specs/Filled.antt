@@ -1,17 +1,11 @@
 -- The tables of an accepted plan, before and after they are filled. Definitions only.
-use mathlib.Core.Path.{_≡_}
 use mathlib.Core.List.{List}
-use Prim.Native.Nat.{ℕ, _<_}
-use lib.ListN.{length, getD}
+use Prim.Native.Nat.{ℕ}
+use Rattle.answers.specs.Zeros.{Zeros}
 use Rattle.format.specs.Format.{nodeCount}
 use Rattle.plan.specs.Meaning.{planOf}
 use Rattle.words.specs.Tables.{Shaped, Represents}
 use Rattle.chains.specs.Links.{Blank}
-
--- n zeros
-pub record Zeros (n : ℕ) (xs : List ℕ) : Type 0 where
-  pub long : length xs ≡ n
-  pub zero : (j : ℕ) → j < n → getD xs j 0 ≡ 0
 
 -- tables with nothing in them
 pub record Fresh (kind from kids order conds : List ℕ) : Type 0 where

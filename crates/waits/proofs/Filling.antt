@@ -20,7 +20,7 @@ use Rattle.plan.proofs.Causes.{parent-group}
 use Rattle.plan.proofs.Meaning.{kind-limit, kind-task, means-well-formed}
 use Rattle.progress.proofs.Sound.{child-test, is-node, plan-kind}
 use Rattle.chains.proofs.Chains.{Sorted}
-use Rattle.tables.specs.Filled.{Zeros}
+use Rattle.answers.specs.Zeros.{Zeros}
 use Rattle.waits.specs.Waits.{greatest, lengthOf, waitWithin, longestWait}
 use Rattle.waits.specs.Filled.{FirstOrder, Raised, Tables, Done, ChildLengths, Spread, Worked, Within, Longest, AllWorked}
 use Rattle.waits.proofs.Greatest.{greatest-more, greatest-skip, greatest-empty}

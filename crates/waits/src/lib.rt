@@ -4,7 +4,7 @@ ghost use Prim.Native.Nat.{max, _≤_, _<_};
 ghost use lib.ListN.{length};
 ghost use Rattle.format.specs.Format.{nodeCount, kindOf};
 ghost use Rattle.rules.specs.Rules.{refusal};
-ghost use Rattle.tables.specs.Filled.{Zeros};
+ghost use Rattle.answers.specs.Zeros.{Zeros};
 ghost use Rattle.waits.specs.Waits.{lengthOf};
 ghost use Rattle.waits.specs.Filled.{FirstOrder, Raised, Tables, ChildLengths, Spread, Worked, AllWorked, Within, Longest};
 use format::fields::earlier;
