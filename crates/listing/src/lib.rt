@@ -9,6 +9,7 @@ ghost use Rattle.summary.specs.Verdict.{wordOf};
 ghost use Rattle.decimals.specs.Decimals.{Wrote};
 ghost use Rattle.listing.specs.Text.{letters, textOf};
 ghost use Rattle.listing.specs.Listing.{Lists, Prints};
+use children::no_nodes;
 use decimals::write_bytes;
 use lines::end_line;
 use lines::rank;
@@ -16,7 +17,6 @@ use lines::write_lines;
 use summary::Answer;
 use summary::Verdict;
 use summary::assess;
-use tables::no_nodes;
 use waits::longest_waits;
 use waits::no_times;
 

@@ -12,6 +12,8 @@ ghost use Rattle.summary.specs.Rows.{RowsOf};
 ghost use Rattle.summary.specs.Summary.{summaryRefusal, Summarised};
 ghost use Rattle.summary.specs.Verdict.{wordOf, Assessed};
 use chains::no_order;
+use children::no_nodes;
+use children::no_starts;
 use format::fields::flags;
 use format::fields::nodes;
 use format::fields::start_flag;
@@ -21,8 +23,6 @@ use marks::node_rows;
 use plan::check;
 use tables::fill_tables;
 use tables::no_conditions;
-use tables::no_nodes;
-use tables::no_starts;
 
 pub enum Verdict {
     Clear,

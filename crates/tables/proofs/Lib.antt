@@ -1,5 +1,3 @@
 -- Laws of the tables while they are filled.
 pub mod Conditions
 pub mod NodeKinds
-pub mod Counts
-pub mod Segments

@@ -1,3 +1,2 @@
 -- The tables of a plan, filled from its bytes.
 pub mod Filled
-pub mod Children

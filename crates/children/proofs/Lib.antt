@@ -1,0 +1,3 @@
+-- Laws of the table of children while it is filled.
+pub mod Counts
+pub mod Segments

@@ -1,0 +1,2 @@
+-- The table of children, filled from a plan's bytes.
+pub mod Children
