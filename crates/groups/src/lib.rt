@@ -64,20 +64,34 @@ fn with_sibling(
     ensures { λ r. ⌜ Limits (now (order .entry)) (now (rows .entry)) child sibling s r ⌝ }
 {
     let code = order[sibling * 128 + child];
+    if code == 1 {
+        return Siblings {
+            avoid_before: s.avoid_before & word_at(rows, sibling, AVOID),
+            clear_before: s.clear_before & word_at(rows, sibling, QUIET),
+            set_before: s.set_before & word_at(rows, sibling, QUIET + 1),
+            avoid_after: s.avoid_after,
+            silent_apart: s.silent_apart,
+        };
+    }
+    if code == 2 {
+        return Siblings {
+            avoid_before: s.avoid_before,
+            clear_before: s.clear_before,
+            set_before: s.set_before,
+            avoid_after: s.avoid_after & word_at(rows, sibling, AVOID),
+            silent_apart: s.silent_apart,
+        };
+    }
+    if sibling == child {
+        return s;
+    }
     let asserted = word_at(rows, sibling, ASSERTS) | word_at(rows, sibling, ASSERTS + 1);
-    let avoids = word_at(rows, sibling, AVOID);
-    let unordered = apart(order, sibling, child);
-    let avoid_before = narrowed(s.avoid_before, code == 1, avoids);
-    let clear_before = narrowed(s.clear_before, code == 1, word_at(rows, sibling, QUIET));
-    let set_before = narrowed(s.set_before, code == 1, word_at(rows, sibling, QUIET + 1));
-    let avoid_after = narrowed(s.avoid_after, code == 2, avoids);
-    let silent_apart = narrowed(s.silent_apart, unordered, asserted ^ ALL);
     Siblings {
-        avoid_before: avoid_before,
-        clear_before: clear_before,
-        set_before: set_before,
-        avoid_after: avoid_after,
-        silent_apart: silent_apart,
+        avoid_before: s.avoid_before,
+        clear_before: s.clear_before,
+        set_before: s.set_before,
+        avoid_after: s.avoid_after,
+        silent_apart: s.silent_apart & (asserted ^ ALL),
     }
 }
 

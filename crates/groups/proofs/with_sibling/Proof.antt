@@ -1,21 +1,56 @@
--- `with_sibling` meets its contract: each word is narrowed by the sibling. Assumes nothing.
-use Rattle.bits.proofs.Tests.{equal}
-use Rattle.groups.proofs.Sibling.{narrows-map, neither}
+-- `with_sibling` meets its contract: a sibling before the child narrows three words, one after it one, an unordered one another. Assumes nothing.
+use mathlib.Core.Path.{refl}
+use native.Mathlib.Omega.{arith}
+use Rattle.groups.proofs.Sibling.{narrows-kept, narrows-taken, narrows-map, neither}
 use borrow.Author.Needs.{needs}
 use Rattle.groups.proofs.with_sibling.Statement.{statement}
 use Rattle.groups.proofs.with_sibling.Tie as tie
 
 returns : tie.Need-returns
 returns c =
-    let read = c .before .before .before .before .before .before .before .before in
+    let e = c .before .before .before .before .before .before .if1 .taken in
     record {
-      avoid-before = narrows-map (equal _ 1) (λ f l. rw (read .word-at3 .ensures) (λ t. t, λ t. t)) (c .before .before .before .before .before .before .narrowed .ensures);
-      clear-before = narrows-map (equal _ 1) (λ f l. rw (c .before .before .before .before .before .word-at4 .ensures) (λ t. t, λ t. t))
-          (c .before .before .before .before .narrowed2 .ensures);
-      set-before = narrows-map (equal _ 1) (λ f l. rw (c .before .before .before .word-at5 .ensures) (λ t. t, λ t. t)) (c .before .before .narrowed3 .ensures);
-      avoid-after = narrows-map (equal _ 2) (λ f l. rw (read .word-at3 .ensures) (λ t. t, λ t. t)) (c .before .narrowed4 .ensures);
-      silent-apart = narrows-map (c .before .before .before .before .before .before .before .apart .ensures)
-          (λ f l. rw (read .before .before .word-at .ensures, read .before .word-at2 .ensures) (neither _ _ f l)) (c .narrowed5 .ensures);
+      avoid-before = narrows-taken _ e (rw (c .before .before .before .before .before .word-at .ensures));
+      clear-before = narrows-taken _ e (rw (c .before .before .before .word-at2 .ensures));
+      set-before = narrows-taken _ e (rw (c .before .word-at3 .ensures));
+      avoid-after = narrows-kept (λ q. omega (arith, e, q)) refl;
+      silent-apart = narrows-kept (λ a. a .not-before e) refl;
+    }
+
+returns-2 : tie.Need-returns-2
+returns-2 c =
+    let e = c .before .before .if2 .taken in
+    record {
+      avoid-before = narrows-kept (λ q. omega (arith, e, q)) refl;
+      clear-before = narrows-kept (λ q. omega (arith, e, q)) refl;
+      set-before = narrows-kept (λ q. omega (arith, e, q)) refl;
+      avoid-after = narrows-taken _ e (rw (c .before .word-at4 .ensures));
+      silent-apart = narrows-kept (λ a. a .not-after e) refl;
+    }
+
+returns-3 : tie.Need-returns-3
+returns-3 c =
+    let not-before = c .before .before .if1 .left in
+    record {
+      avoid-before = narrows-kept not-before refl;
+      clear-before = narrows-kept not-before refl;
+      set-before = narrows-kept not-before refl;
+      avoid-after = narrows-kept (c .before .if2 .left) refl;
+      silent-apart = narrows-kept (λ a. a .distinct (c .if3 .taken)) refl;
+    }
+
+returns-4 : tie.Need-returns-4
+returns-4 c =
+    let not-before = c .before .before .before .before .before .if1 .left in
+    let not-after = c .before .before .before .before .if2 .left in
+    record {
+      avoid-before = narrows-kept not-before refl;
+      clear-before = narrows-kept not-before refl;
+      set-before = narrows-kept not-before refl;
+      avoid-after = narrows-kept not-after refl;
+      silent-apart = narrows-map (λ a. a, λ a. a) (neither _ _)
+          (narrows-taken _ (record { not-before = not-before; not-after = not-after; distinct = c .before .before .before .if3 .left })
+          (rw (c .before .before .word-at5 .ensures, c .before .word-at6 .ensures)));
     }
 
 pub with-sibling-spec : {M : Type 1} → statement M
@@ -26,16 +61,14 @@ with-sibling-spec =
     (λ c. search needs)
     (λ c. search needs)
     (λ c κs. search needs)
-    (λ c. search needs)
-    (λ c κs. search needs)
-    (λ c κs. search needs)
-    (λ c κs. search needs)
-    (λ c κs. search needs)
-    (λ c κs. search needs)
     (λ c κs. search needs)
     (λ c. search needs)
     (λ c κs. search needs)
+    returns
     (λ c κs. search needs)
+    returns-2
+    returns-3
     (λ c κs. search needs)
+    (λ c. search needs)
     (λ c κs. search needs)
-    returns)
+    returns-4)
