@@ -1,6 +1,6 @@
 // The value of a condition, told apart by its range.
 ghost use mathlib.Core.Path.{_≡_};
-ghost use Prim.Native.Nat.{_≤_, _<_};
+ghost use Prim.Native.Nat.{_≤_};
 ghost use Rattle.codes.specs.Values.{parsedOf, placeOf, signOf, flagOf, placeNum, signNum, valueBad};
 
 // 01: need, hold, leaving
