@@ -1,9 +1,9 @@
 -- The bits of a byte after an or and a xor with one bit. Assumes nothing.
-use mathlib.Core.Path.{_≡_, refl, sym, ap, _∙_}
+use mathlib.Core.Path.{_≡_, refl, _∙_}
 use mathlib.Core.Logic.{by-cases}
 use native.Mathlib.Decide.{decLt}
-use Prim.Native.Nat.{ℕ, zero, suc, _+_, _*_, _-_, _^_, _/_, _%_, _<_, _≤_, max}
-use native.Mathlib.Nat.{div-self, div-eq-of-lt, mul-div-cancel, mul-mod-left, mod-lt, max-zero, one-mul}
+use Prim.Native.Nat.{ℕ, zero, suc, _+_, _*_, _-_, _^_, _/_, _%_, _<_, max}
+use native.Mathlib.Nat.{div-self, div-eq-of-lt, mul-div-cancel, mul-mod-left, max-zero, one-mul}
 use native.Mathlib.Omega.{arith}
 use lib.Pow.{pow-pos, pow-lt, pow-add, shl-exact}
 use lib.Bits.{bitOr, bitXor, differ, or-step, or-shr, xor-step, xor-shr}

@@ -14,7 +14,7 @@ use lib.Bits.{bitXor}
 use lib.Dec.{eqb}
 use borrow.Author.Tests.{eq-eqb, ne-eqb}
 use Rattle.flags.specs.Flags.{bitOf, flagIn, byteWith, withFlag, allByte}
-use Rattle.flags.proofs.Bits.{or-same, or-other, xor-same, xor-other, bit-lt}
+use Rattle.flags.proofs.Bits.{or-same, or-other, xor-same, xor-other}
 
 byte-same : (x k : ℕ) (s : Bool) → eqb (bitOf (byteWith x k s) k) 1 ≡ s
 unfolding byteWith
