@@ -10,9 +10,9 @@ use lib.ListN.{length, getD}
 use lib.Seq.{getD-set-same, getD-set-other}
 use lib.Bits.{or-lt, xor-lt}
 use lib.Pow.{pow-lt}
-use lib.Dec.{eqb}
-use borrow.Author.Tests.{eq-eqb, ne-eqb, lt-ltb}
-use Rattle.flags.specs.Flags.{bitOf, flagIn, byteWith, withFlag}
+use borrow.Author.Tests.{ne-eqb, lt-ltb}
+use Rattle.bits.specs.Bits.{bit}
+use Rattle.flags.specs.Flags.{flagIn, byteWith, withFlag}
 use Rattle.rules.proofs.Laws.{either}
 use Rattle.codes.specs.Values.{flagOf}
 use Rattle.format.specs.Format.{condValue, condCount}
@@ -28,21 +28,20 @@ summed : (x a b c d e f g x0 x1 x2 x3 x4 x5 x6 : ℕ) → x ≡ x0 + 2 * a → a
 summed x a b c d e f g x0 x1 x2 x3 x4 x5 x6 h0 h1 h2 h3 h4 h5 h6 = omega arith
 
 bits : (x : ℕ) → x < 256
-    → bitOf x 0 + 2 * bitOf x 1 + 4 * bitOf x 2 + 8 * bitOf x 3 + 16 * bitOf x 4 + 32 * bitOf x 5 + 64 * bitOf x 6 + 128 * bitOf x 7 ≡ x
-unfolding bitOf
+    → x / 1 % 2 + 2 * (x / 2 % 2) + 4 * (x / 4 % 2) + 8 * (x / 8 % 2) + 16 * (x / 16 % 2) + 32 * (x / 32 % 2) + 64 * (x / 64 % 2) + 128 * (x / 128 % 2) ≡ x
 bits x l =
     summed x (x / 2) (x / 4) (x / 8) (x / 16) (x / 32) (x / 64) (x / 128 % 2) (x / 1 % 2) (x / 2 % 2) (x / 4 % 2) (x / 8 % 2) (x / 16 % 2) (x / 32 % 2) (x / 64 % 2)
     (omega arith) (omega arith) (omega arith) (omega arith) (omega arith) (omega arith) (omega arith)
 
-bit-num : (x k : ℕ) → num (eqb (bitOf x k) 1) ≡ bitOf x k
-unfolding bitOf
+bit-num : (x k : ℕ) → num (bit x k) ≡ x / 2 ^ k % 2
+unfolding bit
 bit-num x k =
     by-cases (ℕ-discrete (x / 2 ^ k % 2) 1)
     (λ (e : x / 2 ^ k % 2 ≡ 1). rw e)
     (λ e. rw (ne-eqb (x / 2 ^ k % 2) 1 e) (omega arith))
 
 module _ (s : List ℕ) (i : ℕ) (l : i < 8) where
-  flag-bit : (k : ℕ) → k < 8 → num (flagShown s (8 * i + k)) ≡ bitOf (getD s i 0) k
+  flag-bit : (k : ℕ) → k < 8 → num (flagShown s (8 * i + k)) ≡ getD s i 0 / 2 ^ k % 2
   unfolding flagShown flagIn
   flag-bit k h =
       let d : (8 * i + k) / 8 ≡ i = omega arith in
@@ -59,9 +58,10 @@ byte-with : (x k : ℕ) (v : Bool) → x < 256 → k < 8 → byteWith x k v < 25
 unfolding byteWith
 byte-with x k true l h = or-lt 8 x (2 ^ k) l (pow-lt {i = k} {j = 8} h)
 byte-with x k false l h =
-    by-cases (ℕ-discrete (bitOf x k) 1)
-    (λ (e : bitOf x k ≡ 1). rw (eq-eqb (bitOf x k) 1 e) (xor-lt 8 x (2 ^ k) l (pow-lt {i = k} {j = 8} h)))
-    (λ e. rw (ne-eqb (bitOf x k) 1 e) l)
+    ⊎-elim
+    (λ (e : bit x k ≡ true). rw e (xor-lt 8 x (2 ^ k) l (pow-lt {i = k} {j = 8} h)))
+    (λ (e : bit x k ≡ false). rw e l)
+    (either (bit x k))
 
 abbrev Small : List ℕ → Type 0
 Small bytes = (i : ℕ) → getD bytes i 0 < 256

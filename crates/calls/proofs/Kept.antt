@@ -12,11 +12,10 @@ use borrow.Author.Tests.{eqb-true, not-false, lt-ltb, le-ltb}
 use Rattle.format.specs.Format.{nodeCount, isKind}
 use Rattle.rules.specs.Search.{someBelow}
 use Rattle.rules.proofs.Laws.{either, or-none, none-at}
-use Rattle.plan.specs.Meaning.{planOf, placeNumber}
+use Rattle.plan.specs.Meaning.{placeNumber}
 use Rattle.plan.proofs.Meaning.{kind-is}
 use Rattle.runs.specs.Execution.{Event, nodeOf, statusOf}
-use Rattle.runs.specs.Calls.{one, statusByte}
-use Rattle.runs.specs.Model.Monitor.{returned}
+use Rattle.runs.specs.Calls.{statusByte}
 use Rattle.state.specs.State.{byteOf, badFlag, badByte, malformed, roomRefusal, stateRefusal, statusAt, statusIn, worldOf}
 use Rattle.state.specs.Fresh.{freshByte, freshState}
 use Rattle.answers.specs.Answers.{overlay}

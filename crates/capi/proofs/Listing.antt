@@ -2,7 +2,7 @@
 use mathlib.Core.Path.{_≡_}
 use mathlib.Core.Logic.{_⊎_, inl, inr}
 use mathlib.Core.List.{List}
-use Prim.Native.Nat.{ℕ, _≤_}
+use Prim.Native.Nat.{ℕ}
 use native.Mathlib.Omega.{arith}
 use lib.ListN.{length}
 use Rattle.rules.specs.Rules.{refusal}
@@ -14,7 +14,7 @@ use Rattle.listing.specs.Text.{textOf}
 use Rattle.listing.specs.Listing.{told, listingRefusal, listedOf, Lists}
 use Rattle.listing.proofs.Text.{text-fits}
 use Rattle.listing.proofs.Answers.{said-value}
-use Rattle.capi.specs.Numbers.{Short}
+use Rattle.numbers.specs.Numbers.{Short}
 
 module _ (b out : List ℕ) where
   accepted : listingRefusal b out ≡ 0 → refusal b ≡ 0
@@ -22,7 +22,7 @@ module _ (b out : List ℕ) where
   accepted e = both-none (refusal b) _ e .0
 
   -- a text is at most 2,048 bytes long
-  pub short : {out' : List ℕ} (r : Listed) → Lists b out r out' → Short (told r)
+  pub short : {out′ : List ℕ} (r : Listed) → Lists b out r out′ → Short (told r)
   unfolding listedOf
   short r l = at (told r) (l .answer)
     where

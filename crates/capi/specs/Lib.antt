@@ -1,2 +1,1 @@
--- The numbers of the C interface.
-pub mod Numbers
+pub mod Told

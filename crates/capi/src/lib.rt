@@ -2,36 +2,19 @@
 ghost use mathlib.Core.Path.{_≡_};
 ghost use Rattle.rules.specs.Rules.{refusal};
 ghost use Rattle.summary.specs.Summary.{Summarised};
-ghost use Rattle.summary.specs.Verdict as verdict;
 ghost use Rattle.runs.specs.Execution as execution;
 ghost use Rattle.state.specs.Fresh.{Freshened};
 ghost use Rattle.monitor.specs.Events.{Called};
-ghost use Rattle.monitor.specs.Status as progress;
-ghost use Rattle.capi.specs.Numbers.{verdictNumber, VerdictNumber, statusNumber, StatusNumber, listingNumber, Short, ListingNumber};
-ghost use Rattle.listing.specs.Listing.{told};
-use listing::Listed;
-use monitor::Progress;
-use summary::Answer;
-use summary::Verdict;
+ghost use Rattle.capi.specs.Told.{VerdictNumber, StatusNumber, ListingNumber};
+use numbers::listing_number;
+use numbers::status_number;
+use numbers::verdict_number;
 
 #[no_mangle]
 pub extern "C" fn knowetop_refusal(plan: &[u8]) -> u32
     ensures { λ r. ⌜ r ≡ refusal (now (plan .entry)) ⌝ }
 {
     plan::check(plan)
-}
-
-fn verdict_number(answer: Answer) -> u32
-    ensures { λ r. ⌜ r ≡ verdictNumber (verdict.said answer) ⌝ }
-{
-    match answer {
-        Answer::Refused(n) => n,
-        Answer::Judged(verdict) => match verdict {
-            Verdict::Clear => 128,
-            Verdict::Doomed => 129,
-            Verdict::Open => 130,
-        },
-    }
 }
 
 #[no_mangle]
@@ -70,32 +53,12 @@ pub extern "C" fn knowetop_finish(plan: &[u8], state: &mut [u8], task: usize) ->
     monitor::finish(plan, state, task)
 }
 
-fn status_number(answer: Progress) -> u32
-    ensures { λ r. ⌜ r ≡ statusNumber (progress.said answer) ⌝ }
-{
-    match answer {
-        Progress::Refused(n) => n,
-        Progress::Complete => 128,
-        Progress::Unfinished => 129,
-    }
-}
-
 #[no_mangle]
 pub extern "C" fn knowetop_status(plan: &[u8], state: &[u8]) -> u32
     ensures { λ r. ⌜ StatusNumber (now (plan .entry)) (now (state .entry)) r ⌝ }
 {
     let answer = monitor::status(plan, state);
     status_number(answer)
-}
-
-fn listing_number(answer: Listed) -> u32
-    requires { ⌜ Short (told answer) ⌝ }
-    ensures { λ r. ⌜ r ≡ listingNumber (told answer) ⌝ }
-{
-    match answer {
-        Listed::Refused(n) => n,
-        Listed::Text(n) => 256 + n as u32,
-    }
 }
 
 #[no_mangle]

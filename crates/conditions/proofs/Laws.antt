@@ -40,7 +40,7 @@ module _ (b : List ℕ) (q t : ℕ) (bytes : List ℕ) where
   unfolding literals
   literals-none = refl
 
-  pub literals-more : (k : ℕ) → isOf b q t k ≡ true → withFlag (literals b q t k bytes) (flagOf (condValue b k)) (setAt b k) ≡ literals b q t (k + 1) bytes
+  literals-more : (k : ℕ) → isOf b q t k ≡ true → withFlag (literals b q t k bytes) (flagOf (condValue b k)) (setAt b k) ≡ literals b q t (k + 1) bytes
   unfolding literals
   literals-more k y = rw (add-one k, y)
 
@@ -104,6 +104,9 @@ pub is-of : (b : List ℕ) (q t i : ℕ) → condNode b i ≡ t → placeOf (con
 unfolding isOf
 is-of b q t i n p = and-of (eqb (condNode b i) t) (eqb (placeOf (condValue b i)) q) (eq-eqb _ _ n) (eq-eqb _ _ p)
 
+one-sign : {o : Option Bool} {x y : Bool} → o ≡ some x → o ≡ some y → x ≡ y
+one-sign p q = cc
+
 module _ (b : List ℕ) (accepted : refusal b ≡ 0) (k : Place) (t : ℕ) where
   -- a condition gives its sign
   pub sign-at : (i : ℕ) → i < condCount b → isOf b (placeNumber k) t i ≡ true → signIn b k t (flagOf (condValue b i)) ≡ some (setAt b i)
@@ -124,10 +127,7 @@ module _ (b : List ℕ) (accepted : refusal b ≡ 0) (k : Place) (t : ℕ) where
   found f v e =
       let w = is b (placeNumber k) t f (signNumber v) (sign-is b k t f v e) in
       let o = is-of b (placeNumber k) t (w .0) (w .1 .node) (w .1 .place) in
-      record { at = w .0; below = w .1 .below; of = o; flag = w .1 .flag; sign = same (rw (w .1 .flag) at (sign-at (w .0) (w .1 .below) o)) e }
-    where
-      same : {o : Option Bool} {x y : Bool} → o ≡ some x → o ≡ some y → x ≡ y
-      same p q = cc
+      record { at = w .0; below = w .1 .below; of = o; flag = w .1 .flag; sign = one-sign (rw (w .1 .flag) at (sign-at (w .0) (w .1 .below) o)) e }
 
   -- the flags after the event's literals
   pub made-flag : (bytes : List ℕ) → 8 ≤ length bytes → (f : ℕ) → flagIn (made b (placeNumber k) t bytes) f ≡ Option·getD (signIn b k t f) (flagIn bytes f)
@@ -137,9 +137,6 @@ module _ (b : List ℕ) (accepted : refusal b ≡ 0) (k : Place) (t : ℕ) where
       sign-here : (i : ℕ) → i < condCount b → isOf b (placeNumber k) t i ≡ true → f ≡ flagOf (condValue b i) → signIn b k t f ≡ some (setAt b i)
       sign-here i l y e = ap (signIn b k t) e ∙ sign-at i l y
 
-      same : {x y : Bool} {o : Option Bool} → o ≡ some x → o ≡ some y → x ≡ y
-      same p q = cc
-
       never : {x : Bool} {o : Option Bool} → o ≡ none → o ≡ some x → ⊥
       never p q = clash cc
 
@@ -147,11 +144,7 @@ module _ (b : List ℕ) (accepted : refusal b ≡ 0) (k : Place) (t : ℕ) where
       at none e = literals-other b (placeNumber k) t bytes long f (condCount b) (λ i l y z. never e (sign-here i l y z))
       at (some v) e =
           let w = found f v e in
-          literals-same b (placeNumber k) t bytes long f v (condCount b) (w .at) (w .below) (w .of) (sym (w .flag)) (λ i l y z. same (sign-here i l y z) e)
-
-pub not-not : (v : Bool) → v ≡ not (not v)
-not-not true = refl
-not-not false = refl
+          literals-same b (placeNumber k) t bytes long f v (condCount b) (w .at) (w .below) (w .of) (sym (w .flag)) (λ i l y z. one-sign (sign-here i l y z) e)
 
 -- a condition is on a task
 pub on-task : (b : List ℕ) → refusal b ≡ 0 → (i : ℕ) → i < condCount b → (condNode b i < nodeCount b) × (kindOf b (condNode b i) ≡ 0)

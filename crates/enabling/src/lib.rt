@@ -4,7 +4,7 @@ use format::fields::is_kind;
 use format::fields::later;
 use format::fields::orders;
 use format::fields::parent;
-use progress::Tally;
+use progress::blank;
 use progress::is_begun;
 use progress::is_complete;
 use rules::tests::wide;
@@ -52,12 +52,6 @@ pub fn branch_begun(plan: &[u8], state: &[u8], begun: &[u8; 128], task: usize) -
         n = g;
     }
     false
-}
-
-fn blank() -> [u8; 128]
-    ensures { λ r. ⌜ (length r ≡ 128) × ((k : ℕ) → getD r k 0 ≡ 0) ⌝ }
-{
-    [0u8; 128]
 }
 
 // A mark at each node above the task.

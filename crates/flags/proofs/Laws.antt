@@ -1,7 +1,7 @@
 -- What making a literal true does to each flag. Assumes nothing.
-use mathlib.Core.Path.{_≡_, refl, ap}
+use mathlib.Core.Path.{_≡_, refl, ap, _∙_}
 use mathlib.Core.Logic.{by-cases}
-use mathlib.Core.Bool.{Bool, true, false}
+use mathlib.Core.Bool.{Bool, true, false, cond, or-true, or-false}
 use mathlib.Core.List.{List, [], _∷_, _++_}
 use Prim.Native.Nat.{ℕ, zero, suc, _+_, _/_, _%_, _^_, _<_, _≤_}
 use native.Mathlib.Decide.{ℕ-discrete}
@@ -11,26 +11,32 @@ use native.Mathlib.Omega.{arith}
 use lib.ListN.{length, getD, set, take, drop, length-set, replicate, getD-replicate}
 use lib.Seq.{getD-set-same, getD-set-other, getD-take}
 use lib.Bits.{bitXor}
-use lib.Dec.{eqb}
-use borrow.Author.Tests.{eq-eqb, ne-eqb}
-use Rattle.flags.specs.Flags.{bitOf, flagIn, byteWith, withFlag, allByte}
-use Rattle.flags.proofs.Bits.{or-same, or-other, xor-same, xor-other, bit-lt}
+use Rattle.bits.specs.Bits.{bit}
+use Rattle.bits.proofs.Equations.{xor, bit-or, bit-xor, bit-none, one-same, one-other}
+use Rattle.flags.specs.Flags.{flagIn, byteWith, withFlag, allByte}
 
-byte-same : (x k : ℕ) (s : Bool) → eqb (bitOf (byteWith x k s) k) 1 ≡ s
-unfolding byteWith
-byte-same x k true = eq-eqb _ _ (or-same x k)
-byte-same x k false =
-    by-cases (ℕ-discrete (bitOf x k) 1)
-    (λ h. rw (eq-eqb (bitOf x k) 1 h) (ne-eqb (bitOf (bitXor x (2 ^ k)) k) 1 (λ e. omega (arith, xor-same x k h))))
-    (λ h. simp (ne-eqb (bitOf x k) 1 h))
+xor-false : (a : Bool) → xor a false ≡ a
+xor-false true = refl
+xor-false false = refl
 
-byte-other : (x k g : ℕ) (s : Bool) → (g ≡ k → ⊥) → bitOf (byteWith x k s) g ≡ bitOf x g
+-- bit k cleared, if it is set
+cleared-same : (x k : ℕ) (b : Bool) → bit x k ≡ b → bit (cond b (bitXor x (2 ^ k)) x) k ≡ false
+cleared-same x k true e = bit-xor x (2 ^ k) k ∙ rw (e, one-same k)
+cleared-same x k false e = e
+
+cleared-other : (x k g : ℕ) (b : Bool) → (g ≡ k → ⊥) → bit (cond b (bitXor x (2 ^ k)) x) g ≡ bit x g
+cleared-other x k g true h = bit-xor x (2 ^ k) g ∙ rw (one-other k g h) (xor-false (bit x g))
+cleared-other x k g false h = refl
+
+byte-same : (x k : ℕ) (s : Bool) → bit (byteWith x k s) k ≡ s
 unfolding byteWith
-byte-other x k g true h = or-other x k g h
-byte-other x k g false h =
-    by-cases (ℕ-discrete (bitOf x k) 1)
-    (λ e. rw e (xor-other x k g h))
-    (λ e. simp (ne-eqb (bitOf x k) 1 e))
+byte-same x k true = bit-or x (2 ^ k) k ∙ rw (one-same k) (or-true (bit x k))
+byte-same x k false = cleared-same x k (bit x k) refl
+
+byte-other : (x k g : ℕ) (s : Bool) → (g ≡ k → ⊥) → bit (byteWith x k s) g ≡ bit x g
+unfolding byteWith
+byte-other x k g true h = bit-or x (2 ^ k) g ∙ rw (one-other k g h) (or-false (bit x g))
+byte-other x k g false h = cleared-other x k g (bit x k) h
 
 module _ (bytes : List ℕ) (f : ℕ) (s : Bool) where
   pub length-with : length (withFlag bytes f s) ≡ length bytes
@@ -46,7 +52,7 @@ module _ (bytes : List ℕ) (f : ℕ) (s : Bool) where
     unfolding withFlag flagIn
     with-other g h =
         by-cases (ℕ-discrete (g / 8) (f / 8))
-        (λ e. rw (e, getD-set-same) (ap (λ (x : ℕ). eqb x 1) (byte-other (getD bytes (f / 8) 0) (f % 8) (g % 8) s (λ d. h (omega arith)))))
+        (λ e. rw (e, getD-set-same) (byte-other (getD bytes (f / 8) 0) (f % 8) (g % 8) s (λ d. h (omega arith))))
         (λ e. rw (getD-set-other bytes (f / 8) (g / 8) _ 0 e))
 
 -- only the byte of a flag matters
@@ -57,8 +63,9 @@ same-byte a b f e = rw e
 pub in-first : (bytes : List ℕ) (f : ℕ) → f < 64 → flagIn (take 8 bytes) f ≡ flagIn bytes f
 in-first bytes f l = same-byte (take 8 bytes) bytes f (getD-take 8 bytes (f / 8) 0 (omega arith))
 
-all-bits : (s : Bool) (k : ℕ) → k < 8 → eqb (bitOf (allByte s) k) 1 ≡ s
-unfolding bitOf
+all-bits : (s : Bool) (k : ℕ) → k < 8 → bit (allByte s) k ≡ s
+unfolding bit
+all-bits false k l = bit-none k
 all-bits true zero l = refl
 all-bits true (suc zero) l = refl
 all-bits true (suc (suc zero)) l = refl
@@ -68,15 +75,6 @@ all-bits true (suc (suc (suc (suc (suc zero))))) l = refl
 all-bits true (suc (suc (suc (suc (suc (suc zero)))))) l = refl
 all-bits true (suc (suc (suc (suc (suc (suc (suc zero))))))) l = refl
 all-bits true (suc (suc (suc (suc (suc (suc (suc (suc k)))))))) l = absurd (omega arith)
-all-bits false zero l = refl
-all-bits false (suc zero) l = refl
-all-bits false (suc (suc zero)) l = refl
-all-bits false (suc (suc (suc zero))) l = refl
-all-bits false (suc (suc (suc (suc zero)))) l = refl
-all-bits false (suc (suc (suc (suc (suc zero))))) l = refl
-all-bits false (suc (suc (suc (suc (suc (suc zero)))))) l = refl
-all-bits false (suc (suc (suc (suc (suc (suc (suc zero))))))) l = refl
-all-bits false (suc (suc (suc (suc (suc (suc (suc (suc k)))))))) l = absurd (omega arith)
 
 pub all-flags : (s : Bool) (f : ℕ) → f < 64 → flagIn (replicate 8 (allByte s)) f ≡ s
 unfolding flagIn

@@ -4,18 +4,14 @@ use mathlib.Core.Bool.{Bool, true, false, cond}
 use mathlib.Core.List.{List}
 use lib.ListN.{getD, set}
 use lib.Bits.{bitOr, bitXor}
-use lib.Dec.{eqb}
-
--- bit k of x, 0 or 1
-unfoldable pub bitOf : ℕ → ℕ → ℕ
-bitOf x k = x / 2 ^ k % 2
+use Rattle.bits.specs.Bits.{bit}
 
 unfoldable pub flagIn : List ℕ → ℕ → Bool
-flagIn bytes f = eqb (bitOf (getD bytes (f / 8) 0) (f % 8)) 1
+flagIn bytes f = bit (getD bytes (f / 8) 0) (f % 8)
 
 -- the byte x with bit k made the sign
 unfoldable pub byteWith : ℕ → ℕ → Bool → ℕ
-byteWith x k s = cond s (bitOr x (2 ^ k)) (cond (eqb (bitOf x k) 1) (bitXor x (2 ^ k)) x)
+byteWith x k s = cond s (bitOr x (2 ^ k)) (cond (bit x k) (bitXor x (2 ^ k)) x)
 
 -- the bytes with the literal made true: flag f at the sign
 unfoldable pub withFlag : List ℕ → ℕ → Bool → List ℕ

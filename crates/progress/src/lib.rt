@@ -4,9 +4,9 @@ use format::fields::nodes;
 use format::fields::parent;
 use rules::tests::wide;
 ghost use mathlib.Core.Path.{_≡_};
-ghost use Prim.Native.Nat.{ℕ, _<_, _≤_};
+ghost use Prim.Native.Nat.{ℕ, _<_};
 ghost use lib.ListN.{length, getD};
-ghost use Rattle.format.specs.Format.{nodeCount, parentOf};
+ghost use Rattle.format.specs.Format.{nodeCount};
 ghost use Rattle.plan.specs.Meaning.{planOf};
 ghost use Rattle.runs.specs.Model.Monitor.{completeB, begunB};
 ghost use Rattle.state.specs.State.{stateRefusal, statusIn};
@@ -66,7 +66,8 @@ fn is_counted(
     }
 }
 
-fn blank() -> [u8; 128]
+// A zero for each node.
+pub fn blank() -> [u8; 128]
     ensures { λ r. ⌜ (length r ≡ 128) × ((k : ℕ) → getD r k 0 ≡ 0) ⌝ }
 {
     [0u8; 128]

@@ -1,17 +1,17 @@
 -- What the fresh state shows, and that it is well formed. Assumes nothing.
-use mathlib.Core.Path.{_≡_, refl, sym, ap, _∙_, fun-ext}
+use mathlib.Core.Path.{_≡_, refl, sym, _∙_, fun-ext}
 use mathlib.Core.Logic.{by-cases, ⊎-elim}
-use mathlib.Core.Bool.{Bool, true, false, cond, not, _&&_, _||_, true≢false}
+use mathlib.Core.Bool.{Bool, true, false, cond, not, _&&_, true≢false, and-false}
 use mathlib.Core.List.{List}
 use Prim.Native.Nat.{ℕ, _+_, _/_, _<_, _≤_}
 use native.Mathlib.Decide.{decLt}
 use native.Mathlib.Omega.{arith}
-use lib.ListN.{length, getD}
 use lib.Dec.{eqb, ltb, leb}
 use borrow.Author.Tests.{eq-eqb, lt-ltb, le-ltb, lt-leb}
 use Rattle.answers.specs.Answers.{overlay}
 use Rattle.answers.proofs.Overlay.{length-overlay, at-overlay}
-use Rattle.flags.specs.Flags.{flagIn, bitOf}
+use Rattle.bits.specs.Bits.{bit}
+use Rattle.flags.specs.Flags.{flagIn}
 use Rattle.format.specs.Format.{nodeCount, flagCount, startFlag, isKind}
 use Rattle.rules.specs.Search.{someBelow}
 use Rattle.rules.proofs.Laws.{either, found-at, not-passed}
@@ -32,7 +32,7 @@ module _ (b s : List ℕ) (r : Roomy b s) where
   written = overlay (freshByte b) (8 + nodeCount b) s
 
   fresh-flag : (f : ℕ) → f < 64 → flagIn written f ≡ startFlag b f
-  unfolding written flagIn bitOf startFlag freshByte
+  unfolding written flagIn bit startFlag freshByte
   fresh-flag f l =
       rw (at-overlay (freshByte b) s (8 + nodeCount b) (f / 8) (r .room) (omega arith), lt-ltb (f / 8) 8 (omega arith))
 
@@ -47,14 +47,10 @@ module _ (b s : List ℕ) (r : Roomy b s) where
   unfolding malformed badFlag badByte
   well-formed =
       rw (
-        none-found 64 (λ f. leb (flagCount b) f && flagIn written f) (λ f l. by-cases (decLt f (flagCount b)) (λ (h : f < flagCount b). rw (lt-leb (flagCount b) f h)) (λ h. rw (fresh-flag f l, start-past f (omega arith) l) (and-none (leb (flagCount b) f)))),
+        none-found 64 (λ f. leb (flagCount b) f && flagIn written f) (λ f l. by-cases (decLt f (flagCount b)) (λ (h : f < flagCount b). rw (lt-leb (flagCount b) f h)) (λ h. rw (fresh-flag f l, start-past f (omega arith) l) (and-false (leb (flagCount b) f)))),
         none-found (nodeCount b) (λ n. cond (isKind b n 0) (ltb 2 (byteOf written n)) (not (eqb (byteOf written n) 0))) (λ n l. rw (fresh-node n l) (alike (isKind b n 0))),
       )
     where
-      and-none : (x : Bool) → (x && false) ≡ false
-      and-none true = refl
-      and-none false = refl
-
       alike : (x : Bool) → cond x false false ≡ false
       alike true = refl
       alike false = refl

@@ -1,5 +1,4 @@
 // The bytes of a state (01: record): the checks that every call makes first, and the fresh state.
-use flags::Flags;
 use flags::load;
 use format::fields::flags;
 use format::fields::is_kind;
@@ -8,9 +7,9 @@ use plan::check;
 ghost use mathlib.Core.Path.{_≡_};
 ghost use Prim.Native.Nat.{_+_, _<_, _≤_};
 ghost use lib.ListN.{length};
-ghost use Rattle.format.specs.Format.{Whole, nodeCount, flagCount};
+ghost use Rattle.format.specs.Format.{Whole, nodeCount};
 ghost use Rattle.rules.specs.Search.{someBelow};
-ghost use Rattle.state.specs.State.{byteOf, badFlag, badByte, malformed, roomRefusal, stateRefusal};
+ghost use Rattle.state.specs.State.{badFlag, badByte, roomRefusal, stateRefusal};
 ghost use Rattle.state.specs.Fresh.{freshByte, Freshened};
 
 // A bit for a flag of number v or higher.

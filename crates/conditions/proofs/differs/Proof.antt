@@ -1,6 +1,7 @@
 -- `conditions::differs` meets its contract. Assumes nothing.
+use mathlib.Core.Path.{sym}
+use mathlib.Core.Bool.{Bool·not-not}
 use Rattle.runs.specs.Tests.{sameB}
-use Rattle.conditions.proofs.Laws.{not-not}
 use Rattle.conditions.proofs.differs.Statement.{statement}
 use Rattle.conditions.proofs.differs.Tie as tie
 
@@ -10,7 +11,7 @@ returns c = rw (c .if1 .taken)
 
 returns-2 : tie.Need-returns-2
 unfolding sameB
-returns-2 c = rw (c .if1 .left) (not-not _)
+returns-2 c = rw (c .if1 .left) (sym (Bool·not-not _))
 
 pub differs-spec : {M : Type 1} → statement M
 differs-spec = tie.close (tie.spec returns returns-2)

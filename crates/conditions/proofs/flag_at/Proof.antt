@@ -1,6 +1,5 @@
 -- `conditions::flag_at` meets its contract. Assumes nothing.
-use mathlib.Core.Path.{sym, ap, _∙_}
-use denote.Ref.{now}
+use mathlib.Core.Path.{ap, _∙_}
 use Rattle.plan.proofs.Accepted.{clean}
 use Rattle.codes.specs.Values.{flagOf}
 use Rattle.conditions.proofs.Laws.{flag-small, values}

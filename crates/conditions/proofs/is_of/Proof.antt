@@ -1,6 +1,4 @@
 -- `conditions::is_of` meets its contract. Assumes nothing.
-use mathlib.Core.Path.{sym, ap, _∙_}
-use denote.Ref.{now}
 use Rattle.plan.proofs.Accepted.{clean}
 use Rattle.conditions.specs.Conditions.{isOf}
 use Rattle.conditions.proofs.Laws.{values}

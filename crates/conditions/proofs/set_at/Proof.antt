@@ -1,6 +1,4 @@
 -- `conditions::set_at` meets its contract. Assumes nothing.
-use mathlib.Core.Path.{sym, ap, _∙_}
-use denote.Ref.{now}
 use Rattle.plan.proofs.Accepted.{clean}
 use Rattle.conditions.specs.Conditions.{setAt}
 use Rattle.conditions.proofs.Laws.{values}

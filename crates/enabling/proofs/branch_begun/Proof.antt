@@ -1,6 +1,6 @@
 -- `enabling::branch_begun` meets its contract. Assumes nothing.
 use mathlib.Core.Path.{_≡_, sym, _∙_}
-use Prim.Native.Nat.{_<_, _≤_}
+use Prim.Native.Nat.{_<_}
 use denote.Ref.{now}
 use Rattle.format.specs.Format.{nodeCount, parentOf}
 use Rattle.plan.specs.Meaning.{planOf}

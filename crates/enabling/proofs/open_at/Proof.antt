@@ -1,5 +1,4 @@
 -- `enabling::open_at` meets its contract. Assumes nothing.
-use mathlib.Core.Path.{_≡_}
 use Prim.Native.Nat.{_<_}
 use denote.Ref.{now}
 use Rattle.format.specs.Format.{nodeCount, earlierOf, laterOf}

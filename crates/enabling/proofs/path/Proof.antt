@@ -1,10 +1,10 @@
 -- `enabling::path` meets its contract. Assumes nothing.
-use mathlib.Core.Path.{_≡_, sym, _∙_}
-use Prim.Native.Nat.{_<_, _≤_}
+use mathlib.Core.Path.{_≡_, _∙_}
+use Prim.Native.Nat.{_<_}
 use denote.Ref.{now}
 use Rattle.format.specs.Format.{nodeCount, parentOf}
 use Rattle.plan.specs.Meaning.{planOf}
-use Rattle.plan.proofs.Accepted.{Clean, clean}
+use Rattle.plan.proofs.Accepted.{clean}
 use Rattle.runs.specs.Plan.{itself, Under}
 use Rattle.enabling.proofs.Marks.{parent-lower, parent-above, Marked, first-mark, next-mark, last-mark}
 use native.Mathlib.Omega.{arith}

@@ -1,5 +1,5 @@
 -- `enabling::rival_begun` meets its contract. Assumes nothing.
-use mathlib.Core.Path.{_≡_, sym, _∙_}
+use mathlib.Core.Path.{sym, _∙_}
 use Prim.Native.Nat.{_<_}
 use denote.Ref.{now}
 use Rattle.state.proofs.Refused.{Roomy}

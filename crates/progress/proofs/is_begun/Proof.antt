@@ -4,7 +4,7 @@ use mathlib.Core.Bool.{not}
 use Prim.Native.Nat.{ℕ, _<_}
 use lib.Dec.{eqb}
 use denote.Ref.{now}
-use Rattle.format.specs.Format.{nodeCount, kindOf, Whole}
+use Rattle.format.specs.Format.{kindOf}
 use Rattle.plan.proofs.Accepted.{Clean}
 use Rattle.plan.proofs.Meaning.{kind-is}
 use Rattle.plan.proofs.Nodes.{other-kind}

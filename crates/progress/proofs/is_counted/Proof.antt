@@ -4,7 +4,7 @@ use denote.Ref.{now}
 use Rattle.progress.specs.Progress.{childrenCounted}
 use Rattle.progress.specs.declared.Tally.{Tally}
 use Rattle.progress.specs.declared.Tally.the-variants.{Begun, Ends}
-use mathlib.Core.Bool.{Bool, not}
+use mathlib.Core.Bool.{not}
 use Rattle.state.proofs.Passed.{has-room}
 use Rattle.progress.proofs.Pass.{at-begun, at-ends-any, at-ends-all}
 use borrow.Author.Needs.{needs}

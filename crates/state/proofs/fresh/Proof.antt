@@ -1,8 +1,6 @@
 -- `state::fresh` meets its contract. Assumes nothing.
-use mathlib.Core.Path.{_≡_, refl, sym, ap, _∙_}
-use mathlib.Core.List.{List}
+use mathlib.Core.Path.{_≡_, sym, ap, _∙_}
 use Prim.Native.Nat.{ℕ, _≤_, _-_, _+_}
-use lib.ListN.{length}
 use denote.Ref.{now}
 use Rattle.format.specs.Format.{nodeCount}
 use Rattle.state.specs.State.{roomRefusal}

@@ -2,8 +2,8 @@
 use Prim.Native.Nat.{_≤_}
 use borrow.Author.Needs.{needs}
 use native.Mathlib.Omega.{arith}
-use Rattle.capi.proofs.listing_number.Statement.{statement}
-use Rattle.capi.proofs.listing_number.Tie as tie
+use Rattle.numbers.proofs.listing_number.Statement.{statement}
+use Rattle.numbers.proofs.listing_number.Tie as tie
 
 short : (c : tie.After-known-told2) → c .before .answer2 .given .0 .0 ≤ 2048
 short c = rw (c .before .answer2 .given .1) at (c .before .before .before .pre)
