@@ -4,9 +4,9 @@ use mathlib.Core.Logic.{_⊎_, inl, inr}
 use mathlib.Core.List.{List}
 use Prim.Native.Nat.{ℕ, _+_, _≤_}
 use Rattle.runs.specs.Verdict.{Verdict, CLEAR, DOOMED, OPEN}
-use Rattle.summary.specs.declared.Answer.{Answer}
-use Rattle.summary.specs.Verdict as summary
-use Rattle.summary.specs.Verdict.{Assessed}
+use Rattle.verdict.specs.declared.Answer.{Answer}
+use Rattle.verdict.specs.Verdict as verdict
+use Rattle.verdict.specs.Verdict.{Assessed}
 use Rattle.listing.specs.declared.Listed.{Listed}
 use Rattle.listing.specs.Listing.{told, Lists}
 use Rattle.monitor.specs.declared.Progress.{Progress}
@@ -23,7 +23,7 @@ verdictNumber (inr OPEN) = 130
 pub record VerdictNumber (b : List ℕ) (r : ℕ) : Type 0 where
   pub answer : Answer
   pub assessed : Assessed b answer
-  pub number : r ≡ verdictNumber (summary.said answer)
+  pub number : r ≡ verdictNumber (verdict.said answer)
 
 abbrev pub statusNumber : ℕ ⊎ Word → ℕ
 statusNumber (inl n) = n

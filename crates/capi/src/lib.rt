@@ -2,7 +2,7 @@
 ghost use mathlib.Core.Path.{_≡_};
 ghost use Rattle.rules.specs.Rules.{refusal};
 ghost use Rattle.summary.specs.Summary.{Summarised};
-ghost use Rattle.summary.specs.Verdict as verdict;
+ghost use Rattle.verdict.specs.Verdict as verdict;
 ghost use Rattle.runs.specs.Execution as execution;
 ghost use Rattle.state.specs.Fresh.{Freshened};
 ghost use Rattle.monitor.specs.Events.{Called};
@@ -11,8 +11,8 @@ ghost use Rattle.capi.specs.Numbers.{verdictNumber, VerdictNumber, statu
 ghost use Rattle.listing.specs.Listing.{told};
 use listing::Listed;
 use monitor::Progress;
-use summary::Answer;
-use summary::Verdict;
+use verdict::Answer;
+use verdict::Verdict;
 
 #[no_mangle]
 pub extern "C" fn knowetop_refusal(plan: &[u8]) -> u32
@@ -38,7 +38,7 @@ fn verdict_number(answer: Answer) -> u32
 pub extern "C" fn knowetop_verdict(plan: &[u8]) -> u32
     ensures { λ r. ⌜ VerdictNumber (now (plan .entry)) r ⌝ }
 {
-    let answer = summary::assess(plan);
+    let answer = verdict::assess(plan);
     verdict_number(answer)
 }
 

@@ -28,7 +28,7 @@ use Rattle.runs.proofs.Trials.Tables.{sameList, same-list}
 use Rattle.runs.proofs.Calls.First.{worked-only}
 use Rattle.progress.proofs.Sound.{T-true, is-node}
 use Rattle.calls.specs.Shown.{shownByte}
-use Rattle.summary.specs.Verdict.{answerOf}
+use Rattle.verdict.specs.Verdict.{answerOf}
 use Rattle.calls.specs.Demand3.{Bytes}
 use Rattle.calls.proofs.Followed.{list-follows}
 use Rattle.trials.specs.Written.{bytesOf}

@@ -1,6 +1,6 @@
 // Lengths and longest waits of an accepted plan, by functions for all-of and any-of groups that call each other.
 ghost use mathlib.Core.Path.{_≡_};
-ghost use Prim.Native.Nat.{max, _≤_, _<_};
+ghost use Prim.Native.Nat.{max, _<_};
 ghost use lib.ListN.{length};
 ghost use Rattle.format.specs.Format.{nodeCount, kindOf};
 ghost use Rattle.rules.specs.Rules.{refusal};

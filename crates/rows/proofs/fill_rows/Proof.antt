@@ -1,11 +1,10 @@
 -- `fill_rows` meets its contract. Assumes nothing.
-use mathlib.Core.Path.{_≡_}
 use Rattle.plan.proofs.Accepted.{clean}
 use Rattle.plan.proofs.Meaning.{means-well-formed}
-use Rattle.summary.proofs.Bytes.{node-of}
+use Rattle.rows.proofs.Nodes.{node-of}
 use borrow.Author.Needs.{needs}
-use Rattle.summary.proofs.fill_rows.Statement.{statement}
-use Rattle.summary.proofs.fill_rows.Tie as tie
+use Rattle.rows.proofs.fill_rows.Statement.{statement}
+use Rattle.rows.proofs.fill_rows.Tie as tie
 
 nodes-requires : tie.Need-nodes-requires
 nodes-requires c κs = clean _ (c .before .before .before .before .before .before .before .before .before .before .before .before .pre .0) .fits .limits .long

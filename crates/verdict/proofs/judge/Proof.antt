@@ -1,9 +1,9 @@
 -- `judge` meets its contract. Assumes nothing.
 use Rattle.plan.proofs.Accepted.{clean}
-use Rattle.summary.proofs.Judging.{judged-clear, judged-doomed, judged-open}
+use Rattle.verdict.proofs.Judging.{judged-clear, judged-doomed, judged-open}
 use borrow.Author.Needs.{needs}
-use Rattle.summary.proofs.judge.Statement.{statement}
-use Rattle.summary.proofs.judge.Tie as tie
+use Rattle.verdict.proofs.judge.Statement.{statement}
+use Rattle.verdict.proofs.judge.Tie as tie
 
 node-words-requires : tie.Need-node-words-requires
 node-words-requires c κs = (c .before .pre, clean _ (c .before .pre) .fits .limits .some-node)

@@ -1,9 +1,9 @@
 -- `assess` meets its contract. Assumes nothing.
 use mathlib.Core.Path.{sym, _∙_}
-use Rattle.summary.proofs.Judging.{assessed-refused, assessed}
+use Rattle.verdict.proofs.Judging.{assessed-refused, assessed}
 use borrow.Author.Needs.{needs}
-use Rattle.summary.proofs.assess.Statement.{statement}
-use Rattle.summary.proofs.assess.Tie as tie
+use Rattle.verdict.proofs.assess.Statement.{statement}
+use Rattle.verdict.proofs.assess.Tie as tie
 
 returns : tie.Need-returns
 returns c = assessed-refused _ (c .before .check .ensures) (c .if1 .taken)

@@ -9,10 +9,9 @@ use Rattle.bits.specs.Bits.{Says}
 use Rattle.bits.proofs.Equations.{one-shl}
 use Rattle.format.specs.Format.{flagCount}
 use Rattle.plan.proofs.Accepted.{clean}
-use Rattle.summary.proofs.Judging.{SetBelow, start-none, start-set, start-clear, start-all}
-use borrow.Author.Needs.{needs}
-use Rattle.summary.proofs.start_word.Statement.{statement}
-use Rattle.summary.proofs.start_word.Tie as tie
+use Rattle.verdict.proofs.Start.{SetBelow, start-none, start-set, start-clear, start-all}
+use Rattle.verdict.proofs.start_word.Statement.{statement}
+use Rattle.verdict.proofs.start_word.Tie as tie
 
 abbrev Inv-loop : tie.InvT-loop
 Inv-loop plan n word₀ f₀ word f = (f ≤ n) × ((g : ℕ) → g < 64 → Says word g (SetBelow plan f g))

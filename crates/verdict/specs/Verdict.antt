@@ -10,10 +10,10 @@ use Rattle.runs.specs.Verdict as verdicts
 use Rattle.runs.specs.Verdict.{CLEAR, DOOMED, OPEN, Judged}
 use Rattle.runs.specs.Demand3.{NeverViolates, NeverCompletes}
 use Rattle.runs.specs.Model.Verdicts.{verdict}
-use Rattle.summary.specs.declared.Verdict.{Verdict}
-use Rattle.summary.specs.declared.Verdict.the-variants.{Clear, Doomed, Open}
-use Rattle.summary.specs.declared.Answer.{Answer}
-use Rattle.summary.specs.declared.Answer.the-variants as answers
+use Rattle.verdict.specs.declared.Verdict.{Verdict}
+use Rattle.verdict.specs.declared.Verdict.the-variants.{Clear, Doomed, Open}
+use Rattle.verdict.specs.declared.Answer.{Answer}
+use Rattle.verdict.specs.declared.Answer.the-variants as answers
 
 -- 01's word for each case
 abbrev pub wordOf : Verdict → verdicts.Verdict

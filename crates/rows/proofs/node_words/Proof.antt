@@ -2,10 +2,10 @@
 use native.Mathlib.Omega.{arith}
 use Rattle.plan.proofs.Accepted.{clean}
 use Rattle.plan.proofs.Meaning.{means-well-formed}
-use Rattle.summary.proofs.Bytes.{node-of}
+use Rattle.rows.proofs.Nodes.{node-of}
 use borrow.Author.Needs.{needs}
-use Rattle.summary.proofs.node_words.Statement.{statement}
-use Rattle.summary.proofs.node_words.Tie as tie
+use Rattle.rows.proofs.node_words.Statement.{statement}
+use Rattle.rows.proofs.node_words.Tie as tie
 
 mark-words-requires : tie.Need-mark-words-requires
 mark-words-requires c κs =
