@@ -14,10 +14,10 @@ use Rattle.rules.proofs.Laws.{none-at, or-none, not-passed}
 use Rattle.plan.proofs.Accepted.{Clean}
 use Rattle.plan.proofs.Causes.{root-parent, parent-group}
 use Rattle.plan.proofs.Meaning.{kind-is, kind-of, kind-group, group-is, group-of, kind-limit}
-use Rattle.waits.specs.Waits.{lengthOf, waitWithin, waitsTo, longestWait}
-use Rattle.waits.proofs.Greatest.{greatest-le, greatest-least}
-use Rattle.waits.proofs.Laws.{child-lower, earlier-child, length-task, length-any, length-all, waits-least}
-use Rattle.waits.proofs.Sums.{sum, sum-grows, sum-le, sum-more, sum-has, sum-balance, sum-none, sum-one, sum-same}
+use Rattle.lengths.specs.Waits.{lengthOf, waitWithin, waitsTo, longestWait}
+use Rattle.lengths.proofs.Greatest.{greatest-le, greatest-least}
+use Rattle.lengths.proofs.Laws.{child-lower, earlier-child, length-task, length-any, length-all, waits-least}
+use Rattle.lengths.proofs.Sums.{sum, sum-grows, sum-le, sum-more, sum-has, sum-balance, sum-none, sum-one, sum-same}
 
 and-false : (a : Bool) → (a && false) ≡ false
 and-false true = refl

@@ -4,13 +4,13 @@ use mathlib.Core.Logic.{⊎-elim}
 use Prim.Native.Nat.{_-_, _<_, _≤_}
 use Rattle.format.specs.Format.{nodeCount}
 use Rattle.plan.proofs.Accepted.{clean}
-use Rattle.waits.specs.Waits.{lengthOf}
-use Rattle.waits.proofs.Laws.{length-any}
-use Rattle.waits.proofs.Filling.{a-child, GreatestTo, greatest-start, greatest-turn, greatest-pass}
+use Rattle.lengths.specs.Waits.{lengthOf}
+use Rattle.lengths.proofs.Laws.{length-any}
+use Rattle.spread.proofs.Children.{a-child, GreatestTo, greatest-start, greatest-turn, greatest-pass}
 use native.Mathlib.Omega.{arith}
 use borrow.Author.Needs.{needs}
-use Rattle.waits.proofs.longest_child.Statement.{statement}
-use Rattle.waits.proofs.longest_child.Tie as tie
+use Rattle.spread.proofs.longest_child.Statement.{statement}
+use Rattle.spread.proofs.longest_child.Tie as tie
 
 abbrev Inv-loop : tie.InvT-loop
 Inv-loop plan lengths node n longest₀ c₀ longest c = ((n ≡ nodeCount plan) × (n ≤ 128)) × (((node < c) × (c ≤ n)) × GreatestTo plan node (lengthOf plan) c longest)

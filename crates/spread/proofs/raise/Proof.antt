@@ -4,11 +4,11 @@ use Prim.Native.Nat.{_-_}
 use Rattle.format.specs.Format.{orderCount}
 use Rattle.plan.proofs.Accepted.{clean}
 use Rattle.chains.proofs.Chains.{sorted}
-use Rattle.waits.proofs.Filling.{RaisedTo, raised-none, raised-more, raised-all, raised-stop}
+use Rattle.spread.proofs.Orders.{RaisedTo, raised-none, raised-more, raised-all, raised-stop}
 use native.Mathlib.Omega.{arith}
 use borrow.Author.Needs.{needs}
-use Rattle.waits.proofs.raise.Statement.{statement}
-use Rattle.waits.proofs.raise.Tie as tie
+use Rattle.spread.proofs.raise.Statement.{statement}
+use Rattle.spread.proofs.raise.Tie as tie
 
 abbrev Inv-loop : tie.InvT-loop
 Inv-loop plan waits₀ c end k j₀ waits j = (k ≡ orderCount plan) × RaisedTo plan waits₀ waits c end j

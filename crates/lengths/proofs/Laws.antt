@@ -15,8 +15,8 @@ use Rattle.plan.proofs.Accepted.{Clean}
 use Rattle.plan.proofs.Causes.{parent-group}
 use Rattle.plan.proofs.Meaning.{child-is, siblings, kind-task, kind-all-of, kind-of}
 use Rattle.progress.proofs.Sound.{kind-any-of}
-use Rattle.waits.specs.Waits.{greatest, waitBy, lengthAs, lengthBy, lengthOf, waitWithin}
-use Rattle.waits.proofs.Greatest.{greatest-same, greatest-le, greatest-least}
+use Rattle.lengths.specs.Waits.{greatest, waitBy, lengthAs, lengthBy, lengthOf, waitWithin}
+use Rattle.lengths.proofs.Greatest.{greatest-same, greatest-le, greatest-least}
 
 -- an order's nodes: children of one all-of group, the earlier with the lower number
 pub record Ordered (b : List ℕ) (j : ℕ) : Type 0 where

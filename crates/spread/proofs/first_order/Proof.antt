@@ -3,11 +3,11 @@ use Prim.Native.Nat.{_+_, _-_, _/_, _<_}
 use Rattle.format.specs.Format.{earlierOf}
 use Rattle.plan.proofs.Accepted.{clean}
 use Rattle.chains.proofs.Chains.{sorted}
-use Rattle.waits.proofs.Filling.{Between, between-all, between-low, between-high, between-found}
+use Rattle.spread.proofs.Orders.{Between, between-all, between-low, between-high, between-found}
 use native.Mathlib.Omega.{arith}
 use borrow.Author.Needs.{needs}
-use Rattle.waits.proofs.first_order.Statement.{statement}
-use Rattle.waits.proofs.first_order.Tie as tie
+use Rattle.spread.proofs.first_order.Statement.{statement}
+use Rattle.spread.proofs.first_order.Tie as tie
 
 abbrev Inv-loop : tie.InvT-loop
 Inv-loop plan c low₀ high₀ low high = Between plan c low high

@@ -4,12 +4,12 @@ use mathlib.Core.Logic.{⊎-elim}
 use Prim.Native.Nat.{_-_, _<_, _≤_}
 use Rattle.format.specs.Format.{nodeCount}
 use Rattle.plan.proofs.Accepted.{clean}
-use Rattle.waits.proofs.Bounds.{child-limit}
-use Rattle.waits.proofs.Filling.{a-child, SpreadTo, spread-none, spread-wait, spread-child, spread-other, spread-all}
+use Rattle.lengths.proofs.Bounds.{child-limit}
+use Rattle.spread.proofs.Children.{a-child, SpreadTo, spread-none, spread-wait, spread-child, spread-other, spread-all}
 use native.Mathlib.Omega.{arith}
 use borrow.Author.Needs.{needs}
-use Rattle.waits.proofs.spread.Statement.{statement}
-use Rattle.waits.proofs.spread.Tie as tie
+use Rattle.spread.proofs.spread.Statement.{statement}
+use Rattle.spread.proofs.spread.Tie as tie
 
 abbrev Inv-loop : tie.InvT-loop
 Inv-loop plan lengths waits₀ node n longest₀ c₀ waits longest c = ((n ≡ nodeCount plan) × (n ≤ 128)) × (((node < c) × (c ≤ n)) × SpreadTo plan lengths waits₀ waits node c longest)
