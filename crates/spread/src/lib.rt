@@ -13,6 +13,7 @@ use format::fields::orders;
 use format::fields::parent;
 use rules::tests::wide;
 
+// The greater of two.
 fn greater(a: u32, b: u32) -> u32
     ensures { λ r. ⌜ r ≡ max a b ⌝ }
 {
