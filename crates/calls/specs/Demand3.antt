@@ -15,8 +15,8 @@ use Rattle.answers.specs.Answers.{overlay}
 use Rattle.monitor.specs.declared.Progress.{Progress}
 use Rattle.monitor.specs.Status as status
 use Rattle.monitor.specs.Status.{COMPLETE, Told}
-use Rattle.summary.specs.declared.Answer.{Answer}
-use Rattle.summary.specs.Verdict.{said, Assessed}
+use Rattle.verdict.specs.declared.Answer.{Answer}
+use Rattle.verdict.specs.Verdict.{said, Assessed}
 use Rattle.calls.specs.Shown.{shownByte}
 use Rattle.calls.specs.Lists.{Calls, Listed, Parted}
 

@@ -2,9 +2,9 @@
 use mathlib.Core.Path.{_≡_}
 use mathlib.Core.List.{List}
 use Prim.Native.Nat.{ℕ}
-use Rattle.summary.specs.declared.Answer.{Answer}
-use Rattle.summary.specs.Verdict as summary
-use Rattle.summary.specs.Verdict.{Assessed}
+use Rattle.verdict.specs.declared.Answer.{Answer}
+use Rattle.verdict.specs.Verdict as summary
+use Rattle.verdict.specs.Verdict.{Assessed}
 use Rattle.listing.specs.declared.Listed.{Listed}
 use Rattle.listing.specs.Listing.{told, Lists}
 use Rattle.monitor.specs.declared.Progress.{Progress}

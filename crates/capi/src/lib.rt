@@ -21,7 +21,7 @@ pub extern "C" fn knowetop_refusal(plan: &[u8]) -> u32
 pub extern "C" fn knowetop_verdict(plan: &[u8]) -> u32
     ensures { λ r. ⌜ VerdictNumber (now (plan .entry)) r ⌝ }
 {
-    let answer = summary::assess(plan);
+    let answer = verdict::assess(plan);
     verdict_number(answer)
 }
 

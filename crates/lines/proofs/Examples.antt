@@ -5,7 +5,7 @@ use Rattle.format.specs.Format.{u16At, nodeCount, condCount, orderCount, nameCh
 use Rattle.rules.specs.Rules.{isChild}
 use Rattle.plan.specs.Meaning.{kindAt}
 use Rattle.decimals.specs.Decimals.{decimalBy, decimal}
-use Rattle.waits.specs.Waits.{greatest, waitBy, lengthAs, lengthBy, lengthOf, waitWithin, waitsTo, longestWait}
+use Rattle.lengths.specs.Waits.{greatest, waitBy, lengthAs, lengthBy, lengthOf, waitWithin, waitsTo, longestWait}
 use Rattle.examples.specs.Plans.{planB}
 use Rattle.lines.specs.Order.{inserted, rankedTo, ranking}
 use Rattle.lines.specs.Lines.{nameOf, ending, lineOf, linesOf}

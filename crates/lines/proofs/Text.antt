@@ -11,8 +11,8 @@ use Rattle.plan.proofs.Accepted.{Clean}
 use Rattle.decimals.specs.Decimals.{decimal, Wrote}
 use Rattle.decimals.proofs.Laws.{length-limit}
 use Rattle.decimals.proofs.Written.{written-none, wrote-then, wrote-same}
-use Rattle.waits.specs.Waits.{longestWait}
-use Rattle.waits.proofs.Bounds.{end-limit}
+use Rattle.lengths.specs.Waits.{longestWait}
+use Rattle.lengths.proofs.Bounds.{end-limit}
 use Rattle.lines.specs.Order.{rankedTo, ranking}
 use Rattle.lines.specs.Lines.{nameOf, ending, lineOf, linesOf, Ranking}
 use Rattle.lines.proofs.Order.{Among, here, there, among-at, ranked-task, ranked-length}

@@ -5,7 +5,7 @@ use mathlib.Core.List.{List, [], _∷_, _++_}
 use lib.ListN.{length, take}
 use Rattle.format.specs.Format.{nameChar}
 use Rattle.decimals.specs.Decimals.{decimal}
-use Rattle.waits.specs.Waits.{longestWait}
+use Rattle.lengths.specs.Waits.{longestWait}
 use Rattle.lines.specs.Order.{ranking}
 
 -- the four characters of a name

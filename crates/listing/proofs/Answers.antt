@@ -21,10 +21,10 @@ use Rattle.plan.proofs.Meaning.{means-well-formed}
 use Rattle.runs.specs.Verdict.{Judged}
 use Rattle.runs.specs.Model.Verdicts.{verdict}
 use Rattle.runs.proofs.Verdict.Exact.{verdict-exact}
-use Rattle.summary.specs.Verdict.{wordOf, said, answerOf, Assessed}
-use Rattle.summary.specs.declared.Verdict.{Verdict}
-use Rattle.summary.specs.declared.Answer.{Answer}
-use Rattle.summary.specs.declared.Answer.the-variants as answers
+use Rattle.verdict.specs.Verdict.{wordOf, said, answerOf, Assessed}
+use Rattle.verdict.specs.declared.Verdict.{Verdict}
+use Rattle.verdict.specs.declared.Answer.{Answer}
+use Rattle.verdict.specs.declared.Answer.the-variants as answers
 use Rattle.listing.specs.Text.{textOf, refusedText, printed}
 use Rattle.listing.specs.Listing.{listingRefusal, listedOf, listingLeft, Lists, Prints}
 use Rattle.listing.specs.declared.Listed.the-variants.{Refused, Text}

@@ -10,8 +10,8 @@ use Rattle.plan.specs.Meaning.{planOf, startOf}
 use Rattle.plan.proofs.Accepted.{Clean}
 use Rattle.runs.specs.Verdict.{Verdict, CLEAR, DOOMED, OPEN}
 use Rattle.runs.specs.Model.Verdicts.{verdict}
-use Rattle.waits.specs.Waits.{lengthOf}
-use Rattle.waits.proofs.Bounds.{end-limit}
+use Rattle.lengths.specs.Waits.{lengthOf}
+use Rattle.lengths.proofs.Bounds.{end-limit}
 use Rattle.lines.specs.Order.{ranking}
 use Rattle.lines.specs.Lines.{ending, linesOf}
 use Rattle.lines.proofs.Text.{ending-limit, lines-limit}

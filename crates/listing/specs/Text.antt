@@ -7,7 +7,7 @@ use Rattle.rules.specs.Rules.{refusal}
 use Rattle.plan.specs.Meaning.{planOf, startOf}
 use Rattle.runs.specs.Verdict.{Verdict, CLEAR, DOOMED, OPEN}
 use Rattle.runs.specs.Model.Verdicts.{verdict}
-use Rattle.waits.specs.Waits.{lengthOf}
+use Rattle.lengths.specs.Waits.{lengthOf}
 use Rattle.lines.specs.Order.{ranking}
 use Rattle.lines.specs.Lines.{ending, linesOf}
 

@@ -1,10 +1,10 @@
 // The numbers by which the C interface tells answers.
 use listing::Listed;
 use monitor::Progress;
-use summary::Answer;
-use summary::Verdict;
+use verdict::Answer;
+use verdict::Verdict;
 ghost use mathlib.Core.Path.{_≡_};
-ghost use Rattle.summary.specs.Verdict as verdict;
+ghost use Rattle.verdict.specs.Verdict as verdict;
 ghost use Rattle.monitor.specs.Status as progress;
 ghost use Rattle.listing.specs.Listing.{told};
 ghost use Rattle.numbers.specs.Numbers.{verdictNumber, statusNumber, listingNumber, Short};

@@ -1,22 +1,21 @@
 -- The bytes of a summary, from the words of its node. Assumes nothing.
-use mathlib.Core.Path.{_≡_, refl, sym, ap, _∙_}
-use mathlib.Core.Logic.{_⊎_, inl, inr}
+use mathlib.Core.Path.{_≡_, refl, sym, _∙_}
+use mathlib.Core.Logic.{inl, inr}
 use mathlib.Core.Bool.{Bool, true, false, cond, not}
 use mathlib.Core.List.{List}
 use Prim.Native.Nat.{ℕ, zero, suc, _+_, _*_, _/_, _%_, _^_, _≤_, _<_}
 use native.Mathlib.Omega.{arith}
 use lib.ListN.{length, getD}
-use lib.Dec.{T, eqb, ltb, eqb→eq, eqb-refl}
+use lib.Dec.{eqb, ltb, eqb→eq}
 use borrow.Author.Tests.{eq-eqb, ne-eqb, lt-ltb, le-ltb, ltb-true, ltb-false}
 use Rattle.bits.specs.Bits.{bit, Says}
-use Rattle.answers.specs.Answers.{first, overlay}
-use Rattle.answers.proofs.First.{first-none, first-some, both-none, check-passed}
+use Rattle.answers.specs.Answers.{overlay}
+use Rattle.answers.proofs.First.{first-some, both-none, check-passed}
 use Rattle.answers.proofs.Overlay.{at-overlay}
 use Rattle.format.specs.Format.{nodeCount, flagCount}
 use Rattle.rules.specs.Rules.{refusal}
 use Rattle.plan.specs.Meaning.{planOf, signNumber}
-use Rattle.plan.proofs.Meaning.{means, means-well-formed}
-use Rattle.runs.specs.Plan.{Plan, Node}
+use Rattle.plan.proofs.Meaning.{means-well-formed}
 use Rattle.runs.specs.Summary.{Mark, byteOf, Marked}
 use Rattle.runs.specs.Model.Marks.{markedB}
 use Rattle.runs.proofs.Reflect.{Reflects}
@@ -24,6 +23,7 @@ use Rattle.runs.proofs.Summary.Exact.{marks-exact}
 use Rattle.words.specs.Tables.{signNum}
 use Rattle.literals.specs.Words.{wordOf, markAt, MarkWords}
 use Rattle.literals.proofs.Laws.{mark-small, mark-byte, byte-mark}
+use Rattle.rows.proofs.Nodes.{node-of}
 use Rattle.summary.specs.Summary.{summaryRefusal, summaryByte, summaryLeft, Tells, Summarised}
 
 -- the digit of a bit that says what a test reflects
@@ -39,11 +39,6 @@ digit-is {w} {f} false s r = small (w / 2 ^ f % 2) (omega arith) (λ e. r .from 
 pub tells : {A : Type 0} (t : Bool) → Reflects t A → Tells (cond t 1 0) A
 tells true r = inl (refl, r .to tt)
 tells false r = inr (refl, r .from)
-
--- an accepted plan's node
-pub node-of : (b : List ℕ) → refusal b ≡ 0 → (n : ℕ) → n < nodeCount b → Node (planOf b) n
-unfolding planOf
-node-of b e n l = means b e .accepted .nodes n .1 l
 
 sign-of : (d : ℕ) → d < 2 → signNum (eqb d 1) ≡ d
 sign-of zero l = refl

@@ -1,4 +1,2 @@
--- What the summary call and the verdict answer and leave.
-pub mod Rows
+-- What the summary call answers and leaves.
 pub mod Summary
-pub mod Verdict

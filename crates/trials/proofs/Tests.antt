@@ -27,7 +27,7 @@ use Rattle.runs.proofs.Reflect.{Reflects, r-both, r-T, r-eq, r-lt, r-decide, r-
 use Rattle.runs.proofs.Summary.Exact.{marks-exact}
 use Rattle.runs.proofs.Calls.First.{worked-only}
 use Rattle.calls.specs.Shown.{shownByte}
-use Rattle.summary.specs.Verdict.{answerOf}
+use Rattle.verdict.specs.Verdict.{answerOf}
 use Rattle.calls.specs.Demand3.{Bytes}
 use Rattle.calls.proofs.Followed.{list-follows}
 use Rattle.trials.specs.Written.{bytesOf}

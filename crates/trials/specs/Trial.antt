@@ -14,8 +14,8 @@ use Rattle.runs.specs.Summary.{Mark, byteOf, Marked}
 use Rattle.runs.specs.Verdict.{Verdict}
 use Rattle.runs.specs.Calls.{Call, statusByte}
 use Rattle.calls.specs.Lists.{Listed}
-use Rattle.summary.specs.declared.Answer.{Answer}
-use Rattle.summary.specs.Verdict.{said, Assessed}
+use Rattle.verdict.specs.declared.Answer.{Answer}
+use Rattle.verdict.specs.Verdict.{said, Assessed}
 use Rattle.summary.specs.Summary.{Summarised}
 use Rattle.trials.specs.Written.{Written, bytesOf, eight}
 

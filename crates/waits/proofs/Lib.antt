@@ -1,7 +1,4 @@
--- Laws of lengths and waits.
-pub mod Greatest
-pub mod Laws
-pub mod Sums
-pub mod Bounds
-pub mod Filling
-pub mod Examples
+-- Laws of the tables of lengths and waits.
+pub mod Tasks
+pub mod Groups
+pub mod Down

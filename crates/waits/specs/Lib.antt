@@ -1,3 +1,2 @@
--- Lengths and longest waits.
-pub mod Waits
+-- The tables of lengths and waits.
 pub mod Filled

@@ -3,7 +3,7 @@ use mathlib.Core.Path.{ap}
 use Prim.Native.Nat.{ℕ}
 use lib.ListN.{length}
 use Rattle.plan.proofs.Accepted.{clean}
-use Rattle.summary.specs.Verdict.{wordOf}
+use Rattle.verdict.specs.Verdict.{wordOf}
 use Rattle.decimals.proofs.Written.{wrote-long, wrote-then, wrote-same}
 use Rattle.lines.specs.Lines.{ending}
 use Rattle.listing.specs.Text.{letters}

@@ -1,7 +1,7 @@
 -- `write_word` meets its contract, word by word. Assumes nothing.
 use mathlib.Core.Path.{sym, ap}
-use Rattle.summary.specs.declared.Verdict.{Verdict}
-use Rattle.summary.specs.Verdict.{wordOf}
+use Rattle.verdict.specs.declared.Verdict.{Verdict}
+use Rattle.verdict.specs.Verdict.{wordOf}
 use Rattle.decimals.proofs.Written.{wrote-same}
 use Rattle.listing.specs.Text.{letters}
 use borrow.Author.Needs.{needs}

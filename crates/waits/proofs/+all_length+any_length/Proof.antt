@@ -8,7 +8,7 @@ use borrow.Author.Needs.{needs}
 use denote.Ref.{now}
 use Rattle.format.specs.Format.{nodeCount}
 use Rattle.plan.proofs.Accepted.{clean}
-use Rattle.waits.proofs.Filling.{ChildrenTo, children-none, children-other, children-group, children-task, child-lengths, all-worked, any-worked}
+use Rattle.waits.proofs.Groups.{ChildrenTo, children-none, children-other, children-group, children-task, child-lengths, all-worked, any-worked}
 use borrow.Fn.Kinds.{In}
 use borrow.Fn.PlainCycle.{Measures, is, falls, and}
 use Rattle.waits.proofs.all_length.Reads as all-length
@@ -21,8 +21,8 @@ use Rattle.format.proofs.fields.kind.Reads as kind-reads
 use Rattle.format.proofs.fields.nodes.Reads as nodes-reads
 use Rattle.format.proofs.fields.parent.Reads as parent-reads
 use Rattle.rules.proofs.tests.wide.Reads as wide-reads
-use Rattle.waits.proofs.longest_child.Reads as longest-child-reads
-use Rattle.waits.proofs.spread.Reads as spread-reads
+use Rattle.spread.proofs.longest_child.Reads as longest-child-reads
+use Rattle.spread.proofs.spread.Reads as spread-reads
 use Rattle.waits.proofs.+all_length+any_length.{statement}
 use Rattle.waits.proofs.+all_length+any_length.Tie.{close}
 

@@ -3,8 +3,8 @@ use mathlib.Core.Path.{_≡_, _∙_}
 use Prim.Native.Nat.{_-_, _≤_}
 use Rattle.format.specs.Format.{nodeCount}
 use Rattle.plan.proofs.Accepted.{clean}
-use Rattle.waits.proofs.Filling.{Down, down-none, down-sum, down-more, down-all}
-use Rattle.waits.proofs.Bounds.{end-limit}
+use Rattle.waits.proofs.Down.{Down, down-none, down-sum, down-more, down-all}
+use Rattle.lengths.proofs.Bounds.{end-limit}
 use native.Mathlib.Omega.{arith}
 use borrow.Author.Needs.{needs}
 use Rattle.waits.proofs.add_waits.Statement.{statement}

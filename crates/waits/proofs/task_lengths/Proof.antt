@@ -4,7 +4,7 @@ use mathlib.Core.Logic.{⊎-elim}
 use Prim.Native.Nat.{_-_, _≤_}
 use Rattle.format.specs.Format.{nodeCount}
 use Rattle.plan.proofs.Accepted.{clean}
-use Rattle.waits.proofs.Filling.{TasksTo, tasks-none, tasks-more, tasks-skip, tasks-all}
+use Rattle.waits.proofs.Tasks.{TasksTo, tasks-none, tasks-more, tasks-skip, tasks-all}
 use native.Mathlib.Omega.{arith}
 use Rattle.waits.proofs.task_lengths.Statement.{statement}
 use Rattle.waits.proofs.task_lengths.Tie as tie

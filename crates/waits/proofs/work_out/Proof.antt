@@ -1,7 +1,7 @@
 -- `work_out` meets its contract: all is under the root. Assumes nothing.
 use mathlib.Core.Path.{sym, _∙_}
 use Rattle.plan.proofs.Accepted.{clean}
-use Rattle.waits.proofs.Filling.{root-worked, root-task}
+use Rattle.waits.proofs.Groups.{root-worked, root-task}
 use borrow.Author.Needs.{needs}
 use Rattle.waits.proofs.work_out.Statement.{statement}
 use Rattle.waits.proofs.work_out.Tie as tie

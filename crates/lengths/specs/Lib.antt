@@ -1,0 +1,2 @@
+-- Lengths and longest waits.
+pub mod Waits

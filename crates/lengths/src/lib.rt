@@ -1,0 +1,1 @@
+// Definitions and laws only: lengths and longest waits as functions of a plan's bytes.

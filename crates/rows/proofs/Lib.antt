@@ -1,0 +1,2 @@
+-- The nodes of an accepted plan.
+pub mod Nodes

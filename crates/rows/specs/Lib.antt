@@ -1,0 +1,2 @@
+-- The rows of an accepted plan.
+pub mod Rows

@@ -1,0 +1,3 @@
+-- Laws of one group.
+pub mod Orders
+pub mod Children

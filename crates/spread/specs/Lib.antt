@@ -1,0 +1,2 @@
+-- One group, from the lengths of its children.
+pub mod Spread

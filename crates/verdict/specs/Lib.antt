@@ -1,0 +1,2 @@
+-- What the call for a verdict answers.
+pub mod Verdict

@@ -1,0 +1,76 @@
+// The answer for a plan.
+ghost use mathlib.Core.Path.{_≡_};
+ghost use Rattle.rules.specs.Rules.{refusal};
+ghost use Rattle.plan.specs.Meaning.{planOf, startOf};
+ghost use Rattle.runs.specs.Model.Verdicts as model;
+ghost use Rattle.literals.specs.Words.{StartWord};
+ghost use Rattle.verdict.specs.Verdict.{wordOf, Assessed};
+use format::fields::flags;
+use format::fields::start_flag;
+use literals::failing;
+use plan::check;
+use rows::node_words;
+
+pub enum Verdict {
+    Clear,
+    Doomed,
+    Open,
+}
+
+pub enum Answer {
+    Refused(u32),
+    Judged(Verdict),
+}
+
+// The numbers of some marks.
+const MAY_PRE: usize = 0;
+
+const MUST_PRE: usize = 1;
+
+const MAY_CLOBBER: usize = 6;
+
+const MUST_CLOBBER: usize = 7;
+
+// The flags that are set at the start, as a word.
+fn start_word(plan: &[u8]) -> u64
+    requires { ⌜ refusal (now plan) ≡ 0 ⌝ }
+    ensures { λ r. ⌜ StartWord (startOf (now (plan .entry))) r ⌝ }
+{
+    let n = flags(plan);
+    let mut word = 0u64;
+    let mut f = 0;
+    while f < n {
+        if start_flag(plan, f) {
+            word = word | (1u64 << f);
+        }
+        f += 1;
+    }
+    word
+}
+
+// The verdict on an accepted plan, from the marks of its root.
+fn judge(plan: &[u8]) -> Verdict
+    requires { ⌜ refusal (now plan) ≡ 0 ⌝ }
+    ensures { λ r. ⌜ wordOf r ≡ model.verdict (planOf (now (plan .entry))) (startOf (now (plan .entry))) ⌝ }
+{
+    let words = node_words(plan, 0);
+    let start = start_word(plan);
+    if failing(&words, start, MAY_CLOBBER, MAY_PRE) == 0 {
+        return Verdict::Clear;
+    }
+    if failing(&words, start, MUST_CLOBBER, MUST_PRE) != 0 {
+        return Verdict::Doomed;
+    }
+    Verdict::Open
+}
+
+// A refusal up to 14, or the verdict.
+pub fn assess(plan: &[u8]) -> Answer
+    ensures { λ r. ⌜ Assessed (now (plan .entry)) r ⌝ }
+{
+    let r = check(plan);
+    if r != 0 {
+        return Answer::Refused(r);
+    }
+    Answer::Judged(judge(plan))
+}
