@@ -7,7 +7,7 @@ use mathlib.Core.Logic.{by-cases}
 use borrow.Author.Tests.{le-leb, lt-leb}
 use Rattle.codes.specs.declared.value.Parsed.the-variants as parsed
 use Rattle.codes.specs.declared.value.Condition.{Condition}
-use Rattle.codes.specs.Values.{parsedOf, placeAt, signAt, placeOf, signOf, flagOf, placeNum, signNum}
+use Rattle.codes.specs.Values.{parsedOf, placeAt, signAt, placeOf, signOf, flagOf, placeNum, signNum, valueNum}
 
 pub parse-at : (v flag sign place : ℕ) → v ≡ flag + 64 * sign + 128 * place → flag < 64 → sign < 2 → place < 3
     → parsed.Accepted (record { place = placeAt place; sign = signAt sign; flag = flag }) ≡ parsedOf v
@@ -68,6 +68,11 @@ refused v e =
     (λ (l : v ≤ 383).
     let z : _≡_ {A = ℕ} 0 1 = cc (parse-at v (v % 64) (v / 64 % 2) (v / 128) (omega arith) (omega arith) (omega arith) (omega arith)) in absurd (omega arith))
     (λ l. omega arith)
+
+-- the numbers of an accepted value's cases make up the value
+pub value-back : (v : ℕ) (c : Condition) → parsedOf v ≡ parsed.Accepted c → valueNum c ≡ v
+unfolding placeOf signOf flagOf
+value-back v c e = let s = says v c e in omega (arith, s .place, s .sign, s .flag)
 
 -- every value is made up of its parts
 pub value-parts : (v : ℕ) → v ≡ flagOf v + 64 * signOf v + 128 * placeOf v

@@ -30,6 +30,9 @@ abbrev pub signNum : Sign → ℕ
 signNum Clear = 0
 signNum Set = 1
 
+abbrev pub valueNum : Condition → ℕ
+valueNum c = c .flag + 64 * signNum (c .sign) + 128 * placeNum (c .place)
+
 -- and the cases of these numbers
 abbrev pub placeAt : ℕ → Place
 placeAt p = cond (eqb p 0) Pre (cond (eqb p 1) Inc Post)
