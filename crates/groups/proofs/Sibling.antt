@@ -70,28 +70,31 @@ pub implied : {C D A B : Type 0} → C ↔ D → A ↔ B → (C → A) ↔ (D �
 implied c a = (λ h d. a .0 (h (c .1 d)), λ h d. a .1 (h (c .0 d)))
 
 -- one word, one child more
-pub narrows-more : {kids : List ℕ} {lo i w r : ℕ} {C : Type 0} {A : ℕ → Type 0} {Q : ℕ → ℕ → Type 0} → lo ≤ i → Narrows w r C A
-    → ((f : ℕ) → f < 64 → (C → A f) ↔ Q f (getD kids i 0))
+pub narrows-more : {kids : List ℕ} {lo i b w r : ℕ} {C : Type 0} {A : ℕ → Type 0} {Q : ℕ → ℕ → Type 0} → b ≡ getD kids i 0 → lo ≤ i → Narrows w r C A
+    → ((f : ℕ) → f < 64 → (C → A f) ↔ Q f b)
     → ((f : ℕ) → f < 64 → Says w f (Every kids lo i (Q f))) → (f : ℕ) → f < 64 → Says r f (Every kids lo (i + 1) (Q f))
-narrows-more l m e h f k = says-map (
-  λ x. (every-next l) .0 (h f k .to (x .0), (e f k) .0 (x .1)),
-  λ x. let y = (every-next l) .1 x in (h f k .from (y .0), (e f k) .1 (y .1)),
+narrows-more q l m e h f k = says-map (
+  λ x. (every-next l) .0 (h f k .to (x .0), rw q at ((e f k) .0 (x .1))),
+  λ x. let y = (every-next l) .1 x in (h f k .from (y .0), (e f k) .1 (rw q (y .1))),
 ) (m .says f k)
 
 module _ {from kids order rows : List ℕ} {size n c : ℕ} {p : Plan} (g : Group from kids rows size n p) (o : RepresentsOrder order p) (hc : Child p n c) where
   module _ {lo i : ℕ} (l : lo ≤ i) where
-    pub with-sibling : Child p n (getD kids i 0) → {s r : Siblings} → Limits order rows c (getD kids i 0) s r → SiblingWords p c (Every kids lo i) s
+    pub with-sibling : {b : ℕ} → b ≡ getD kids i 0 → Child p n b → {s r : Siblings} → Limits order rows c b s r → SiblingWords p c (Every kids lo i) s
         → SiblingWords p c (Every kids lo (i + 1)) r
-    with-sibling hb m h = record {
-      avoid-before = narrows-more l (m .avoid-before) (λ f k. implied before (cell (g .children _ hb) k avoid)) (h .avoid-before);
-      clear-before = narrows-more l (m .clear-before) (λ f k. implied before (cell (g .children _ hb) k (quiet false))) (h .clear-before);
-      set-before = narrows-more l (m .set-before) (λ f k. implied before (cell (g .children _ hb) k (quiet true))) (h .set-before);
-      avoid-after = narrows-more l (m .avoid-after) (λ f k. implied (o .after _ c (hb .node) (hc .node)) (cell (g .children _ hb) k avoid)) (h .avoid-after);
-      silent-apart = narrows-more l (m .silent-apart) (λ f k. implied (apart-is o hb hc) (silent-cell (g .children _ hb) k)) (h .silent-apart);
+    with-sibling {b} e hb m h = record {
+      avoid-before = narrows-more e l (m .avoid-before) (λ f k. implied before (cell right k avoid)) (h .avoid-before);
+      clear-before = narrows-more e l (m .clear-before) (λ f k. implied before (cell right k (quiet false))) (h .clear-before);
+      set-before = narrows-more e l (m .set-before) (λ f k. implied before (cell right k (quiet true))) (h .set-before);
+      avoid-after = narrows-more e l (m .avoid-after) (λ f k. implied (o .after b c (hb .node) (hc .node)) (cell right k avoid)) (h .avoid-after);
+      silent-apart = narrows-more e l (m .silent-apart) (λ f k. implied (apart-is o hb hc) (silent-cell right k)) (h .silent-apart);
     }
       where
-        before : (code order (getD kids i 0) c ≡ 1) ↔ Before p (getD kids i 0) c
-        before = o .before _ c (hb .node) (hc .node)
+        right : Right p rows b
+        right = g .children b hb
+
+        before : (code order b c ≡ 1) ↔ Before p b c
+        before = o .before b c (hb .node) (hc .node)
 
   pub no-siblings : {lo : ℕ} {s : Siblings} → s ≡ record { «avoid_before» = ones; «clear_before» = ones; «set_before» = ones; «avoid_after» = ones; «silent_apart» = ones }
       → SiblingWords p c (Every kids lo lo) s

@@ -6,6 +6,7 @@ ghost use Rattle.bits.specs.Bits.{bit};
 ghost use Rattle.words.specs.Tables.{Shaped};
 ghost use Rattle.groups.specs.Groups.{AnyRow, AllRow, JoinedWord, Merged, Unmerged};
 ghost use Rattle.groups.specs.Siblings.{Apart, Narrows, Limits, SiblingsOf, Masks};
+use words::neither;
 use words::wide;
 use words::word_at;
 
@@ -64,14 +65,14 @@ fn with_sibling(
     ensures { λ r. ⌜ Limits (now (order .entry)) (now (rows .entry)) child sibling s r ⌝ }
 {
     let code = order[sibling * 128 + child];
-    let asserted = word_at(rows, sibling, ASSERTS) | word_at(rows, sibling, ASSERTS + 1);
     let avoids = word_at(rows, sibling, AVOID);
+    let silent = neither(rows, sibling, ASSERTS, ASSERTS + 1);
     let unordered = apart(order, sibling, child);
     let avoid_before = narrowed(s.avoid_before, code == 1, avoids);
     let clear_before = narrowed(s.clear_before, code == 1, word_at(rows, sibling, QUIET));
     let set_before = narrowed(s.set_before, code == 1, word_at(rows, sibling, QUIET + 1));
     let avoid_after = narrowed(s.avoid_after, code == 2, avoids);
-    let silent_apart = narrowed(s.silent_apart, unordered, asserted ^ ALL);
+    let silent_apart = narrowed(s.silent_apart, unordered, silent);
     Siblings {
         avoid_before: avoid_before,
         clear_before: clear_before,

@@ -1,8 +1,8 @@
 -- `must_post` meets its contract. Assumes nothing.
-use Rattle.mustpairs.proofs.Laws.{must-post-says}
+use Rattle.words.proofs.Musts.{must-post-says}
 use borrow.Author.Needs.{needs}
-use Rattle.mustpairs.proofs.must_post.Statement.{statement}
-use Rattle.mustpairs.proofs.must_post.Tie as tie
+use Rattle.words.proofs.must_post.Statement.{statement}
+use Rattle.words.proofs.must_post.Tie as tie
 
 returns : tie.Need-returns
 returns c = λ p w r v e f l. must-post-says w r v _ e f l (c .neither .ensures)

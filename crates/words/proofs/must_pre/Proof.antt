@@ -1,8 +1,8 @@
 -- `must_pre` meets its contract. Assumes nothing.
-use Rattle.mustpairs.proofs.Laws.{must-pre-says}
+use Rattle.words.proofs.Musts.{must-pre-says}
 use borrow.Author.Needs.{needs}
-use Rattle.mustpairs.proofs.must_pre.Statement.{statement}
-use Rattle.mustpairs.proofs.must_pre.Tie as tie
+use Rattle.words.proofs.must_pre.Statement.{statement}
+use Rattle.words.proofs.must_pre.Tie as tie
 
 returns : tie.Need-returns
 returns c = λ p w m r v e f l. must-pre-says w r v _ e f l m (c .neither .ensures)

@@ -1,18 +1,18 @@
--- `undisturbed_part` meets its contract. Assumes nothing.
+-- `passing_part` meets its contract. Assumes nothing.
 use Prim.Native.Nat.{_≤_, _-_}
 use mathlib.Core.Path.{_≡_}
-use Rattle.groups.proofs.Sibling.{implied, neither}
-use Rattle.mustpairs.specs.Words.{UndisturbedPart}
-use Rattle.pairs.proofs.Laws.{part-none, part-more, part-empty}
+use Rattle.groups.proofs.Sibling.{implied}
+use Rattle.passing.specs.Passing.{PassingPart}
+use Rattle.passing.proofs.Laws.{part-none, part-more, part-empty}
 use native.Mathlib.Omega.{arith}
-use Rattle.mustpairs.proofs.undisturbed_part.Statement.{statement}
-use Rattle.mustpairs.proofs.undisturbed_part.Tie as tie
+use Rattle.passing.proofs.passing_part.Statement.{statement}
+use Rattle.passing.proofs.passing_part.Tie as tie
 
 abbrev Inv-loop : tie.InvT-loop
-Inv-loop kids order rows low high flags c d left₀ i₀ left i = ((low ≤ i) × (i ≤ high)) × UndisturbedPart kids order rows low i flags c d left
+Inv-loop kids order rows low high always flags c d left₀ i₀ left i = ((low ≤ i) × (i ≤ high)) × PassingPart kids order rows low i always flags c d left
 
 abbrev μ-loop : tie.MeasureT-loop
-μ-loop kids order rows low high flags c d left₀ i₀ left i = high - i
+μ-loop kids order rows low high always flags c d left₀ i₀ left i = high - i
 
 loop-holds : tie.Need-loop-holds Inv-loop μ-loop
 loop-holds c = (omega (arith, c .pre .0 .rises), part-none)
@@ -23,14 +23,14 @@ returns c = let l = c .before .before in part-empty (omega (arith, l .loop .inv 
 element-copy-out-wide : tie.Need-element-copy-out-wide Inv-loop μ-loop
 element-copy-out-wide c = omega (arith, c .before .before .before .pre .0 .ends)
 
-disturbs-requires : tie.Need-disturbs-requires Inv-loop μ-loop
-disturbs-requires c κs =
+counts-requires : tie.Need-counts-requires Inv-loop μ-loop
+counts-requires c κs =
     let l = c .before .before .before .before in
     let kid = l .before .pre .0 .nodes .each (l .loop .i) (l .loop .inv .0 .0) (omega arith) in
     omega (arith, l .before .pre .1, kid, c .wide .ensures)
 
-neither-requires : tie.Need-neither-requires Inv-loop μ-loop
-neither-requires c κs =
+lets-pass-requires : tie.Need-lets-pass-requires Inv-loop μ-loop
+lets-pass-requires c κs =
     let l = c .before .before .before .before .before in
     let kid = l .before .pre .0 .nodes .each (l .loop .i) (l .loop .inv .0 .0) (omega arith) in
     omega (arith, kid, c .before .wide .ensures)
@@ -41,7 +41,7 @@ loop-again c =
     let e = c .before .before .before .wide .ensures in (
       omega arith,
       part-more (l .loop .inv .0 .0) (c .narrowed .ensures)
-          (λ f k. implied (rw e at (c .before .before .disturbs .ensures)) (rw (c .before .neither .ensures, e) (neither _ _ f k))) (l .loop .inv .1),
+          (λ f k. implied (rw e at (c .before .before .counts .ensures)) (rw e at (c .before .lets-pass .ensures f k))) (l .loop .inv .1),
     )
 
 returns-2 : tie.Need-returns-2 Inv-loop μ-loop
@@ -50,8 +50,8 @@ returns-2 c =
     let e : l .loop .i ≡ l .before .args .high = omega (arith, l .loop .inv .0) in
     rw e at (l .loop .inv .1)
 
-pub undisturbed-part-spec : {M : Type 1} → statement M
-undisturbed-part-spec =
+pub passing-part-spec : {M : Type 1} → statement M
+passing-part-spec =
     tie.close
     (tie.spec
     Inv-loop
@@ -60,9 +60,8 @@ undisturbed-part-spec =
     returns
     element-copy-out-wide
     (λ c κs. omega arith)
-    disturbs-requires
-    (λ c. omega arith)
-    neither-requires
+    counts-requires
+    lets-pass-requires
     (λ c κs. omega arith)
     (λ c. omega arith)
     (λ c. omega arith)

@@ -1,8 +1,8 @@
 -- `disturbs` meets its contract. Assumes nothing.
 use Rattle.bits.proofs.Tests.{unequal}
 use borrow.Author.Needs.{needs}
-use Rattle.mustpairs.proofs.disturbs.Statement.{statement}
-use Rattle.mustpairs.proofs.disturbs.Tie as tie
+use Rattle.passing.proofs.disturbs.Statement.{statement}
+use Rattle.passing.proofs.disturbs.Tie as tie
 
 returns-4 : tie.Need-returns-4
 returns-4 c = (

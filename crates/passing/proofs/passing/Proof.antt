@@ -1,15 +1,15 @@
--- `undisturbed` meets its contract. Assumes nothing.
-use Rattle.pairs.proofs.Laws.{part-of, kid-below, parts}
-use Rattle.mustpairs.proofs.Laws.{undisturbed-all}
+-- `passing` meets its contract. Assumes nothing.
+use Rattle.words.proofs.Turns.{kid-below}
+use Rattle.passing.proofs.Laws.{part-of, parts, passing-says}
 use native.Mathlib.Omega.{arith}
-use Rattle.mustpairs.proofs.undisturbed.Statement.{statement}
-use Rattle.mustpairs.proofs.undisturbed.Tie as tie
+use Rattle.passing.proofs.passing.Statement.{statement}
+use Rattle.passing.proofs.passing.Tie as tie
 
 element-copy-out-wide : tie.Need-element-copy-out-wide
 element-copy-out-wide c = omega (arith, c .pre .0 .0 .ends (c .args .node) (c .pre .0 .1), c .pre .1 .1 .high)
 
-undisturbed-part-requires : tie.Need-undisturbed-part-requires
-undisturbed-part-requires c κs =
+passing-part-requires : tie.Need-passing-part-requires
+passing-part-requires c κs =
     let s = c .before .before .before .before .before .before in
     let j = s .pre .1 .1 in
     let d = kid-below (s .pre .0) j (c .before .before .before .before .wide .ensures) in (
@@ -17,8 +17,8 @@ undisturbed-part-requires c κs =
       omega (arith, s .pre .0 .0 .small, s .pre .1 .0, d),
     )
 
-undisturbed-part-requires-2 : tie.Need-undisturbed-part-requires-2
-undisturbed-part-requires-2 c κs =
+passing-part-requires-2 : tie.Need-passing-part-requires-2
+passing-part-requires-2 c κs =
     let s = c .before .before .before .before .before .before .before in
     let j = s .pre .1 .1 in
     let d = kid-below (s .pre .0) j (c .before .before .before .before .before .wide .ensures) in (
@@ -31,12 +31,12 @@ returns c =
     let s = c .before .before .before .before .before .before .before .before in
     let j = s .pre .1 .1 in
     let e = c .before .before .before .before .before .before .wide .ensures in
-    let later = rw (c .before .before .before .before .wide2 .ensures, e) at (c .before .undisturbed-part .ensures) in
-    let earlier = rw (c .before .before .wide3 .ensures, e) at (c .undisturbed-part2 .ensures) in
-    λ p g hc hd. undisturbed-all g hc hd _ (parts (omega (arith, j .low)) (omega (arith, j .high)) later earlier)
+    let later = rw (c .before .before .before .before .wide2 .ensures, e) at (c .before .passing-part .ensures) in
+    let earlier = rw (c .before .before .wide3 .ensures, e) at (c .passing-part2 .ensures) in
+    passing-says (s .args .always) (parts (omega (arith, j .low)) (omega (arith, j .high)) later earlier)
 
-pub undisturbed-spec : {M : Type 1} → statement M
-undisturbed-spec =
+pub passing-spec : {M : Type 1} → statement M
+passing-spec =
     tie.close
     (tie.spec
     element-copy-out-wide
@@ -47,7 +47,7 @@ undisturbed-spec =
     (λ c. omega arith)
     (λ c κs. omega arith)
     (λ c. omega arith)
-    undisturbed-part-requires
+    passing-part-requires
     (λ c. omega arith)
-    undisturbed-part-requires-2
+    passing-part-requires-2
     returns)

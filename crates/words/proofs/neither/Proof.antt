@@ -1,7 +1,7 @@
 -- `neither` meets its contract. Assumes nothing.
 use borrow.Author.Needs.{needs}
-use Rattle.mustpairs.proofs.neither.Statement.{statement}
-use Rattle.mustpairs.proofs.neither.Tie as tie
+use Rattle.words.proofs.neither.Statement.{statement}
+use Rattle.words.proofs.neither.Tie as tie
 
 returns : tie.Need-returns
 returns c = rw (c .before .word-at .ensures, c .word-at2 .ensures)
