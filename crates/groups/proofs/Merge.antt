@@ -12,7 +12,8 @@ use Rattle.bits.proofs.Says.{says-map, says-and, says-all}
 use Rattle.runs.specs.Plan.{all-of, any-of, Plan}
 use Rattle.words.specs.Tables.{Position}
 use Rattle.words.specs.Columns.{Column, indexOf, Fact, wordAt, Right, Row}
-use Rattle.groups.specs.Groups.{Group, Others, WithinRow, Merged, Unmerged, Joined}
+use Rattle.siblings.specs.Group.{Group}
+use Rattle.groups.specs.Groups.{Others, WithinRow, Merged, Unmerged, Joined}
 use Rattle.groups.proofs.Any.{some-branch, every-branch}
 use Rattle.groups.proofs.All.{every-part, some-part}
 use Rattle.words.proofs.Rows.{index-small}

@@ -14,7 +14,7 @@ use Rattle.words.specs.Tables.{kindCode, RepresentsKinds, RepresentsConditions,
 use Rattle.words.specs.Columns.{indexOf, Right, Row, Written}
 use Rattle.words.specs.Segments.{Every}
 use Rattle.words.specs.Tasks.{Task}
-use Rattle.groups.specs.Groups.{Group}
+use Rattle.siblings.specs.Group.{Group}
 use Rattle.words.proofs.Rows.{index-small, written-right, written-keeps}
 use Rattle.words.proofs.Segments.{listed, every-next, every-child}
 use Rattle.passing.specs.Passing.{Pairing}

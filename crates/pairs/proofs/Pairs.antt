@@ -15,8 +15,8 @@ use Rattle.words.specs.Tables.{signNum, code}
 use Rattle.words.specs.Columns.{Column, may-pre, may-post, requires, asserts, indexOf, Fact, wordAt, Right}
 use Rattle.words.proofs.Signs.{opposite}
 use Rattle.words.proofs.Rows.{read}
-use Rattle.groups.specs.Siblings.{Apart}
-use Rattle.groups.proofs.Sibling.{apart-is}
+use Rattle.siblings.specs.Siblings.{Apart}
+use Rattle.siblings.proofs.Sibling.{apart-is}
 use Rattle.passing.specs.Passing.{Between, PassingWord, Pairing, SomePair}
 use Rattle.pairs.specs.declared.Literals.{Literals}
 use Rattle.pairs.specs.Pairs.{Pair, PairWord, wordOf, PairWords}

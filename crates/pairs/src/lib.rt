@@ -3,8 +3,8 @@ ghost use Prim.Native.Nat.{_+_, _≤_, _<_};
 ghost use lib.ListN.{getD};
 ghost use Rattle.words.specs.Tables.{Position, Shaped};
 ghost use Rattle.pairs.specs.Pairs.{PairWord, PairWords, FirstPartner, Search, AllPairs};
-use groups::apart;
 use passing::passing;
+use siblings::apart;
 use words::wide;
 use words::word_at;
 

@@ -14,8 +14,8 @@ use Rattle.words.specs.Tables.{Position, Shaped}
 use Rattle.words.specs.Columns.{avoid}
 use Rattle.words.proofs.Rows.{cell}
 use Rattle.words.proofs.Segments.{listed, every-next, every-child, joined}
-use Rattle.groups.specs.Siblings.{Narrows}
-use Rattle.groups.proofs.Sibling.{silent-cell}
+use Rattle.siblings.specs.Siblings.{Narrows}
+use Rattle.siblings.proofs.Sibling.{silent-cell}
 use Rattle.passing.specs.Passing.{Passes, Counts, LetsPass, Part, PartWord, PassingPart, Pairing, PassingWord}
 
 -- the part from low to high of a segment

@@ -11,7 +11,7 @@ use Rattle.runs.specs.Summary.{Silent}
 use Rattle.words.specs.Tables.{code, RepresentsOrder}
 use Rattle.words.specs.Columns.{avoid, Fact, wordAt}
 use Rattle.words.specs.Segments.{Every}
-use Rattle.groups.specs.Groups.{Group}
+use Rattle.siblings.specs.Group.{Group}
 
 module _ (p : Plan) (n f : ℕ) where
   -- each child that stands between d and c can avoid the flag

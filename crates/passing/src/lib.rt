@@ -7,7 +7,7 @@ ghost use lib.ListN.{getD};
 ghost use Rattle.bits.specs.Bits.{bit};
 ghost use Rattle.words.specs.Tables.{Position, Shaped};
 ghost use Rattle.passing.specs.Passing.{StandsBetween, Disturbs, Counts, LetsPass, Part, PassingPart, PassingWord};
-use groups::narrowed;
+use siblings::narrowed;
 use words::neither;
 use words::wide;
 use words::word_at;

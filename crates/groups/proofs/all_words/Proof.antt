@@ -5,8 +5,8 @@ use Rattle.runs.specs.Plan.{Plan}
 use Rattle.words.specs.Tables.{RepresentsOrder}
 use Rattle.words.proofs.Segments.{listed}
 use Rattle.words.proofs.Turns.{Turn, first-turn, position-small, kid-below, kid-small, position, next-turn, last-turn}
-use Rattle.groups.specs.Groups.{Group}
-use Rattle.groups.proofs.Sibling.{masked}
+use Rattle.siblings.specs.Group.{Group}
+use Rattle.groups.proofs.Masks.{masked}
 use Rattle.groups.proofs.Merge.{AllWords, joined-none, joined-more, child-row, all-row}
 use native.Mathlib.Omega.{arith}
 use Rattle.groups.proofs.all_words.Statement.{statement}

@@ -2,7 +2,7 @@
 use Prim.Native.Nat.{_-_}
 use Rattle.runs.specs.Plan.{Plan}
 use Rattle.words.proofs.Turns.{Turn, first-turn, position-small, kid-small, position, next-turn, last-turn}
-use Rattle.groups.specs.Groups.{Group}
+use Rattle.siblings.specs.Group.{Group}
 use Rattle.groups.proofs.Merge.{AnyWords, joined-none, joined-more, unmasked, child-row, any-row}
 use native.Mathlib.Omega.{arith}
 use Rattle.groups.proofs.any_words.Statement.{statement}

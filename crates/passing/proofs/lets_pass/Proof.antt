@@ -1,5 +1,5 @@
 -- `lets_pass` meets its contract. Assumes nothing.
-use Rattle.groups.proofs.Sibling.{neither}
+use Rattle.siblings.proofs.Sibling.{neither}
 use borrow.Author.Needs.{needs}
 use Rattle.passing.proofs.lets_pass.Statement.{statement}
 use Rattle.passing.proofs.lets_pass.Tie as tie

@@ -1,7 +1,7 @@
 -- `passing_part` meets its contract. Assumes nothing.
 use Prim.Native.Nat.{_≤_, _-_}
 use mathlib.Core.Path.{_≡_}
-use Rattle.groups.proofs.Sibling.{implied}
+use Rattle.siblings.proofs.Sibling.{implied}
 use Rattle.passing.specs.Passing.{PassingPart}
 use Rattle.passing.proofs.Laws.{part-none, part-more, part-empty}
 use native.Mathlib.Omega.{arith}

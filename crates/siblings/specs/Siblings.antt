@@ -5,15 +5,13 @@ use mathlib.Core.Bool.{true, false}
 use mathlib.Core.List.{List}
 use Prim.Native.Nat.{ℕ, _<_}
 use lib.Dec.{T}
-use lib.ListN.{getD}
-use Rattle.bits.specs.Bits.{bit, ones, Says}
+use Rattle.bits.specs.Bits.{bit, Says}
 use Rattle.runs.specs.Plan.{Plan, Child, Before, Unordered}
 use Rattle.runs.specs.Summary.{Silent}
-use Rattle.groups.specs.declared.Siblings.{Siblings}
+use Rattle.siblings.specs.declared.Siblings.{Siblings}
 use Rattle.words.specs.Tables.{code, RepresentsOrder}
-use Rattle.words.specs.Columns.{Column, avoid, quiet, covered, may-pre, may-post, may-inc, requires, asserts, may-clobber, must-inc, must-clobber}
-use Rattle.words.specs.Columns.{indexOf, Fact, wordAt}
-use Rattle.groups.specs.Groups.{Group}
+use Rattle.words.specs.Columns.{avoid, quiet, Fact, wordAt}
+use Rattle.siblings.specs.Group.{Group}
 
 -- by the table, a and b are unordered
 pub record Apart (order : List ℕ) (a b : ℕ) : Type 0 where
@@ -47,21 +45,3 @@ pub record SiblingWords (p : Plan) (c : ℕ) (E : (ℕ → Type 0) → Type 0) (
 abbrev pub SiblingsOf : List ℕ → List ℕ → List ℕ → List ℕ → ℕ → ℕ → ℕ → Siblings → Type 0
 SiblingsOf from kids order rows size n c s = (p : Plan) → Group from kids rows size n p → RepresentsOrder order p → Child p n c
     → SiblingWords p c (λ Q. (b : ℕ) → Child p n b → Q b) s
-
--- the word that a child's word of a column is masked by
-abbrev pub maskOf : Siblings → Column → ℕ
-maskOf s avoid = ones
-maskOf s (quiet v) = ones
-maskOf s (covered false) = s .«clear_before»
-maskOf s (covered true) = s .«set_before»
-maskOf s (may-pre v) = s .«avoid_before»
-maskOf s (may-post v) = s .«avoid_after»
-maskOf s (may-inc v) = ones
-maskOf s (requires v) = ones
-maskOf s (asserts v) = ones
-maskOf s (may-clobber v) = ones
-maskOf s (must-inc v) = ones
-maskOf s (must-clobber v) = s .«silent_apart»
-
-pub record Masks (s : Siblings) (r : List ℕ) : Type 0 where
-  pub is : (k : Column) → getD r (indexOf k) 0 ≡ maskOf s k

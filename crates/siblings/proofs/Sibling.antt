@@ -1,8 +1,9 @@
 -- One sibling more, and what the words come to over all siblings. Assumes nothing.
 use mathlib.Core.Path.{_≡_, refl}
 use mathlib.Core.Logic.{_≢_, _⊎_, inl, inr, _↔_}
-use mathlib.Core.Bool.{true, false, not}
-use mathlib.Core.List.{List, [], _∷_}
+use mathlib.Core.Bool.{Bool, true, false, not}
+use mathlib.Core.Option.{Option, none, some}
+use mathlib.Core.List.{List}
 use Prim.Native.Nat.{ℕ, _+_, _≤_, _<_}
 use native.Mathlib.Omega.{arith}
 use lib.Bits.{bitAnd, bitOr, bitXor}
@@ -10,17 +11,17 @@ use lib.Dec.{T, eqb}
 use lib.ListN.{getD}
 use Rattle.bits.specs.Bits.{bit, ones, Says}
 use Rattle.bits.proofs.Tests.{unequal}
-use Rattle.bits.proofs.Says.{says-map, says-eq, says-self, says-and, says-neither, says-all}
-use Rattle.runs.specs.Plan.{Plan, Child, Before, Unordered}
-use Rattle.runs.specs.Summary.{Silent}
-use Rattle.groups.specs.declared.Siblings.{Siblings}
+use Rattle.bits.proofs.Says.{says-map, says-eq, says-self, says-and, says-neither}
+use Rattle.runs.specs.Plan.{task, inc, post, Plan, Child, Before, Under, Unordered}
+use Rattle.runs.specs.Execution.{Event, start, finish, nodeOf, asserts as signOf}
+use Rattle.runs.specs.Summary.{TaskWith, Silent}
+use Rattle.runs.proofs.Reflect.{clash}
+use Rattle.siblings.specs.declared.Siblings.{Siblings}
 use Rattle.words.specs.Tables.{code, RepresentsOrder}
-use Rattle.words.specs.Columns.{Column, avoid, quiet, covered, may-pre, may-post, may-inc, requires, asserts, may-clobber, must-inc, must-clobber}
-use Rattle.words.specs.Columns.{indexOf, Fact, wordAt, Right}
+use Rattle.words.specs.Columns.{avoid, quiet, asserts, Fact, wordAt, Right}
 use Rattle.words.specs.Segments.{Every}
-use Rattle.groups.specs.Groups.{Group, Others}
-use Rattle.groups.specs.Siblings.{Apart, Narrows, Limits, SiblingWords, maskOf, Masks}
-use Rattle.groups.proofs.All.{silent-is}
+use Rattle.siblings.specs.Group.{Group}
+use Rattle.siblings.specs.Siblings.{Apart, Narrows, Limits, SiblingWords}
 use Rattle.words.proofs.Rows.{cell}
 use Rattle.words.proofs.Segments.{every-next, every-none, every-child}
 
@@ -52,6 +53,31 @@ module _ {order : List ℕ} {p : Plan} (o : RepresentsOrder order p) {n a b : �
     λ x. record { distinct = x .distinct; not-before = λ q. x .not-before (e .1 q); not-after = λ q. x .not-after (g .1 q) },
     λ x. record { distinct = x .distinct; not-before = λ q. x .not-before (e .0 q); not-after = λ q. x .not-after (g .0 q) },
   )
+
+-- no task under b asserts the flag: none has either literal as in- or postcondition
+pub silent-is : (p : Plan) (f b : ℕ) → (¬ (TaskWith p inc post f false b ⊎ TaskWith p inc post f true b)) ↔ Silent p f b
+silent-is p f b = (λ k e t u. quiet k e t u (signOf p e f) refl, λ s x. loud s x)
+  where
+    with-sign : (v : Bool) → TaskWith p inc post f v b → TaskWith p inc post f false b ⊎ TaskWith p inc post f true b
+    with-sign true x = inr x
+    with-sign false x = inl x
+
+    task-with : (v : Bool) (e : Event) → p .tree .kind (nodeOf e) ≡ task → Under p b (nodeOf e) → signOf p e f ≡ some v → TaskWith p inc post f v b
+    task-with v (start t) k u q = record { who = t; is-task = k; beneath = u; has = inl q }
+    task-with v (finish t) k u q = record { who = t; is-task = k; beneath = u; has = inr q }
+
+    quiet : (¬ (TaskWith p inc post f false b ⊎ TaskWith p inc post f true b)) → (e : Event) → p .tree .kind (nodeOf e) ≡ task → Under p b (nodeOf e)
+        → (o : Option Bool) → signOf p e f ≡ o → signOf p e f ≡ none
+    quiet k e t u none q = q
+    quiet k e t u (some v) q = absurd (k (with-sign v (task-with v e t u q)))
+
+    heard : (v : Bool) → Silent p f b → (x : TaskWith p inc post f v b) → (p .cond .sign inc (x .who) f ≡ some v) ⊎ (p .cond .sign post (x .who) f ≡ some v) → ⊥
+    heard v s x (inl q) = let y = s (start (x .who)) (x .is-task) (x .beneath) in clash cc
+    heard v s x (inr q) = let y = s (finish (x .who)) (x .is-task) (x .beneath) in clash cc
+
+    loud : Silent p f b → TaskWith p inc post f false b ⊎ TaskWith p inc post f true b → ⊥
+    loud s (inl x) = heard false s x (x .has)
+    loud s (inr x) = heard true s x (x .has)
 
 -- a node under which no task asserts the flag, by the words of its row
 pub silent-cell : {p : Plan} {rows : List ℕ} {b f : ℕ} → Right p rows b → f < 64 → (¬ (T (bit (wordAt rows b 13) f) ⊎ T (bit (wordAt rows b 14) f))) ↔ Silent p f b
@@ -118,48 +144,3 @@ module _ {from kids order rows : List ℕ} {size n c : ℕ} {p : Plan} (g : Grou
     where
       same : {Q : ℕ → Type 0} → Every kids (getD from n 0) (getD from (n + 1) 0) Q ↔ ((b : ℕ) → Child p n b → Q b)
       same = every-child (g .tree) (g .node) (λ b hb. (λ x. x, λ x. x))
-
--- what a child's columns are masked by
-pub masked : {p : Plan} {n c : ℕ} {s : Siblings} → SiblingWords p c (λ Q. (b : ℕ) → Child p n b → Q b) s
-    → (k : Column) (f : ℕ) → f < 64 → Says (maskOf s k) f (Others p n c f k)
-masked h avoid f l = says-all l refl tt
-masked h (quiet v) f l = says-all l refl tt
-masked h (covered false) f l = h .clear-before f l
-masked h (covered true) f l = h .set-before f l
-masked h (may-pre v) f l = h .avoid-before f l
-masked h (may-post v) f l = h .avoid-after f l
-masked h (may-inc v) f l = says-all l refl tt
-masked h (requires v) f l = says-all l refl tt
-masked h (asserts v) f l = says-all l refl tt
-masked h (may-clobber v) f l = says-all l refl tt
-masked h (must-inc v) f l = says-all l refl tt
-masked h (must-clobber v) f l = h .silent-apart f l
-
-pub mask-is : (s : Siblings) → Masks s (ones ∷ ones ∷ ones ∷ s .«clear_before» ∷ s .«set_before» ∷ s .«avoid_before» ∷ s .«avoid_before»
-    ∷ s .«avoid_after» ∷ s .«avoid_after» ∷ ones ∷ ones ∷ ones ∷ ones ∷ ones ∷ ones ∷ ones ∷ ones ∷ ones ∷ ones ∷ s .«silent_apart» ∷ s .«silent_apart» ∷ [])
-mask-is s = record { is = at }
-  where
-    at : (k : Column) → getD (ones ∷ ones ∷ ones ∷ s .«clear_before» ∷ s .«set_before» ∷ s .«avoid_before» ∷ s .«avoid_before»
-        ∷ s .«avoid_after» ∷ s .«avoid_after» ∷ ones ∷ ones ∷ ones ∷ ones ∷ ones ∷ ones ∷ ones ∷ ones ∷ ones ∷ ones ∷ s .«silent_apart» ∷ s .«silent_apart» ∷ [])
-        (indexOf k) 0 ≡ maskOf s k
-    at avoid = refl
-    at (quiet false) = refl
-    at (quiet true) = refl
-    at (covered false) = refl
-    at (covered true) = refl
-    at (may-pre false) = refl
-    at (may-pre true) = refl
-    at (may-post false) = refl
-    at (may-post true) = refl
-    at (may-inc false) = refl
-    at (may-inc true) = refl
-    at (requires false) = refl
-    at (requires true) = refl
-    at (asserts false) = refl
-    at (asserts true) = refl
-    at (may-clobber false) = refl
-    at (may-clobber true) = refl
-    at (must-inc false) = refl
-    at (must-inc true) = refl
-    at (must-clobber false) = refl
-    at (must-clobber true) = refl

@@ -1,9 +1,9 @@
 -- `with_sibling` meets its contract: each word is narrowed by the sibling. Assumes nothing.
 use Rattle.bits.proofs.Tests.{equal}
-use Rattle.groups.proofs.Sibling.{narrows-map, neither}
+use Rattle.siblings.proofs.Sibling.{narrows-map, neither}
 use borrow.Author.Needs.{needs}
-use Rattle.groups.proofs.with_sibling.Statement.{statement}
-use Rattle.groups.proofs.with_sibling.Tie as tie
+use Rattle.siblings.proofs.with_sibling.Statement.{statement}
+use Rattle.siblings.proofs.with_sibling.Tie as tie
 
 returns : tie.Need-returns
 returns c =

@@ -7,12 +7,12 @@ use Rattle.words.specs.Tables.{RepresentsOrder}
 use Rattle.words.specs.Segments.{Every}
 use Rattle.words.proofs.Segments.{listed}
 use Rattle.words.proofs.Turns.{Turn, first-turn, position-small, kid-small, position, next-turn, last-turn}
-use Rattle.groups.specs.Groups.{Group}
-use Rattle.groups.specs.Siblings.{SiblingWords}
-use Rattle.groups.proofs.Sibling.{with-sibling, no-siblings, all-siblings}
+use Rattle.siblings.specs.Group.{Group}
+use Rattle.siblings.specs.Siblings.{SiblingWords}
+use Rattle.siblings.proofs.Sibling.{with-sibling, no-siblings, all-siblings}
 use native.Mathlib.Omega.{arith}
-use Rattle.groups.proofs.all_siblings.Statement.{statement}
-use Rattle.groups.proofs.all_siblings.Tie as tie
+use Rattle.siblings.proofs.all_siblings.Statement.{statement}
+use Rattle.siblings.proofs.all_siblings.Tie as tie
 
 abbrev Inv-loop : tie.InvT-loop
 Inv-loop from kids order rows n node child s₀ end i₀ s i =

@@ -1,8 +1,8 @@
 -- `apart` meets its contract. Assumes nothing.
-use Rattle.groups.proofs.Sibling.{apart-test}
+use Rattle.siblings.proofs.Sibling.{apart-test}
 use borrow.Author.Needs.{needs}
-use Rattle.groups.proofs.apart.Statement.{statement}
-use Rattle.groups.proofs.apart.Tie as tie
+use Rattle.siblings.proofs.apart.Statement.{statement}
+use Rattle.siblings.proofs.apart.Tie as tie
 
 returns-3 : tie.Need-returns-3
 returns-3 c = apart-test _ _ (c .before .if1 .left) (c .if2 .left)

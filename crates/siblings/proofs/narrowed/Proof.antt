@@ -1,8 +1,8 @@
 -- `narrowed` meets its contract. Assumes nothing.
 use mathlib.Core.Path.{refl}
-use Rattle.groups.proofs.Sibling.{narrows-kept, narrows-taken}
-use Rattle.groups.proofs.narrowed.Statement.{statement}
-use Rattle.groups.proofs.narrowed.Tie as tie
+use Rattle.siblings.proofs.Sibling.{narrows-kept, narrows-taken}
+use Rattle.siblings.proofs.narrowed.Statement.{statement}
+use Rattle.siblings.proofs.narrowed.Tie as tie
 
 returns : tie.Need-returns
 returns c = narrows-taken _ (rw (c .if1 .taken) tt) refl
