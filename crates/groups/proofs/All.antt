@@ -1,13 +1,9 @@
 -- The facts of an all-of group by those of its children. Assumes nothing.
-use mathlib.Core.Path.{_≡_, refl}
-use mathlib.Core.Logic.{_≢_, _⊎_, inl, inr, _↔_}
-use mathlib.Core.Bool.{Bool, true, false}
-use mathlib.Core.Option.{Option, none, some}
+use mathlib.Core.Path.{_≡_}
+use mathlib.Core.Logic.{_≢_, _↔_}
 use Prim.Native.Nat.{ℕ, _<_, _≤_}
 use native.Mathlib.Omega.{arith}
-use Rattle.runs.specs.Plan.{task, all-of, pre, inc, post, Plan, Node, Child, Under, WellFormed}
-use Rattle.runs.specs.Execution.{Event, start, finish, nodeOf, asserts as signOf}
-use Rattle.runs.specs.Summary.{TaskWith, Silent}
+use Rattle.runs.specs.Plan.{task, all-of, pre, inc, post, Plan, Node, Child, WellFormed}
 use Rattle.runs.proofs.Reflect.{clash}
 use Rattle.runs.proofs.Plan.Chains.{before-child}
 use Rattle.runs.specs.Classes.{Neutral, Covers}
@@ -62,28 +58,3 @@ module _ (p : Plan) (w : WellFormed p) {n : ℕ} (l : Node p n) (k : p .tree .ki
   some-part (may-clobber v) s = (λ x. (x .0, x .1, (x .2, tt)), λ x. (x .0, x .1, x .2 .0))
   some-part (must-inc v) s = alone (must-inc-all p w f v k)
   some-part (must-clobber v) s = (λ x. x, λ x. x)
-
--- no task under b asserts the flag: none has either literal as in- or postcondition
-pub silent-is : (p : Plan) (f b : ℕ) → (¬ (TaskWith p inc post f false b ⊎ TaskWith p inc post f true b)) ↔ Silent p f b
-silent-is p f b = (λ k e t u. quiet k e t u (signOf p e f) refl, λ s x. loud s x)
-  where
-    with-sign : (v : Bool) → TaskWith p inc post f v b → TaskWith p inc post f false b ⊎ TaskWith p inc post f true b
-    with-sign true x = inr x
-    with-sign false x = inl x
-
-    task-with : (v : Bool) (e : Event) → p .tree .kind (nodeOf e) ≡ task → Under p b (nodeOf e) → signOf p e f ≡ some v → TaskWith p inc post f v b
-    task-with v (start t) k u q = record { who = t; is-task = k; beneath = u; has = inl q }
-    task-with v (finish t) k u q = record { who = t; is-task = k; beneath = u; has = inr q }
-
-    quiet : (¬ (TaskWith p inc post f false b ⊎ TaskWith p inc post f true b)) → (e : Event) → p .tree .kind (nodeOf e) ≡ task → Under p b (nodeOf e)
-        → (o : Option Bool) → signOf p e f ≡ o → signOf p e f ≡ none
-    quiet k e t u none q = q
-    quiet k e t u (some v) q = absurd (k (with-sign v (task-with v e t u q)))
-
-    heard : (v : Bool) → Silent p f b → (x : TaskWith p inc post f v b) → (p .cond .sign inc (x .who) f ≡ some v) ⊎ (p .cond .sign post (x .who) f ≡ some v) → ⊥
-    heard v s x (inl q) = let y = s (start (x .who)) (x .is-task) (x .beneath) in clash cc
-    heard v s x (inr q) = let y = s (finish (x .who)) (x .is-task) (x .beneath) in clash cc
-
-    loud : Silent p f b → TaskWith p inc post f false b ⊎ TaskWith p inc post f true b → ⊥
-    loud s (inl x) = heard false s x (x .has)
-    loud s (inr x) = heard true s x (x .has)

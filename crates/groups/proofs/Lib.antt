@@ -1,5 +1,5 @@
 -- Laws of the words of a group.
 pub mod Any
 pub mod All
-pub mod Sibling
+pub mod Masks
 pub mod Merge

@@ -10,8 +10,10 @@ use lib.Seq.{getD-set-same, getD-set-other}
 use Rattle.bits.specs.Bits.{ones, Says}
 use Rattle.bits.proofs.Says.{says-map, says-and, says-all}
 use Rattle.runs.specs.Plan.{all-of, any-of, Plan}
+use Rattle.words.specs.Tables.{Position}
 use Rattle.words.specs.Columns.{Column, indexOf, Fact, wordAt, Right, Row}
-use Rattle.groups.specs.Groups.{Group, Others, WithinRow, Merged, Unmerged, Joined}
+use Rattle.siblings.specs.Group.{Group}
+use Rattle.groups.specs.Groups.{Others, WithinRow, Merged, Unmerged, Joined}
 use Rattle.groups.proofs.Any.{some-branch, every-branch}
 use Rattle.groups.proofs.All.{every-part, some-part}
 use Rattle.words.proofs.Rows.{index-small}
@@ -62,13 +64,13 @@ module _ {first last : ℕ} {kids : List ℕ} {lo : ℕ} {P M : Column → ℕ �
     some = λ k x f l. some-none (omega arith) (u .some (indexOf k) (index-small k) x);
   }
 
-  pub joined-more : {a rows mask r : List ℕ} {i : ℕ} → lo ≤ i → Merged first last a rows (getD kids i 0) mask r
-      → ((k : Column) (f : ℕ) → f < 64 → Says (wordAt rows (getD kids i 0) (indexOf k)) f (P k f (getD kids i 0)))
-      → ((k : Column) (f : ℕ) → f < 64 → Says (getD mask (indexOf k) 0) f (M k f (getD kids i 0)))
+  pub joined-more : {a rows mask r : List ℕ} {i c : ℕ} → c ≡ getD kids i 0 → lo ≤ i → Merged first last a rows c mask r
+      → ((k : Column) (f : ℕ) → f < 64 → Says (wordAt rows c (indexOf k)) f (P k f c))
+      → ((k : Column) (f : ℕ) → f < 64 → Says (getD mask (indexOf k) 0) f (M k f c))
       → Joined first last kids lo i P M a → Joined first last kids lo (i + 1) P M r
-  joined-more l m rp rm j = record {
-    every = λ k a b f s. every-more l ((m .words (indexOf k) (index-small k)) .every a b) (j .every k a b f s) (rp k f s);
-    some = λ k x f s. some-more l ((m .words (indexOf k) (index-small k)) .some x) (j .some k x f s) (says-and refl (rp k f s) (rm k f s));
+  joined-more e l m rp rm j = let here = rw e at m in record {
+    every = λ k a b f s. every-more l ((here .words (indexOf k) (index-small k)) .every a b) (j .every k a b f s) (rw e at (rp k f s));
+    some = λ k x f s. some-more l ((here .words (indexOf k) (index-small k)) .some x) (j .some k x f s) (says-and refl (rw e at (rp k f s)) (rw e at (rm k f s)));
   }
 
 -- a mask of ones
@@ -77,8 +79,8 @@ unmasked u k f l = says-all l (u .every (indexOf k) (index-small k) (omega arith
 
 module _ {from kids rows : List ℕ} {size n : ℕ} {p : Plan} (g : Group from kids rows size n p) where
   -- the row of a child at a position of the segment
-  pub child-row : (i : ℕ) → getD from n 0 ≤ i → i < getD from (n + 1) 0 → Right p rows (getD kids i 0)
-  child-row i a b = g .children (getD kids i 0) (listed (g .tree) (g .node) i a b)
+  pub child-row : {i c : ℕ} → c ≡ getD kids i 0 → Position from n i → Right p rows c
+  child-row {c = c} e at = g .children c (listed (g .tree) (g .node) e at)
 
   -- the words of an any-of group, over all its children
   abbrev pub AnyWords : ℕ → List ℕ → Type 0

@@ -6,12 +6,13 @@ use Prim.Native.Nat.{ℕ, _≤_, _<_}
 use lib.Bits.{bitAnd, bitOr}
 use lib.ListN.{getD}
 use Rattle.bits.specs.Bits.{ones, Says}
-use Rattle.runs.specs.Plan.{all-of, any-of, Plan, Node, Child, Before, Unordered, WellFormed}
+use Rattle.runs.specs.Plan.{all-of, any-of, Plan, Child, Before, Unordered}
 use Rattle.runs.specs.Summary.{MayClobber, Silent, MustClobber}
-use Rattle.words.specs.Tables.{RepresentsTree, RepresentsOrder}
+use Rattle.words.specs.Tables.{RepresentsOrder}
 use Rattle.words.specs.Columns.{Column, avoid, quiet, covered, may-pre, may-post, may-inc, requires, asserts, may-clobber, must-inc, must-clobber}
-use Rattle.words.specs.Columns.{indexOf, Fact, wordAt, Right, Row}
+use Rattle.words.specs.Columns.{indexOf, Fact, wordAt, Row}
 use Rattle.words.specs.Segments.{Every, Some}
+use Rattle.siblings.specs.Group.{Group}
 
 module _ (p : Plan) (n c f : ℕ) where
   -- what the siblings of the child c of the all-of group n must allow, so that a fact of c is one of n
@@ -41,17 +42,6 @@ Within p n f (asserts v) = Fact p n f (asserts v)
 Within p n f (may-clobber v) = (c : ℕ) × Child p n c × MayClobber p f v c
 Within p n f (must-inc v) = Fact p n f (must-inc v)
 Within p n f (must-clobber v) = (c : ℕ) × Child p n c × (MustClobber p f v c × Others p n c f (must-clobber v))
-
--- the rows of the children of n are right
-abbrev pub ChildrenRight : Plan → List ℕ → ℕ → Type 0
-ChildrenRight p rows n = (c : ℕ) → Child p n c → Right p rows c
-
--- what is known of a group whose words are worked out from the rows of its children
-pub record Group (from kids rows : List ℕ) (size n : ℕ) (p : Plan) : Type 0 where
-  pub well-formed : WellFormed p
-  pub tree : RepresentsTree from kids size p
-  pub node : Node p n
-  pub children : ChildrenRight p rows n
 
 -- 21 words say what the all-of group n shows by its children one by one
 pub record WithinRow (p : Plan) (n : ℕ) (w : List ℕ) : Type 0 where

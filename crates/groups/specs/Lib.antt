@@ -1,3 +1,3 @@
 -- The words of a group, from the rows of its children.
 pub mod Groups
-pub mod Siblings
+pub mod Masks

@@ -3,8 +3,8 @@ ghost use mathlib.Core.Path.{_≡_};
 ghost use Prim.Native.Nat.{_<_};
 ghost use lib.ListN.{getD};
 ghost use Rattle.literals.specs.Words.{firstWords, WordIs, WordsAre, FailsWord};
-use mustpairs::must_post;
-use mustpairs::must_pre;
+use words::must_post;
+use words::must_pre;
 use words::word_at;
 
 // The marks that are worked out from two columns.

@@ -17,8 +17,10 @@ use Rattle.words.specs.Columns.{indexOf, Fact, Row}
 use Rattle.groups.specs.Groups.{Within, WithinRow}
 use Rattle.words.proofs.Rows.{index-small}
 use Rattle.pairs.specs.declared.Literals.{Literals}
-use Rattle.pairs.specs.Pairs.{Pair, MustPair, SomePair, wordOf}
-use Rattle.pairs.proofs.Laws.{by-pairs}
+use Rattle.passing.specs.Passing.{SomePair}
+use Rattle.pairs.specs.Pairs.{Pair, wordOf}
+use Rattle.pairs.proofs.Pairs.{by-pairs}
+use Rattle.mustpairs.specs.MustPairs.{MustPair}
 use Rattle.marks.specs.Clobbers.{Extra, clobberOf, ClobberWords, Ored}
 
 -- nothing is added
@@ -33,7 +35,7 @@ module _ (p : Plan) (w : WellFormed p) {n : ℕ} (kn : p .tree .kind n ≡ all-o
   may : (v : Bool) → Dec (Within p n f (may-clobber v)) → (Within p n f (may-clobber v) ⊎ Extra p n f (may-clobber v)) ↔ Fact p n f (may-clobber v)
   may v d = let e = Iff·trans (clobber-all p w kn f v) (by-pairs p n f v) in (λ x. e .1 (⊎-elim inl (λ y. inr (y .1)) x), λ x. at d (e .0 x))
     where
-      at : Dec (Within p n f (may-clobber v)) → Within p n f (may-clobber v) ⊎ SomePair p n f v (Pair p n f v)
+      at : Dec (Within p n f (may-clobber v)) → Within p n f (may-clobber v) ⊎ SomePair p n (Pair p n f v)
           → Within p n f (may-clobber v) ⊎ Extra p n f (may-clobber v)
       at (yes y) x = inl y
       at (no k) (inl y) = inl y
@@ -62,9 +64,9 @@ module _ (p : Plan) (w : WellFormed p) {n : ℕ} (kn : p .tree .kind n ≡ all-o
 module _ {p : Plan} {n : ℕ} (w : WellFormed p) (kn : p .tree .kind n ≡ all-of) {words : List ℕ} (h : WithinRow p n words) {may must : Literals} where
   module _
       (a : (v : Bool) (f : ℕ) → f < 64 → Says (wordOf may v) f
-      (T (bit (wordOf (record { clear = bitXor (getD words 15 0) ones; set = bitXor (getD words 16 0) ones }) v) f) × SomePair p n f v (Pair p n f v)))
+      (T (bit (wordOf (record { clear = bitXor (getD words 15 0) ones; set = bitXor (getD words 16 0) ones }) v) f) × SomePair p n (Pair p n f v)))
       (b : (v : Bool) (f : ℕ) → f < 64 → Says (wordOf must v) f
-      (T (bit (wordOf (record { clear = getD words 19 0; set = getD words 20 0 }) v) f) ⊎ SomePair p n f v (MustPair p n f v))) where
+      (T (bit (wordOf (record { clear = getD words 19 0; set = getD words 20 0 }) v) f) ⊎ SomePair p n (MustPair p n f v))) where
     -- the literals that no child may clobber were wanted
     wanted : (v : Bool) (f : ℕ) → f < 64
         → T (bit (wordOf (record { clear = bitXor (getD words 15 0) ones; set = bitXor (getD words 16 0) ones }) v) f) ↔ (¬ Within p n f (may-clobber v))

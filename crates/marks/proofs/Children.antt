@@ -14,10 +14,10 @@ use Rattle.words.specs.Tables.{kindCode, RepresentsKinds, RepresentsConditions,
 use Rattle.words.specs.Columns.{indexOf, Right, Row, Written}
 use Rattle.words.specs.Segments.{Every}
 use Rattle.words.specs.Tasks.{Task}
-use Rattle.groups.specs.Groups.{Group}
+use Rattle.siblings.specs.Group.{Group}
 use Rattle.words.proofs.Rows.{index-small, written-right, written-keeps}
 use Rattle.words.proofs.Segments.{listed, every-next, every-child}
-use Rattle.pairs.specs.Pairs.{Pairing}
+use Rattle.passing.specs.Passing.{Pairing}
 use Rattle.marks.specs.Filled.{Given, Filled, TasksFilled, AllFilled}
 
 -- a kind by its code
@@ -48,7 +48,7 @@ module _ (kind from kids order : List ℕ) (n node : ℕ) where
 
   module _ {rows₀ rows : List ℕ} {i : ℕ} (low : getD from node 0 ≤ i) (high : i < getD from (node + 1) 0) (h : ChildrenTo rows₀ rows i) where
     child : (p : Plan) → Given kind from kids order rows₀ n node p → Child p node (getD kids i 0)
-    child p g = listed (g .tree) (g .is-node) i low high
+    child p g = listed (g .tree) (g .is-node) refl (record { low = low; high = high })
 
     given-child : (p : Plan) → Given kind from kids order rows₀ n node p → Given kind from kids order rows n (getD kids i 0) p
     given-child p g = record {

@@ -9,7 +9,9 @@ use Rattle.runs.specs.Plan.{all-of, Plan}
 use Rattle.words.specs.Columns.{Column, avoid, quiet, covered, may-pre, may-post, may-inc, requires, asserts, may-clobber, must-inc, must-clobber, indexOf, Row}
 use Rattle.groups.specs.Groups.{Within}
 use Rattle.pairs.specs.declared.Literals.{Literals}
-use Rattle.pairs.specs.Pairs.{Pair, MustPair, SomePair, OfPlans, wordOf}
+use Rattle.passing.specs.Passing.{SomePair, OfPlans}
+use Rattle.pairs.specs.Pairs.{Pair, wordOf}
+use Rattle.mustpairs.specs.MustPairs.{MustPair}
 
 -- for every plan that the tables represent: the row of the all-of group n
 abbrev pub AllOfRow : List ℕ → List ℕ → List ℕ → List ℕ → ℕ → ℕ → List ℕ → Type 0
@@ -25,9 +27,9 @@ Extra p n f (may-post v) = ⊥
 Extra p n f (may-inc v) = ⊥
 Extra p n f (requires v) = ⊥
 Extra p n f (asserts v) = ⊥
-Extra p n f (may-clobber v) = (¬ Within p n f (may-clobber v)) × SomePair p n f v (Pair p n f v)
+Extra p n f (may-clobber v) = (¬ Within p n f (may-clobber v)) × SomePair p n (Pair p n f v)
 Extra p n f (must-inc v) = ⊥
-Extra p n f (must-clobber v) = Within p n f (must-clobber v) ⊎ SomePair p n f v (MustPair p n f v)
+Extra p n f (must-clobber v) = Within p n f (must-clobber v) ⊎ SomePair p n (MustPair p n f v)
 
 -- the words of the two columns
 abbrev pub clobberOf : Literals → Literals → Column → ℕ

@@ -1,3 +1,2 @@
 -- The pairs of children of an all-of group that must clobber a literal.
-pub mod Disturbs
-pub mod Words
+pub mod MustPairs

@@ -1,129 +1,14 @@
 // Rule (b) of must clobber: the pairs of children of an all-of group that clobber a literal in every completed execution; for all flags at once.
-ghost use mathlib.Core.Path.{_≡_};
-ghost use mathlib.Core.Logic.{_↔_};
 ghost use Prim.Native.Nat.{_<_};
-ghost use lib.Bits.{bitOr, bitXor};
-ghost use lib.Dec.{T};
 ghost use lib.ListN.{getD};
-ghost use Rattle.bits.specs.Bits.{ones};
 ghost use Rattle.words.specs.Tables.{Position, Shaped};
-ghost use Rattle.words.specs.Columns.{wordAt};
-ghost use Rattle.pairs.specs.Pairs.{Part};
-ghost use Rattle.mustpairs.specs.Words.{MustPreWord, MustPostWord, UndisturbedPart, UndisturbedWord, MustPairWord, WithChildWord, MustPairsWord};
-ghost use Rattle.mustpairs.specs.Disturbs.{Disturbs};
-use groups::narrowed;
+ghost use Rattle.mustpairs.specs.MustPairs.{MustPairWord, WithChildWord, MustPairsWord};
+use passing::passing;
+use words::must_post;
+use words::must_pre;
 use words::wide;
-use words::word_at;
 
 const ALL: u64 = 18446744073709551615;
-
-// The first word of some columns; a column but the first has a word for each sign, clear and set.
-const AVOID: usize = 0;
-
-const QUIET: usize = 1;
-
-const COVERED: usize = 3;
-
-const MAY_POST: usize = 7;
-
-const ASSERTS: usize = 13;
-
-// The flags that a node has in neither of two columns.
-fn neither(rows: &[u64; 2688], node: usize, j: usize, k: usize) -> u64
-    requires { ⌜ (node < 128) × ((j < 21) × (k < 21)) ⌝ }
-    ensures { λ r. ⌜ r ≡ bitXor (bitOr (wordAt (now (rows .entry)) node j) (wordAt (now (rows .entry)) node k)) ones ⌝ }
-{
-    let x = word_at(rows, node, j);
-    let y = word_at(rows, node, k);
-    (x | y) ^ ALL
-}
-
-// The literals of one sign that are external preconditions in every completed execution: the node is neither quiet nor covered.
-pub fn must_pre(rows: &[u64; 2688], node: usize, sign: usize) -> u64
-    requires { ⌜ (node < 128) × (sign < 2) ⌝ }
-    ensures { λ r. ⌜ MustPreWord (now (rows .entry)) node sign r ⌝ }
-{
-    neither(rows, node, QUIET + sign, COVERED + sign)
-}
-
-// The literals of one sign that are external postconditions in every completed execution: none avoids the flag or asserts the opposite last.
-pub fn must_post(rows: &[u64; 2688], node: usize, sign: usize) -> u64
-    requires { ⌜ (node < 128) × (sign < 2) ⌝ }
-    ensures { λ r. ⌜ MustPostWord (now (rows .entry)) node sign r ⌝ }
-{
-    neither(rows, node, AVOID, MAY_POST + (1 - sign))
-}
-
-// b is neither c nor d, and stands neither before d nor after c.
-fn disturbs(order: &[u8; 16384], b: usize, c: usize, d: usize) -> bool
-    requires { ⌜ (b < 128) × ((c < 128) × (d < 128)) ⌝ }
-    ensures { λ r. ⌜ T r ↔ Disturbs (now (order .entry)) b c d ⌝ }
-{
-    if b == c {
-        return false;
-    }
-    if b == d {
-        return false;
-    }
-    if order[b * 128 + d] == 1 {
-        return false;
-    }
-    order[b * 128 + c] != 2
-}
-
-// Of the given flags, those that no child asserts that may disturb the pair c, d, in a part of the table of children; it ends as soon as none is left.
-fn undisturbed_part(
-    kids: &[u8; 128],
-    order: &[u8; 16384],
-    rows: &[u64; 2688],
-    low: usize,
-    high: usize,
-    flags: u64,
-    c: usize,
-    d: usize,
-) -> u64
-    requires { ⌜ Part (now kids) low high × ((c < 128) × (d < 128)) ⌝ }
-    ensures { λ r. ⌜ UndisturbedPart (now (kids .entry)) (now (order .entry)) (now (rows .entry)) low high flags c d r ⌝ }
-{
-    let mut left = flags;
-    let mut i = low;
-    while i < high {
-        if left == 0 {
-            return 0;
-        }
-        let b = wide(kids[i]);
-        left = narrowed(
-            left,
-            disturbs(order, b, c, d),
-            neither(rows, b, ASSERTS, ASSERTS + 1),
-        );
-        i += 1;
-    }
-    left
-}
-
-// Of the given flags, those that no child asserts that may disturb the pair of c and the child at j. The children after that one in the table come first:
-// there the flags are soonest settled.
-fn undisturbed(
-    from: &[u8; 129],
-    kids: &[u8; 128],
-    order: &[u8; 16384],
-    rows: &[u64; 2688],
-    n: usize,
-    node: usize,
-    flags: u64,
-    c: usize,
-    j: usize,
-) -> u64
-    requires { ⌜ (Shaped (now from) (now kids) n × (node < n)) × ((c < n) × Position (now from) node j) ⌝ }
-    ensures { λ r. ⌜ UndisturbedWord (now (from .entry)) (now (kids .entry)) (now (order .entry)) (now (rows .entry)) n node flags c (getD (now (kids .entry)) j 0) r ⌝ }
-{
-    let d = wide(kids[j]);
-    let end = wide(from[node + 1]);
-    let start = wide(from[node]);
-    let left = undisturbed_part(kids, order, rows, j + 1, end, flags, c, d);
-    undisturbed_part(kids, order, rows, start, j + 1, left, c, d)
-}
 
 // The wanted flags of one sign that the child c and the child at j must clobber.
 fn must_pair_word(
@@ -147,7 +32,7 @@ fn must_pair_word(
         if shared == 0 {
             return 0;
         }
-        return undisturbed(from, kids, order, rows, n, node, shared, c, j);
+        return passing(from, kids, order, rows, n, node, true, shared, c, j);
     }
     0
 }

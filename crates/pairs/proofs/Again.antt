@@ -14,11 +14,11 @@ use Rattle.bits.proofs.Says.{says-dec, says-self, says-and, says-or, says-less,
 use Rattle.bits.proofs.Words.{no-bits, less-add}
 use Rattle.runs.specs.Plan.{Plan, Child}
 use Rattle.words.specs.Segments.{Every}
-use Rattle.words.proofs.Segments.{every-child}
+use Rattle.words.proofs.Segments.{every-child, joined}
+use Rattle.passing.specs.Passing.{SomePair, Pairing}
 use Rattle.pairs.specs.declared.Found.{Found}
 use Rattle.pairs.specs.declared.Literals.{Literals}
-use Rattle.pairs.specs.Pairs.{Pair, SomePair, Pairing, wordOf, Unclobbered, Search, AllPairs}
-use Rattle.pairs.proofs.Laws.{joined}
+use Rattle.pairs.specs.Pairs.{Pair, wordOf, Unclobbered, Search, AllPairs}
 
 -- one literal word more, one less
 abbrev pub gained : Literals → Literals → Literals
@@ -45,7 +45,7 @@ module _ (from kids order rows : List ℕ) (size n : ℕ) (wanted : Literals) wh
   pub record Progress (left found : Literals) (first : ℕ) : Type 0 where
     pub still : (v : Bool) (f : ℕ) → T (bit (wordOf left v) f) ↔ (T (bit (wordOf wanted v) f) × (¬ T (bit (wordOf found v) f)))
     pub sound : (p : Plan) → Pairing from kids order rows size n p → (v : Bool) (f : ℕ) → f < 64 → T (bit (wordOf found v) f)
-        → T (bit (wordOf wanted v) f) × SomePair p n f v (Pair p n f v)
+        → T (bit (wordOf wanted v) f) × SomePair p n (Pair p n f v)
     pub low : getD from n 0 ≤ first
     pub high : first ≤ getD from (n + 1) 0
     pub passed : (p : Plan) → Pairing from kids order rows size n p → Every kids (getD from n 0) first (Unclobbered p n left)
@@ -87,7 +87,7 @@ module _ (from kids order rows : List ℕ) (size n : ℕ) (wanted : Literals) wh
         both v f k l (inr t) = l t
 
         at : (p : Plan) → Pairing from kids order rows size n p → (v : Bool) (f : ℕ) → f < 64 → T (bit (wordOf found v) f) ⊎ T (bit (wordOf pair v) f)
-            → T (bit (wordOf wanted v) f) × SomePair p n f v (Pair p n f v)
+            → T (bit (wordOf wanted v) f) × SomePair p n (Pair p n f v)
         at p g v f l (inl t) = h .sound p g v f l t
         at p g v f l (inr t) = (((h .still v f) .0 (s .among v f l t)) .0, s .sound p g v f l t)
 
@@ -102,7 +102,7 @@ module _ (from kids order rows : List ℕ) (size n : ℕ) (wanted : Literals) wh
         none : (p : Plan) → Pairing from kids order rows size n p → (c : ℕ) → Child p n c → Unclobbered p n left c
         none p g = (every-child (g .group .tree) (g .group .node) (λ c hc. (λ x. x, λ x. x))) .0 (joined first (h .passed p g) (rw (s .ended e) at (s .passed p g)))
 
-        at : (p : Plan) → Pairing from kids order rows size n p → (v : Bool) (f : ℕ) → f < 64 → T (bit (wordOf wanted v) f) × SomePair p n f v (Pair p n f v)
+        at : (p : Plan) → Pairing from kids order rows size n p → (v : Bool) (f : ℕ) → f < 64 → T (bit (wordOf wanted v) f) × SomePair p n (Pair p n f v)
             → Dec (T (bit (wordOf found v) f)) → T (bit (wordOf found v) f)
         at p g v f l x (yes t) = t
         at p g v f l x (no k) = absurd (none p g (x .1 .0) (x .1 .1) (x .1 .2 .0) (x .1 .2 .1) v f l ((h .still v f) .1 (x .0, k)) (x .1 .2 .2))

@@ -1,3 +1,4 @@
--- Laws of pairs.
-pub mod Laws
+-- Laws of the pairs of children that may clobber, and of the search for them.
+pub mod Pairs
+pub mod Search
 pub mod Again

@@ -1,20 +1,14 @@
-// The pairs of children of an all-of group that may clobber, or must clobber, a literal: for all flags at once, from the rows of the children.
-ghost use mathlib.Core.Path.{_≡_};
-ghost use mathlib.Core.Logic.{_↔_};
-ghost use Prim.Native.Nat.{ℕ, _+_, _≤_, _<_};
-ghost use lib.Dec.{T};
+// The pairs of children of an all-of group that may clobber a literal: for all flags at once, from the rows of the children.
+ghost use Prim.Native.Nat.{_+_, _≤_, _<_};
 ghost use lib.ListN.{getD};
-ghost use Rattle.bits.specs.Bits.{bit};
-ghost use Rattle.words.specs.Tables.{code, Position, Shaped};
-ghost use Rattle.pairs.specs.Pairs.{Part, BetweenPart, BetweenWord, PairWord, PairWords, FirstPartner, Search, AllPairs};
-use groups::apart;
-use groups::narrowed;
+ghost use Rattle.words.specs.Tables.{Position, Shaped};
+ghost use Rattle.pairs.specs.Pairs.{PairWord, PairWords, FirstPartner, Search, AllPairs};
+use passing::passing;
+use siblings::apart;
 use words::wide;
 use words::word_at;
 
-// The first word of some columns; a column but the first has a word for each sign, clear and set.
-const AVOID: usize = 0;
-
+// The first word of some columns; there is a word for each sign, clear and set.
 const MAY_PRE: usize = 5;
 
 const MAY_POST: usize = 7;
@@ -27,72 +21,6 @@ const ASSERTS: usize = 13;
 pub struct Literals {
     pub clear: u64,
     pub set: u64,
-}
-
-// b stands after d and before c.
-fn stands_between(order: &[u8; 16384], d: usize, b: usize, c: usize) -> bool
-    requires { ⌜ (b < 128) × ((c < 128) × (d < 128)) ⌝ }
-    ensures { λ r. ⌜ T r ↔ ((code (now (order .entry)) d b ≡ 1) × (code (now (order .entry)) b c ≡ 1)) ⌝ }
-{
-    if order[d * 128 + b] == 1 {
-        return order[b * 128 + c] == 1;
-    }
-    false
-}
-
-// Of the given flags, those that every child between d and c in a part of the table of children can avoid; it ends as soon as none is left.
-fn between_part(
-    kids: &[u8; 128],
-    order: &[u8; 16384],
-    rows: &[u64; 2688],
-    low: usize,
-    high: usize,
-    flags: u64,
-    c: usize,
-    d: usize,
-) -> u64
-    requires { ⌜ Part (now kids) low high × ((c < 128) × (d < 128)) ⌝ }
-    ensures { λ r. ⌜ BetweenPart (now (kids .entry)) (now (order .entry)) (now (rows .entry)) low high flags c d r ⌝ }
-{
-    let mut left = flags;
-    let mut i = low;
-    while i < high {
-        if left == 0 {
-            return 0;
-        }
-        let b = wide(kids[i]);
-        left = narrowed(
-            left,
-            stands_between(order, d, b, c),
-            word_at(rows, b, AVOID),
-        );
-        i += 1;
-    }
-    left
-}
-
-// Of the given flags, those that every child between d and c can avoid; d is the child at j. The children after d in the table come first: there the flags
-// are soonest settled.
-fn between(
-    from: &[u8; 129],
-    kids: &[u8; 128],
-    order: &[u8; 16384],
-    rows: &[u64; 2688],
-    n: usize,
-    node: usize,
-    flags: u64,
-    c: usize,
-    j: usize,
-) -> u64
-    requires { ⌜ (Shaped (now from) (now kids) n × (node < n)) × ((c < n) × Position (now from) node j) ⌝ }
-    ensures among { λ r. ⌜ ((f : ℕ) → f < 64 → T (bit r f) → T (bit flags f)) ⌝ }
-    ensures says { λ r. ⌜ BetweenWord (now (from .entry)) (now (kids .entry)) (now (order .entry)) (now (rows .entry)) n node flags c (getD (now (kids .entry)) j 0) r ⌝ }
-{
-    let d = wide(kids[j]);
-    let end = wide(from[node + 1]);
-    let start = wide(from[node]);
-    let left = between_part(kids, order, rows, j + 1, end, flags, c, d);
-    between_part(kids, order, rows, start, j + 1, left, c, d)
 }
 
 // The wanted flags of one sign that the child c and the child at j clobber.
@@ -109,8 +37,7 @@ fn pair_word(
     j: usize,
 ) -> u64
     requires { ⌜ ((Shaped (now from) (now kids) n × (node < n)) × (sign < 2)) × ((c < n) × Position (now from) node j) ⌝ }
-    ensures among { λ r. ⌜ ((f : ℕ) → f < 64 → T (bit r f) → T (bit wanted f)) ⌝ }
-    ensures says { λ r. ⌜ PairWord (now (from .entry)) (now (kids .entry)) (now (order .entry)) (now (rows .entry)) n node sign wanted c (getD (now (kids .entry)) j 0) r ⌝ }
+    ensures { λ r. ⌜ PairWord (now (from .entry)) (now (kids .entry)) (now (order .entry)) (now (rows .entry)) n node sign wanted c (getD (now (kids .entry)) j 0) r ⌝ }
 {
     let d = wide(kids[j]);
     if order[d * 128 + c] == 1 {
@@ -119,7 +46,7 @@ fn pair_word(
         if shared == 0 {
             return 0;
         }
-        return between(from, kids, order, rows, n, node, shared, c, j);
+        return passing(from, kids, order, rows, n, node, false, shared, c, j);
     }
     if apart(order, c, d) {
         return wanted

@@ -1,6 +1,8 @@
 -- Laws of rows of words, and of the words of a task.
 pub mod Signs
 pub mod Segments
+pub mod Turns
 pub mod Rows
 pub mod Task
 pub mod TaskWords
+pub mod Musts

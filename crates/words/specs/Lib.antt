@@ -3,3 +3,4 @@ pub mod Tables
 pub mod Columns
 pub mod Segments
 pub mod Tasks
+pub mod Musts

@@ -1,14 +1,26 @@
-// Rows of words, 21 to a node, one for each column (specs/Columns.antt): bit f of a word speaks of flag f. The rows of tasks.
+// Rows of words, 21 to a node, one for each column (specs/Columns.antt): bit f of a word speaks of flag f. The rows of tasks; what is read off a row.
 ghost use mathlib.Core.Path.{_≡_};
 ghost use mathlib.Core.Bool.{Bool};
 ghost use Prim.Native.Nat.{_+_, _*_, _<_};
+ghost use lib.Bits.{bitOr, bitXor};
 ghost use lib.ListN.{length, getD};
+ghost use Rattle.bits.specs.Bits.{ones};
 ghost use Rattle.runs.specs.Plan.{Plan};
 ghost use Rattle.words.specs.Tables.{signNum};
 ghost use Rattle.words.specs.Columns.{wordAt, Row, Written};
 ghost use Rattle.words.specs.Tasks.{Task, LiteralSays};
+ghost use Rattle.words.specs.Musts.{MustPreWord, MustPostWord};
 
 const ALL: u64 = 18446744073709551615;
+
+// The first word of some columns; a column but the first has a word for each sign.
+const AVOID: usize = 0;
+
+const QUIET: usize = 1;
+
+const COVERED: usize = 3;
+
+const MAY_POST: usize = 7;
 
 // The words of a task for one sign.
 pub struct Literal {
@@ -105,4 +117,30 @@ pub fn word_at(rows: &[u64; 2688], node: usize, k: usize) -> u64
     ensures { λ r. ⌜ r ≡ wordAt (now (rows .entry)) node k ⌝ }
 {
     rows[node * 21 + k]
+}
+
+// The flags that a node has in neither of two columns.
+pub fn neither(rows: &[u64; 2688], node: usize, j: usize, k: usize) -> u64
+    requires { ⌜ (node < 128) × ((j < 21) × (k < 21)) ⌝ }
+    ensures { λ r. ⌜ r ≡ bitXor (bitOr (wordAt (now (rows .entry)) node j) (wordAt (now (rows .entry)) node k)) ones ⌝ }
+{
+    let x = word_at(rows, node, j);
+    let y = word_at(rows, node, k);
+    (x | y) ^ ALL
+}
+
+// The literals of one sign that are external preconditions in every completed execution: the node is neither quiet nor covered.
+pub fn must_pre(rows: &[u64; 2688], node: usize, sign: usize) -> u64
+    requires { ⌜ (node < 128) × (sign < 2) ⌝ }
+    ensures { λ r. ⌜ MustPreWord (now (rows .entry)) node sign r ⌝ }
+{
+    neither(rows, node, QUIET + sign, COVERED + sign)
+}
+
+// The literals of one sign that are external postconditions in every completed execution: none avoids the flag or asserts the opposite last.
+pub fn must_post(rows: &[u64; 2688], node: usize, sign: usize) -> u64
+    requires { ⌜ (node < 128) × (sign < 2) ⌝ }
+    ensures { λ r. ⌜ MustPostWord (now (rows .entry)) node sign r ⌝ }
+{
+    neither(rows, node, AVOID, MAY_POST + (1 - sign))
 }

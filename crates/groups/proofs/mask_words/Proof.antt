@@ -1,5 +1,5 @@
 -- `mask_words` meets its contract. Assumes nothing.
-use Rattle.groups.proofs.Sibling.{mask-is}
+use Rattle.groups.proofs.Masks.{mask-is}
 use Rattle.groups.proofs.mask_words.Statement.{statement}
 use Rattle.groups.proofs.mask_words.Tie as tie
 

@@ -2,7 +2,7 @@
 use mathlib.Core.Path.{refl, sym}
 use Rattle.bits.proofs.Says.{says-map, says-and, says-self, says-none, says-among, no-flag}
 use Rattle.words.proofs.Signs.{opposite}
-use Rattle.pairs.proofs.Laws.{kid-below}
+use Rattle.words.proofs.Turns.{kid-below}
 use Rattle.mustpairs.proofs.Laws.{must-pair}
 use native.Mathlib.Omega.{arith}
 use borrow.Author.Needs.{needs}
@@ -19,10 +19,10 @@ returns c =
 returns-2 : tie.Need-returns-2
 returns-2 c =
     λ p g hc kd v e f l. let q = sym (c .before .before .before .before .before .before .wide .ensures) in let hd = rw q at kd in let w = g .group .well-formed in
-    rw q (says-map (must-pair g hc hd ((g .orders .before _ _ (hd .node) (hc .node)) .0 (c .before .before .before .before .if1 .taken)))
+    rw q (says-map (must-pair ((g .orders .before _ _ (hd .node) (hc .node)) .0 (c .before .before .before .before .if1 .taken)))
     (says-among (says-and refl (says-self _ f)
     (says-and refl (c .before .before .before .must-post .ensures p w (g .group .children _ hd) _ (opposite v _ e) f l)
-    (c .before .before .must-pre .ensures p w (hc .node) (g .group .children _ hc) v e f l))) (rw q at (c .undisturbed .ensures p g hc kd f l))))
+    (c .before .before .must-pre .ensures p w (hc .node) (g .group .children _ hc) v e f l))) (rw q at (c .passing .ensures .says p g hc kd f l))))
 
 returns-3 : tie.Need-returns-3
 returns-3 c =

@@ -1,71 +1,56 @@
--- `must_pairs` meets its contract. Assumes nothing.
-use mathlib.Core.Path.{_≡_}
-use Prim.Native.Nat.{ℕ, _+_, _≤_, _<_, _-_}
-use lib.ListN.{getD}
+-- `must_pairs` meets its contract: the flags known, and those that a pair of a child so far must clobber. Assumes nothing.
 use mathlib.Core.Logic.{_⊎_}
-use mathlib.Core.Bool.{Bool}
+use Prim.Native.Nat.{ℕ, _-_}
 use lib.Dec.{T}
-use Rattle.bits.specs.Bits.{bit, Says}
-use Rattle.runs.specs.Plan.{Plan}
-use Rattle.words.specs.Tables.{signNum}
-use Rattle.pairs.specs.Pairs.{Pairing}
-use Rattle.pairs.proofs.Laws.{kid}
-use Rattle.mustpairs.proofs.Laws.{PairsTo, none-more, child-more, pairs-all}
+use lib.ListN.{getD}
+use Rattle.bits.specs.Bits.{bit}
+use Rattle.runs.specs.Plan.{Child}
+use Rattle.words.specs.Segments.{Some}
+use Rattle.words.specs.Musts.{SaysOf}
+use Rattle.words.proofs.Turns.{Turn, first-turn, position-small, kid-below, position, next-turn, last-turn}
+use Rattle.passing.specs.Passing.{OfPlans}
+use Rattle.passing.proofs.Laws.{kid}
+use Rattle.mustpairs.specs.MustPairs.{MustPair}
+use Rattle.mustpairs.proofs.Laws.{none-more, child-more, all-more}
 use native.Mathlib.Omega.{arith}
 use Rattle.mustpairs.proofs.must_pairs.Statement.{statement}
 use Rattle.mustpairs.proofs.must_pairs.Tie as tie
 
 abbrev Inv-loop : tie.InvT-loop
 Inv-loop from kids order rows n node sign known flags₀ end i₀ flags i =
-    ((getD from node 0 ≤ i) × (i ≤ end)) × ((end ≡ getD from (node + 1) 0)
-    × ((p : Plan) (g : Pairing from kids order rows n node p) (v : Bool) → sign ≡ signNum v → (f : ℕ) → f < 64
-    → Says flags f (T (bit known f) ⊎ PairsTo g f v i)))
+    Turn from node end i × OfPlans from kids order rows n node (λ p. SaysOf sign flags
+    (λ f v. T (bit known f) ⊎ Some kids (getD from node 0) i (λ c. (d : ℕ) × Child p node d × MustPair p node f v c d)))
 
 abbrev μ-loop : tie.MeasureT-loop
 μ-loop from kids order rows n node sign known flags₀ end i₀ flags i = end - i
 
 loop-holds : tie.Need-loop-holds Inv-loop μ-loop
 loop-holds c =
-    let s = c .before .before .before .before in
-    let up = s .pre .0 .0 .starts (s .args .node) (s .pre .0 .1) in (
-      omega (arith, c .wide2 .ensures, c .before .before .wide .ensures),
-      (c .before .before .wide .ensures, λ p g v q f m. rw (c .wide2 .ensures) (none-more g)),
-    )
+    (first-turn (c .before .before .before .before .pre .0) (c .before .before .wide .ensures) (c .wide2 .ensures), λ p g v q f m. rw (c .wide2 .ensures) none-more)
 
 element-copy-out-wide-3 : tie.Need-element-copy-out-wide-3 Inv-loop μ-loop
-element-copy-out-wide-3 c =
-    let s = c .before .before .before .before .before .before in
-    let end = s .pre .0 .0 .ends (s .args .node) (s .pre .0 .1) in
-    omega (arith, c .before .loop .inv .1 .0)
+element-copy-out-wide-3 c = position-small (c .before .before .before .before .before .before .pre .0) (position (c .before .loop .inv .0) (c .loop-test .taken))
 
 must-pairs-of-requires : tie.Need-must-pairs-of-requires Inv-loop μ-loop
 must-pairs-of-requires c κs =
     let l = c .before .before .before in
     let s = l .before .before .before .before .before in
-    let kid = s .pre .0 .0 .rises (s .args .node) (l .loop .i) (s .pre .0 .1) (record { low = l .loop .inv .0 .0; high = omega (arith, l .loop .inv .1 .0) }) in
-    (s .pre, omega (arith, kid .1, c .wide3 .ensures))
+    (s .pre, kid-below (s .pre .0) (position (l .loop .inv .0) (c .before .before .loop-test .taken)) (c .wide3 .ensures))
 
 loop-again : tie.Need-loop-again Inv-loop μ-loop
 loop-again c =
     let l = c .before .before .before .before in
-    let s = l .before .before .before .before .before in
-    let low = l .loop .inv .0 .0 in
-    let high : l .loop .i < getD (s .args .from .now) (s .args .node + 1) 0 = omega (arith, l .loop .inv .1 .0) in
+    let turn = l .loop .inv .0 in
+    let test = c .before .before .before .loop-test .taken in
+    let at = position turn test in
     let e = c .before .wide3 .ensures in (
-      omega arith,
-      (
-        l .loop .inv .1 .0,
-        λ p g v q f m. child-more g low (l .loop .inv .1 .1 p g v q f m)
-            (rw e at (c .must-pairs-of .ensures p g (rw e (kid g (l .loop .i) low high)) v q f m)),
-      ),
+      next-turn turn test,
+      λ p g v q f m. child-more (turn .low) (l .loop .inv .1 p g v q f m)
+          (rw e at (c .must-pairs-of .ensures p g (kid g e at) v q f m)),
     )
 
 returns : tie.Need-returns Inv-loop μ-loop
-returns c =
-    let l = c .before in
-    let s = l .before .before .before .before .before in
-    let e : l .loop .i ≡ getD (s .args .from .now) (s .args .node + 1) 0 = omega (arith, l .loop .inv .1 .0) in
-    λ p g v q f m. pairs-all g (rw e at (l .loop .inv .1 .1 p g v q f m))
+returns c = λ p g v q f m. all-more g (rw (last-turn (c .before .loop .inv .0) (c .loop-test .left)) at (c .before .loop .inv .1 p g v q f m))
 
 pub must-pairs-spec : {M : Type 1} → statement M
 must-pairs-spec =

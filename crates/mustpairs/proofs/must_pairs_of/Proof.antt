@@ -1,26 +1,26 @@
--- `must_pairs_of` meets its contract. Assumes nothing.
-use mathlib.Core.Path.{_≡_, refl}
-use Prim.Native.Nat.{ℕ, _+_, _≤_, _<_, _-_}
-use lib.ListN.{getD}
+-- `must_pairs_of` meets its contract: the flags known, and those that a pair with c so far must clobber. Assumes nothing.
+use mathlib.Core.Path.{refl}
 use mathlib.Core.Logic.{_⊎_}
-use mathlib.Core.Bool.{Bool}
+use Prim.Native.Nat.{_-_}
 use lib.Dec.{T}
-use Rattle.bits.specs.Bits.{bit, Says}
-use Rattle.runs.specs.Plan.{Plan, Child}
-use Rattle.words.specs.Tables.{signNum}
-use Rattle.pairs.specs.Pairs.{Pairing}
-use Rattle.words.proofs.Segments.{some-next}
-use Rattle.pairs.proofs.Laws.{kid}
-use Rattle.mustpairs.proofs.Laws.{WithTo, none-new, pair-more, none-more, with-all}
+use lib.ListN.{getD}
+use Rattle.bits.specs.Bits.{bit}
+use Rattle.runs.specs.Plan.{Child}
+use Rattle.words.specs.Segments.{Some}
+use Rattle.words.specs.Musts.{SaysOf}
+use Rattle.words.proofs.Turns.{Turn, first-turn, position, next-turn, last-turn}
+use Rattle.passing.specs.Passing.{OfPlans}
+use Rattle.passing.proofs.Laws.{kid}
+use Rattle.mustpairs.specs.MustPairs.{MustPair}
+use Rattle.mustpairs.proofs.Laws.{none-new, added, none-more, child-more, all-more}
 use native.Mathlib.Omega.{arith}
 use Rattle.mustpairs.proofs.must_pairs_of.Statement.{statement}
 use Rattle.mustpairs.proofs.must_pairs_of.Tie as tie
 
 abbrev Inv-loop : tie.InvT-loop
 Inv-loop from kids order rows n node sign known c flags₀ end j₀ flags j =
-    ((getD from node 0 ≤ j) × (j ≤ end)) × ((end ≡ getD from (node + 1) 0)
-    × ((p : Plan) (g : Pairing from kids order rows n node p) → Child p node c → (v : Bool) → sign ≡ signNum v → (f : ℕ) → f < 64
-    → Says flags f (T (bit known f) ⊎ WithTo g c f v j)))
+    Turn from node end j × OfPlans from kids order rows n node (λ p. Child p node c → SaysOf sign flags
+    (λ f v. T (bit known f) ⊎ Some kids (getD from node 0) j (MustPair p node f v c)))
 
 abbrev μ-loop : tie.MeasureT-loop
 μ-loop from kids order rows n node sign known c flags₀ end j₀ flags j = end - j
@@ -30,42 +30,31 @@ must-pre-requires c κs = omega (arith, c .pre, c .pre .0 .0 .0 .small)
 
 returns : tie.Need-returns Inv-loop μ-loop
 returns c =
-    λ p g hc v q f m. none-new g f m (c .if1 .taken) (c .before .must-pre .ensures p (g .group .well-formed) (hc .node) (g .group .children _ hc) v q f m)
+    λ p g hc v q f m. none-new m (c .if1 .taken) (c .before .must-pre .ensures p (g .group .well-formed) (hc .node) (g .group .children _ hc) v q f m)
 
 loop-holds : tie.Need-loop-holds Inv-loop μ-loop
 loop-holds c =
-    let s = c .before .before .before .before .before .before in
-    let up = s .pre .0 .0 .0 .starts (s .args .node) (s .pre .0 .0 .1) in (
-      omega (arith, c .wide2 .ensures, c .before .before .wide .ensures),
-      (c .before .before .wide .ensures, λ p g hc v q f m. rw (c .wide2 .ensures) (none-more g)),
-    )
+    (first-turn (c .before .before .before .before .before .before .pre .0 .0) (c .before .before .wide .ensures) (c .wide2 .ensures), λ p g hc v q f m. rw (c .wide2 .ensures) none-more)
 
 must-pair-word-requires : tie.Need-must-pair-word-requires Inv-loop μ-loop
 must-pair-word-requires c κs =
     let l = c .before in
     let s = l .before .before .before .before .before .before .before in
-    (s .pre .0, (s .pre .1, record { low = l .loop .inv .0 .0; high = omega (arith, l .loop .inv .1 .0) }))
+    (s .pre .0, (s .pre .1, position (l .loop .inv .0) (c .loop-test .taken)))
 
 loop-again : tie.Need-loop-again Inv-loop μ-loop
 loop-again c =
     let l = c .before .before in
-    let s = l .before .before .before .before .before .before .before in
-    let low = l .loop .inv .0 .0 in
-    let high : l .loop .j < getD (s .args .from .now) (s .args .node + 1) 0 = omega (arith, l .loop .inv .1 .0) in (
-      omega arith,
-      (
-        l .loop .inv .1 .0,
-        λ p g hc v q f m. pair-more g (some-next low) m refl (l .loop .inv .1 .1 p g hc v q f m)
-            (c .must-pair-word .ensures p g hc (kid g (l .loop .j) low high) v q f m),
-      ),
+    let turn = l .loop .inv .0 in
+    let test = c .before .loop-test .taken in
+    let at = position turn test in (
+      next-turn turn test,
+      λ p g hc v q f m. child-more (turn .low) (l .loop .inv .1 p g hc v q f m)
+          (added (l .loop .flags) (c .must-pair-word .result) m refl (c .must-pair-word .ensures p g hc (kid g refl at) v q f m)),
     )
 
 returns-2 : tie.Need-returns-2 Inv-loop μ-loop
-returns-2 c =
-    let l = c .before in
-    let s = l .before .before .before .before .before .before .before in
-    let e : l .loop .j ≡ getD (s .args .from .now) (s .args .node + 1) 0 = omega (arith, l .loop .inv .1 .0) in
-    λ p g hc v q f m. with-all g (rw e at (l .loop .inv .1 .1 p g hc v q f m))
+returns-2 c = λ p g hc v q f m. all-more g (rw (last-turn (c .before .loop .inv .0) (c .loop-test .left)) at (c .before .loop .inv .1 p g hc v q f m))
 
 pub must-pairs-of-spec : {M : Type 1} → statement M
 must-pairs-of-spec =

@@ -1,0 +1,2 @@
+-- The flags that pass from one child of an all-of group to another.
+pub mod Passing

@@ -1,0 +1,2 @@
+-- Laws of what the siblings of a child allow.
+pub mod Sibling
