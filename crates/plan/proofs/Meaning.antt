@@ -16,7 +16,7 @@ use Rattle.rules.specs.Rules.{refusal, badEntry, cause6, childless, cause8, bot
 use Rattle.rules.specs.Search.{someBelow}
 use Rattle.rules.proofs.Laws.{or-none, or-split, and-both, and-of, none-at, found-at, some-yes, not-passed, true-T, T-true}
 use Rattle.runs.specs.Plan.{task, all-of, Place, inc, post, Accepted, WellFormed}
-use Rattle.runs.proofs.Plan.Accepted.{accepted-well-formed}
+use Rattle.runs.proofs.Plan.Accepted.{accepted-well-formed, accepted-rank}
 use Rattle.plan.specs.Meaning.{kindAt, placeNumber, signNumber, conditionIs, hasCondition, signIn, orderIs, hasOrder, planOf, kindNumber, ConditionPair, OrderPair, Means}
 use Rattle.rules.proofs.Causes.{condition-fits, parent-group, root-parent, both-signs-of, post-of}
 use Rattle.plan.proofs.Accepted.{Clean, clean}
@@ -251,3 +251,7 @@ means b e =
 -- that is well formed, a node's number the rank of its orders
 pub means-well-formed : (b : List ℕ) → refusal b ≡ 0 → WellFormed (planOf b)
 means-well-formed b e = accepted-well-formed (planOf b) (means b e .accepted)
+
+pub means-rank : (b : List ℕ) (e : refusal b ≡ 0) (n : ℕ) → means-well-formed b e .rank n ≡ n
+unfolding means-well-formed
+means-rank b e n = accepted-rank (planOf b) (means b e .accepted) n
