@@ -13,7 +13,7 @@ use Rattle.codes.specs.Values.{flagOf, signOf, placeOf}
 use Rattle.format.specs.Format.{nodeCount, condCount, parentOf, condNode, condValue, isGroup, Whole}
 use Rattle.rules.specs.Rules.{cause7, childless, cause8, cause10, bothSigns, cause11, postOf, noPost, cause12}
 use Rattle.rules.specs.Search.{someBelow}
-use Rattle.rules.proofs.Laws.{same, and-both, and-of, found-at, some-yes, some-same}
+use Rattle.rules.proofs.Laws.{same, and-both, and-three, and-of, found-at, some-yes, some-same}
 use Rattle.passes.specs.declared.Pass.the-variants.{Children, Signs, Posts}
 use Rattle.passes.specs.declared.Pass.{Pass}
 use Rattle.passes.specs.Passes.{childStep, slotOf, signStep, postStep, stepOf, stepsOf, Ready, passCause}
@@ -41,28 +41,26 @@ sign-rises : (v w : ℕ) → slotOf w ≡ slotOf v → signOf v ≡ 0 → signOf
 sign-rises v w e p q = let s = slot-parts v w e in omega (arith, value-parts v, value-parts w)
 
 module _ (b : List ℕ) (i j : ℕ) where
-  pub record SignAnswered : Type 0 where
+  record SignAnswered : Type 0 where
     pub node : condNode b j ≡ condNode b i
     pub slot : slotOf (condValue b j) ≡ slotOf (condValue b i)
     pub set : signOf (condValue b j) ≡ 1
 
-  pub sign-answered : answers (signStep b) i j ≡ true → SignAnswered
+  sign-answered : answers (signStep b) i j ≡ true → SignAnswered
   unfolding signStep
   sign-answered h =
-      let w = and-both (eqb (signOf (condValue b j)) 1 && eqb (slotOf (condValue b j)) (slotOf (condValue b i))) (eqb (condNode b j + 1) (condNode b i + 1)) h in
-      let x = and-both (eqb (signOf (condValue b j)) 1) (eqb (slotOf (condValue b j)) (slotOf (condValue b i))) (w .0) in
-      record { node = omega (arith, eqb-true (condNode b j + 1) (condNode b i + 1) (w .1)); slot = eqb-true _ _ (x .1); set = eqb-true _ _ (x .0) }
+      let w = and-three (eqb (signOf (condValue b j)) 1) (eqb (slotOf (condValue b j)) (slotOf (condValue b i))) (eqb (condNode b j + 1) (condNode b i + 1)) h in
+      record { node = omega (arith, eqb-true (condNode b j + 1) (condNode b i + 1) (w .2)); slot = eqb-true _ _ (w .1); set = eqb-true _ _ (w .0) }
 
-  pub sign-answer : SignAnswered → answers (signStep b) i j ≡ true
+  sign-answer : SignAnswered → answers (signStep b) i j ≡ true
   unfolding signStep
   sign-answer r = simp (eq-eqb _ _ (r .set), eq-eqb _ _ (r .slot), r .node, eq-eqb (condNode b i + 1) (condNode b i + 1) refl)
 
-  pub post-answered : answers (postStep b) i j ≡ true → PostOf b i j
+  post-answered : answers (postStep b) i j ≡ true → PostOf b i j
   unfolding postStep
   post-answered h =
-      let w = and-both (eqb (placeOf (condValue b j)) 2 && eqb (flagOf (condValue b j)) (flagOf (condValue b i))) (eqb (condNode b j + 1) (condNode b i + 1)) h in
-      let x = and-both (eqb (placeOf (condValue b j)) 2) (eqb (flagOf (condValue b j)) (flagOf (condValue b i))) (w .0) in
-      record { node = omega (arith, eqb-true (condNode b j + 1) (condNode b i + 1) (w .1)); flag = eqb-true _ _ (x .1); post = eqb-true _ _ (x .0) }
+      let w = and-three (eqb (placeOf (condValue b j)) 2) (eqb (flagOf (condValue b j)) (flagOf (condValue b i))) (eqb (condNode b j + 1) (condNode b i + 1)) h in
+      record { node = omega (arith, eqb-true (condNode b j + 1) (condNode b i + 1) (w .2)); flag = eqb-true _ _ (w .1); post = eqb-true _ _ (w .0) }
 
   post-same : answers (postStep b) i j ≡ postOf b i j
   unfolding postStep postOf
@@ -95,7 +93,7 @@ module _ (b : List ℕ) (fits : Whole b) (parents : cause7 b ≡ false) where
       by-cases (ℕ-discrete n 0) (λ (e : n ≡ 0). absurd (omega (arith, root-parent b fits parents, ap (parentOf b) e, fits .limits .nodes)))
       (λ e. parent-group b fits parents n (omega arith) l .0)
 
-  pub children : passRefuses Children b ≡ cause8 b
+  children : passRefuses Children b ≡ cause8 b
   unfolding passRefuses cause8 childStep childless
   children =
       pass-finds (nodeCount b) (childStep b) (λ i l. omega arith) (λ i j l m. omega arith)
@@ -121,7 +119,7 @@ module _ (b : List ℕ) (rising : cause10 b ≡ false) where
       let w = sign-answered b i j a in
       before i j l m (w .node) (sign-rises (condValue b i) (condValue b j) (w .slot) (eqb-true _ _ q) (w .set))
 
-  pub signs : passRefuses Signs b ≡ cause11 b
+  signs : passRefuses Signs b ≡ cause11 b
   unfolding passRefuses cause11 signStep
   signs =
       pass-finds (condCount b) (signStep b) (λ i l. omega arith) (λ i j l m. omega (arith, nodes-rise i j l m)) sign-later
@@ -134,7 +132,7 @@ module _ (b : List ℕ) (rising : cause10 b ≡ false) where
       let p = eqb-true (placeOf (condValue b i)) 1 (sym (or-false _) ∙ q) in
       before i j l m (w .node) (omega (arith, w .post))
 
-  pub posts : passRefuses Posts b ≡ cause12 b
+  posts : passRefuses Posts b ≡ cause12 b
   unfolding passRefuses cause12 postStep noPost
   posts =
       pass-finds (condCount b) (postStep b) (λ i l. omega arith) (λ i j l m. omega (arith, nodes-rise i j l m)) post-later

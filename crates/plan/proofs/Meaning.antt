@@ -14,7 +14,7 @@ use Rattle.codes.specs.Values.{flagOf, signOf, placeOf, valueBad}
 use Rattle.format.specs.Format.{nodeCount, condCount, orderCount, flagCount, parentOf, kindOf, minutesOf, condNode, condValue, earlierOf, laterOf, isKind, isGroup}
 use Rattle.rules.specs.Rules.{refusal, badEntry, cause6, childless, cause8, bothSigns, cause11, noPost, postOf, cause12, isChild, badPair, badOrder, cause13}
 use Rattle.rules.specs.Search.{someBelow}
-use Rattle.rules.proofs.Laws.{or-none, or-split, and-both, and-of, none-at, found-at, some-yes, not-passed, true-T, T-true}
+use Rattle.rules.proofs.Laws.{or-none, or-split, and-both, and-three, and-of, none-at, found-at, some-yes, not-passed, true-T, T-true}
 use Rattle.runs.specs.Plan.{task, all-of, Place, inc, post, Accepted, WellFormed}
 use Rattle.runs.proofs.Plan.Accepted.{accepted-well-formed, accepted-rank}
 use Rattle.plan.specs.Meaning.{kindAt, placeNumber, signNumber, conditionIs, hasCondition, signIn, orderIs, hasOrder, planOf, kindNumber, ConditionPair, OrderPair, Means}
@@ -152,9 +152,8 @@ group-is b n h = ⊎-elim (λ x. inl (kind-is b n 1 x .1)) (λ x. inr (kind-is b
 pub child-is : (b : List ℕ) (g n : ℕ) → isChild b g n ≡ true → (0 < n) × (n < nodeCount b) × (parentOf b n ≡ g)
 unfolding isChild
 child-is b g n h =
-    let w = and-both (ltb 0 n && ltb n (nodeCount b)) (eqb (parentOf b n) g) h in
-    let x = and-both (ltb 0 n) (ltb n (nodeCount b)) (w .0) in
-    (ltb-true 0 n (x .0), ltb-true n (nodeCount b) (x .1), eqb-true _ _ (w .1))
+    let w = and-three (ltb 0 n) (ltb n (nodeCount b)) (eqb (parentOf b n) g) h in
+    (ltb-true 0 n (w .0), ltb-true n (nodeCount b) (w .1), eqb-true _ _ (w .2))
 
 -- ---- accepted bytes
 module _ (b : List ℕ) (c : Clean b) where
@@ -212,9 +211,8 @@ module _ (b : List ℕ) (c : Clean b) where
   siblings x y h =
       let g = parentOf b x in
       let w = or-none (not (isKind b g 1 && isChild b g x && isChild b g y)) (not (ltb x y)) h in
-      let p = and-both (isKind b g 1 && isChild b g x) (isChild b g y) (not-false _ (w .0)) in
-      let q = and-both (isKind b g 1) (isChild b g x) (p .0) in
-      (ltb-true x y (not-false _ (w .1)), kind-is b g 1 (q .0) .1, q .1, p .1)
+      let p = and-three (isKind b g 1) (isChild b g x) (isChild b g y) (not-false _ (w .0)) in
+      (ltb-true x y (not-false _ (w .1)), kind-is b g 1 (p .0) .1, p .1, p .2)
 
   pub meaning-accepted : Accepted (planOf b)
   unfolding planOf

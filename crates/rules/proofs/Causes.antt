@@ -10,7 +10,7 @@ use borrow.Author.Tests.{eq-eqb, ne-eqb, eqb-true, ltb-true, ltb-false, not-fals
 use Rattle.codes.specs.Values.{flagOf, signOf, placeOf, valueBad}
 use Rattle.format.specs.Format.{nodeCount, condCount, orderCount, flagCount, wholeLength, parentOf, kindOf, condNode, condValue, isKind, isGroup, Limits, Whole}
 use Rattle.rules.specs.Rules.{cause2, badParent, cause7, badCondition, cause9, bothSigns, postOf}
-use Rattle.rules.proofs.Laws.{or-none, and-both, none-at}
+use Rattle.rules.proofs.Laws.{or-none, and-both, and-three, none-at}
 
 -- ---- sizes
 pub limits : (b : List ℕ) → 16 ≤ length b → cause2 b ≡ false → Limits b
@@ -81,11 +81,10 @@ module _ (b : List ℕ) (i j : ℕ) where
   pub both-signs : bothSigns b i j ≡ true → BothSigns
   unfolding bothSigns
   both-signs h =
-      let w = and-both (eqb (condNode b j) (condNode b i) && eqb (placeOf (condValue b j)) (placeOf (condValue b i)) && eqb (flagOf (condValue b j)) (flagOf (condValue b i))) (eqb (signOf (condValue b i)) 0 && eqb (signOf (condValue b j)) 1) h in
-      let x = and-both (eqb (condNode b j) (condNode b i) && eqb (placeOf (condValue b j)) (placeOf (condValue b i))) (eqb (flagOf (condValue b j)) (flagOf (condValue b i))) (w .0) in
-      let y = and-both (eqb (condNode b j) (condNode b i)) (eqb (placeOf (condValue b j)) (placeOf (condValue b i))) (x .0) in
-      let z = and-both (eqb (signOf (condValue b i)) 0) (eqb (signOf (condValue b j)) 1) (w .1) in
-      record { node = eqb-true _ _ (y .0); place = eqb-true _ _ (y .1); flag = eqb-true _ _ (x .1); clear = eqb-true _ _ (z .0); set = eqb-true _ _ (z .1) }
+      let w = and-both _ (eqb (signOf (condValue b i)) 0 && eqb (signOf (condValue b j)) 1) h in
+      let x = and-three (eqb (condNode b j) (condNode b i)) (eqb (placeOf (condValue b j)) (placeOf (condValue b i))) (eqb (flagOf (condValue b j)) (flagOf (condValue b i))) (w .0) in
+      let y = and-both (eqb (signOf (condValue b i)) 0) (eqb (signOf (condValue b j)) 1) (w .1) in
+      record { node = eqb-true _ _ (x .0); place = eqb-true _ _ (x .1); flag = eqb-true _ _ (x .2); clear = eqb-true _ _ (y .0); set = eqb-true _ _ (y .1) }
 
   pub both-signs-of : BothSigns → bothSigns b i j ≡ true
   unfolding bothSigns
@@ -99,6 +98,5 @@ module _ (b : List ℕ) (i j : ℕ) where
   pub post-of : postOf b i j ≡ true → PostOf
   unfolding postOf
   post-of h =
-      let w = and-both (eqb (condNode b j) (condNode b i) && eqb (flagOf (condValue b j)) (flagOf (condValue b i))) (eqb (placeOf (condValue b j)) 2) h in
-      let x = and-both (eqb (condNode b j) (condNode b i)) (eqb (flagOf (condValue b j)) (flagOf (condValue b i))) (w .0) in
-      record { node = eqb-true _ _ (x .0); flag = eqb-true _ _ (x .1); post = eqb-true _ _ (w .1) }
+      let w = and-three (eqb (condNode b j) (condNode b i)) (eqb (flagOf (condValue b j)) (flagOf (condValue b i))) (eqb (placeOf (condValue b j)) 2) h in
+      record { node = eqb-true _ _ (w .0); flag = eqb-true _ _ (w .1); post = eqb-true _ _ (w .2) }

@@ -25,6 +25,9 @@ pub and-both : (a b : Bool) → (a && b) ≡ true → (a ≡ true) × (b ≡ tru
 and-both true b h = (refl, h)
 and-both false b h = absurd (false≢true h)
 
+pub and-three : (a b c : Bool) → (a && b && c) ≡ true → (a ≡ true) × (b ≡ true) × (c ≡ true)
+and-three a b c h = let w = and-both (a && b) c h in let x = and-both a b (w .0) in (x .0, x .1, w .1)
+
 pub and-of : (a b : Bool) → a ≡ true → b ≡ true → (a && b) ≡ true
 and-of a b p q = rw (p, q)
 

@@ -67,7 +67,7 @@ abbrev work : ℕ → List ℕ → ℕ → List ℕ → Entry
 work u n m l = record { name = n; kind = task; parent = u; minutes = m; values = l }
 
 -- ---- flags
-abbrev none-set : ℕ → Bool
+abbrev pub none-set : ℕ → Bool
 none-set f = false
 
 abbrev only : ℕ → ℕ → Bool
@@ -96,7 +96,7 @@ radi = 3
 abbrev satl : ℕ
 satl = 4
 
-abbrev B : (ℕ → Bool) → List Order → Written
+abbrev pub B : (ℕ → Bool) → List Order → Written
 B F os = record {
   flags = 2;
   start = F;
@@ -109,7 +109,7 @@ B F os = record {
   orders = os;
 }
 
-abbrev in-order : List Order
+abbrev pub in-order : List Order
 in-order = then cast coms ∷ []
 
 -- ---- under an all-of root: A; Z, the last; between them C, or a choice of C and another

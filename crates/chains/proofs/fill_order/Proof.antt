@@ -7,7 +7,6 @@ use Rattle.chains.proofs.Table.{Tabled, tabled-none, tabled-turn, table
 use Rattle.plan.proofs.Accepted.{clean}
 use Rattle.reader.specs.declared.items.Order.{Order}
 use native.Mathlib.Omega.{arith}
-use borrow.Author.Needs.{needs}
 use Rattle.chains.proofs.fill_order.Statement.{statement}
 use Rattle.chains.proofs.fill_order.Tie as tie
 
@@ -60,8 +59,8 @@ fill-order-spec =
     loop-holds
     sub-i
     order-requires
-    (λ c. search needs)
-    (λ c. search needs)
+    (λ c. omega arith)
+    (λ c. omega arith)
     link-all-requires
     (λ c. omega arith)
     loop-again

@@ -1,6 +1,6 @@
 -- `link` meets its contract. Assumes nothing.
+use native.Mathlib.Omega.{arith}
 use Rattle.chains.proofs.Links.{linked}
-use borrow.Author.Needs.{needs}
 use Rattle.chains.proofs.link.Statement.{statement}
 use Rattle.chains.proofs.link.Tie as tie
 
@@ -11,10 +11,10 @@ pub link-spec : {M : Type 1} → statement M
 link-spec =
     tie.close
     (tie.spec
-    (λ c. search needs)
-    (λ c. search needs)
-    (λ c. search needs)
-    (λ c. search needs)
-    (λ c. search needs)
-    (λ c. search needs)
+    (λ c. omega arith)
+    (λ c. omega arith)
+    (λ c. omega arith)
+    (λ c. omega arith)
+    (λ c. omega arith)
+    (λ c. omega arith)
     returns)
