@@ -27,7 +27,7 @@ use Rattle.state.proofs.Refused.{room-long, state-good, state-well}
 use Rattle.state.proofs.Passed.{has-room}
 use Rattle.conditions.specs.Conditions.{made}
 use Rattle.conditions.proofs.Laws.{length-literals, made-flag}
-use Rattle.refusals.specs.Refusals.{placeOf, eventRefusal}
+use Rattle.refusals.specs.Events.{placeOf, eventRefusal}
 use Rattle.refusals.proofs.Chain.{answer-task, event-does}
 use Rattle.monitor.specs.Events.{withEvent, afterEvent, eventState}
 use Rattle.monitor.proofs.Equations.{refused-22, accepted}

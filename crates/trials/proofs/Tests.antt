@@ -18,14 +18,13 @@ use Rattle.plan.proofs.Meaning.{means-well-formed}
 use Rattle.plan.proofs.Nodes.{is-node}
 use Rattle.runs.specs.Calls.{World, fresh}
 use Rattle.runs.specs.Summary.{Mark, Marked}
-use Rattle.runs.specs.Tests.{both, allBelow}
+use Rattle.runs.specs.Tests.{both, allBelow, sameList}
 use Rattle.runs.specs.Verdict.{Verdict-discrete}
 use Rattle.runs.specs.Model.Marks.{markedB}
 use Rattle.runs.specs.Model.Monitor.{returns, states}
 use Rattle.runs.specs.Model.Verdicts.{verdict}
-use Rattle.runs.proofs.Reflect.{Reflects, r-both, r-T, r-eq, r-lt, r-decide, r-all, T-true}
+use Rattle.runs.proofs.Reflect.{T-true, Reflects, r-both, r-T, r-eq, r-list, r-lt, r-decide, r-all}
 use Rattle.runs.proofs.Summary.Exact.{marks-exact}
-use Rattle.runs.proofs.Trials.Tables.{sameList, same-list}
 use Rattle.runs.proofs.Calls.First.{worked-only}
 use Rattle.calls.specs.Shown.{shownByte}
 use Rattle.summary.specs.Verdict.{answerOf}
@@ -82,15 +81,15 @@ module _ (b : List ℕ) (t : Trial) (x : T (holdsB b t)) where
     accepted : refusal b ≡ 0
     judged : verdict (planOf b) (startOf b) ≡ t .verdict
     shows : T (showsB b (t .marks))
-    returned : T (sameList p-returns (t .returned))
+    returned : p-returns ≡ t .returned
     left : (k : ℕ) → k < 8 + nodeCount b → shownByte p-after k ≡ getD (t .left) k 0
 
   passed : Passed
   unfolding holdsB leftB
   passed =
       let r : Reflects (holdsB b t) ((T (areBytes b) × (refusal b ≡ 0)) × ((verdict (planOf b) (startOf b) ≡ t .verdict)
-      × (T (showsB b (t .marks)) × (T (sameList p-returns (t .returned)) × ((k : ℕ) → k < 8 + nodeCount b → shownByte p-after k ≡ getD (t .left) k 0)))))
-      = r-both _ _ (r-both _ _ (r-T _) (r-eq _ _)) (r-both _ _ (r-decide _) (r-both _ _ (r-T _) (r-both _ _ (r-T _) (r-all _ _ _ (λ k. r-eq _ _))))) in
+      × (T (showsB b (t .marks)) × ((p-returns ≡ t .returned) × ((k : ℕ) → k < 8 + nodeCount b → shownByte p-after k ≡ getD (t .left) k 0)))))
+      = r-both _ _ (r-both _ _ (r-T _) (r-eq _ _)) (r-both _ _ (r-decide _) (r-both _ _ (r-T _) (r-both _ _ (r-list _ _) (r-all _ _ _ (λ k. r-eq _ _))))) in
       let ((a, c), (d, (e, (f, g)))) = r .to x in
       record { small = a; accepted = c; judged = d; shows = e; returned = f; left = g }
 
@@ -105,7 +104,7 @@ module _ (b : List ℕ) (t : Trial) (x : T (holdsB b t)) where
         called = λ s rs z l.
             let g = list-follows b (bytes-of b (T-true (areBytes b) (w .small))) s (t .calls) rs z l in
             let (e, q) = worked-only (planOf b) (means-well-formed b (w .accepted)) (g .worked) in
-            (e ∙ same-list p-returns (t .returned) (w .returned), g .bytes ∙ ap (λ (a : World). overlay (shownByte a) (8 + nodeCount b) s) q ∙ overlay-same (shownByte p-after) (λ k. getD (t .left) k 0) (8 + nodeCount b) s (w .left));
+            (e ∙ w .returned, g .bytes ∙ ap (λ (a : World). overlay (shownByte a) (8 + nodeCount b) s) q ∙ overlay-same (shownByte p-after) (λ k. getD (t .left) k 0) (8 + nodeCount b) s (w .left));
       }
 
 unfoldable pub allHoldB : List Trial → Bool

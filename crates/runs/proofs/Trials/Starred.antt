@@ -7,7 +7,7 @@ use Rattle.runs.specs.Verdict.{Verdict, CLEAR, OPEN, DOOMED}
 use Rattle.runs.specs.Calls.{Call, one}
 use Rattle.runs.specs.Model.Computing.{computing}
 use Rattle.runs.proofs.Plan.{formB}
-use Rattle.runs.proofs.Trials.Tables.{Condition, on, Row, Table, row, Order, Trial, signIn, then, Shown, has, countsB, orderedB, sameList}
+use Rattle.runs.proofs.Trials.Tables.{Condition, on, Row, Table, row, Order, Trial, signIn, then, Shown, has, countsB, orderedB}
 use Rattle.runs.proofs.Trials.Tables.{shown, showsB, holdsB, allHoldB, AllHold, all-hold}
 
 abbrev all-clear : ℕ → Bool
@@ -103,5 +103,5 @@ starred = trial (B in-order) all-clear CLEAR [] (begin 2 ∷ begin 5 ∷ end 77 
 
 -- every starred row of 01 holds
 pub starred-hold : AllHold starred
-unfolding computing signIn has countsB orderedB sameList showsB holdsB allHoldB formB
+unfolding computing signIn has countsB orderedB showsB holdsB allHoldB formB
 starred-hold = all-hold starred tt

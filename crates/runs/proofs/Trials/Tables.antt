@@ -1,6 +1,6 @@
 -- Plans written as tables, what they mean, and what a trial says of one.
-use Rattle.runs.proofs.Base.{refl, _≡_, Bool, true, false, decide, Option, none, some, List, [], _∷_, ℕ, _<_, T, eqb, ltb, getD, length}
-use Rattle.runs.specs.Tests.{both, either}
+use Rattle.runs.proofs.Base.{_≡_, Bool, true, false, decide, Option, none, some, List, [], _∷_, ℕ, _<_, T, eqb, ltb, getD, length}
+use Rattle.runs.specs.Tests.{both, either, sameList}
 use Rattle.runs.specs.Plan.{Kind, task, Place, Place-discrete, Plan, WellFormed}
 use Rattle.runs.specs.Summary.{Mark, Marked}
 use Rattle.runs.specs.Verdict.{Verdict, Verdict-discrete, Judged}
@@ -9,7 +9,7 @@ use Rattle.runs.specs.Model.Marks.{markedB}
 use Rattle.runs.specs.Model.Monitor.{returns, states}
 use Rattle.runs.specs.Model.Trees.{kindB}
 use Rattle.runs.specs.Model.Verdicts.{verdict}
-use Rattle.runs.proofs.Reflect.{clash, Reflects, r-both, r-T, r-lt, r-eq, r-decide}
+use Rattle.runs.proofs.Reflect.{clash, Reflects, r-both, r-T, r-lt, r-list, r-decide}
 use Rattle.runs.proofs.Plan.{r-kind, accepted-well-formed, formB, form-accepted}
 use Rattle.runs.proofs.Summary.{marks-exact}
 use Rattle.runs.proofs.Verdict.Exact.{verdict-exact}
@@ -129,12 +129,6 @@ pub record Holds (t : Trial) : Type 0 where
   pub worked-out : Worked (planOf (t .table)) (fresh (t .start-flags)) (t .calls) (t .returned) after
 
 -- and as one test that computes
-unfoldable pub sameList : List ℕ → List ℕ → Bool
-sameList [] [] = true
-sameList [] (y ∷ k) = false
-sameList (x ∷ l) [] = false
-sameList (x ∷ l) (y ∷ k) = both (eqb x y) (λ u. sameList l k)
-
 unfoldable pub showsB : Plan → List Shown → Bool
 showsB p [] = true
 showsB p (shown n f v m ∷ l) = both (ltb n (p .tree .size)) (λ u. both (markedB p n f v m) (λ u. showsB p l))
@@ -142,14 +136,6 @@ showsB p (shown n f v m ∷ l) = both (ltb n (p .tree .size)) (λ u. both (marke
 unfoldable pub holdsB : Trial → Bool
 holdsB t = both (formB (planOf (t .table))) (λ u. both (decide (Verdict-discrete (verdict (planOf (t .table)) (t .start-flags)) (t .answer)))
     (λ u. both (showsB (planOf (t .table)) (t .marks)) (λ u. sameList (returns (planOf (t .table)) (fresh (t .start-flags)) (t .calls)) (t .returned))))
-
-pub same-list : (l k : List ℕ) → T (sameList l k) → l ≡ k
-unfolding sameList
-same-list [] [] t = refl
-same-list [] (y ∷ k) t = absurd t
-same-list (x ∷ l) [] t = absurd t
-same-list (x ∷ l) (y ∷ k) t = let r : Reflects (both (eqb x y) (λ u. sameList l k)) ((x ≡ y) × T (sameList l k)) = r-both _ _ (r-eq _ _) (r-T _) in
-    let (e, u) = r .to t in let q = same-list l k u in rw (e, q)
 
 shows-of : (p : Plan) → WellFormed p → ((n : ℕ) → n < p .tree .size → T (p .tree .here n)) → (l : List Shown) → T (showsB p l) → Shows p l
 unfolding showsB
@@ -166,15 +152,15 @@ holds-of t x = let (a, (b, (c, d))) = r .to x in let w = table-well-formed (t .t
   judged = (verdict-exact p w (t .start-flags) (t .answer)) .0 b;
   shows = shows-of p w (λ n. (r-lt n (p .tree .size)) .from) (t .marks) c;
   after = states p (fresh (t .start-flags)) (t .calls);
-  worked-out = rw (← (same-list (returns p (fresh (t .start-flags)) (t .calls)) (t .returned) d)) (worked p w (fresh (t .start-flags)) (t .calls));
+  worked-out = rw (← d) (worked p w (fresh (t .start-flags)) (t .calls));
 }
   where
     p : Plan
     p = planOf (t .table)
 
     r : Reflects (holdsB t) (T (formB p) × ((verdict p (t .start-flags) ≡ t .answer)
-        × (T (showsB p (t .marks)) × T (sameList (returns p (fresh (t .start-flags)) (t .calls)) (t .returned)))))
-    r = r-both _ _ (r-T _) (r-both _ _ (r-decide _) (r-both _ _ (r-T _) (r-T _)))
+        × (T (showsB p (t .marks)) × (returns p (fresh (t .start-flags)) (t .calls) ≡ t .returned))))
+    r = r-both _ _ (r-T _) (r-both _ _ (r-decide _) (r-both _ _ (r-T _) (r-list _ _)))
 
 -- all of a list
 abbrev pub AllHold : List Trial → Type 0
