@@ -23,7 +23,7 @@ use Rattle.state.proofs.Refused.{roomy, state-well}
 use Rattle.answers.proofs.Overlay.{length-overlay, at-overlay, past-overlay}
 use Rattle.state.proofs.Left.{fresh-accepted}
 use Rattle.state.proofs.Passed.{has-room, byte-small}
-use Rattle.refusals.specs.Refusals.{placeOf, eventRefusal}
+use Rattle.refusals.specs.Events.{placeOf, eventRefusal}
 use Rattle.refusals.proofs.Chain.{answer-task}
 use Rattle.monitor.specs.Events.{afterEvent, eventState}
 use Rattle.monitor.proofs.Equations.{refused-22, accepted}

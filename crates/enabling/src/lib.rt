@@ -19,14 +19,14 @@ ghost use Rattle.runs.specs.Model.Monitor.{branchBegunB};
 ghost use Rattle.runs.specs.Model.Trees.{underB};
 ghost use Rattle.state.specs.State.{stateRefusal, statusIn};
 ghost use Rattle.counts.specs.Count.{num};
-ghost use Rattle.progress.specs.Progress.{childrenCounted};
+ghost use Rattle.progress.specs.Progress.{Counted};
 ghost use Rattle.progress.specs.declared.Tally.the-variants.{Begun, Ends};
 ghost use Rattle.enabling.specs.Enabling.{rivalAt, openAt};
 
 // The parent g of node n is an any-of group, and another branch of it than n is begun.
 fn rival_begun(plan: &[u8], state: &[u8], begun: &[u8; 128], g: usize, n: usize) -> bool
     requires { ⌜ (0 < n) × ((n < nodeCount (now plan)) × ((g ≡ parentOf (now plan) n) × (stateRefusal (now plan) (now state) ≡ 0))) ⌝ }
-    requires { ⌜ ((h : ℕ) → h < 128 → getD (now begun) h 0 ≡ childrenCounted Begun (now plan) (now state) h) ⌝ }
+    requires { ⌜ Counted Begun (now plan) (now state) (now begun) ⌝ }
     ensures { λ r. ⌜ r ≡ rivalAt (now (plan .entry)) (now (state .entry)) g n ⌝ }
 {
     if is_kind(plan, g, 2) {
@@ -40,7 +40,7 @@ fn rival_begun(plan: &[u8], state: &[u8], begun: &[u8; 128], g: usize, n: usize)
 // 19: walks up from the task.
 pub fn branch_begun(plan: &[u8], state: &[u8], begun: &[u8; 128], task: usize) -> bool
     requires { ⌜ (task < nodeCount (now plan)) × (stateRefusal (now plan) (now state) ≡ 0) ⌝ }
-    requires { ⌜ ((h : ℕ) → h < 128 → getD (now begun) h 0 ≡ childrenCounted Begun (now plan) (now state) h) ⌝ }
+    requires { ⌜ Counted Begun (now plan) (now state) (now begun) ⌝ }
     ensures { λ r. ⌜ r ≡ branchBegunB (planOf (now (plan .entry))) (statusIn (now (plan .entry)) (now (state .entry))) task ⌝ }
 {
     let mut n = task;
@@ -72,7 +72,7 @@ pub fn path(plan: &[u8], task: usize) -> [u8; 128]
 // Order j applies to a task whose path is marked, and its earlier node is not complete.
 fn open_at(plan: &[u8], state: &[u8], ends: &[u8; 128], marks: &[u8; 128], j: usize) -> bool
     requires { ⌜ (j < orderCount (now plan)) × (stateRefusal (now plan) (now state) ≡ 0) ⌝ }
-    requires { ⌜ ((h : ℕ) → h < 128 → getD (now ends) h 0 ≡ childrenCounted Ends (now plan) (now state) h) ⌝ }
+    requires { ⌜ Counted Ends (now plan) (now state) (now ends) ⌝ }
     ensures { λ r. ⌜ r ≡ openAt (now (plan .entry)) (now (state .entry)) (now (marks .entry)) j ⌝ }
 {
     let a = wide(earlier(plan, j));
@@ -83,7 +83,7 @@ fn open_at(plan: &[u8], state: &[u8], ends: &[u8; 128], marks: &[u8; 128], j: us
 // 20: some order is open.
 pub fn order_open(plan: &[u8], state: &[u8], ends: &[u8; 128], marks: &[u8; 128]) -> bool
     requires { ⌜ stateRefusal (now plan) (now state) ≡ 0 ⌝ }
-    requires { ⌜ ((h : ℕ) → h < 128 → getD (now ends) h 0 ≡ childrenCounted Ends (now plan) (now state) h) ⌝ }
+    requires { ⌜ Counted Ends (now plan) (now state) (now ends) ⌝ }
     ensures { λ r. ⌜ r ≡ someBelow (orderCount (now (plan .entry))) (openAt (now (plan .entry)) (now (state .entry)) (now (marks .entry))) ⌝ }
 {
     let n = orders(plan);

@@ -11,7 +11,7 @@ use Rattle.state.specs.State.{stateRefusal, worldOf}
 use Rattle.state.proofs.Passed.{well-formed}
 use Rattle.refusals.specs.declared.Move.{Move}
 use Rattle.refusals.specs.declared.Move.the-variants.{Start, Finish}
-use Rattle.refusals.specs.Refusals.{eventOf, placeOf, eventRefusal}
+use Rattle.refusals.specs.Events.{eventOf, placeOf, eventRefusal}
 use Rattle.refusals.proofs.Chain.{node-of, place-is}
 use Rattle.monitor.specs.Events.{withEvent, eventReturn, afterEvent, eventState, Called}
 use Rattle.monitor.proofs.Equations.{refused-16, refused-22, accepted}

@@ -7,7 +7,7 @@ use Rattle.runs.specs.Execution.{Event}
 use Rattle.answers.specs.Answers.{first}
 use Rattle.answers.proofs.First.{first-some}
 use Rattle.state.specs.State.{stateRefusal}
-use Rattle.refusals.specs.Refusals.{eventRefusal}
+use Rattle.refusals.specs.Events.{eventRefusal}
 use Rattle.monitor.specs.Events.{eventReturn, afterEvent, eventState}
 
 module _ (b s : List ℕ) (e : Event) where

@@ -1,7 +1,7 @@
 -- What an event's bytes show: the states that 01 works out. Assumes nothing.
 use mathlib.Core.Path.{_≡_, refl, sym, ap, _∙_, fun-ext}
 use mathlib.Core.Logic.{by-cases}
-use mathlib.Core.Bool.{Bool, true, false, cond, _&&_, true≢false}
+use mathlib.Core.Bool.{Bool, true, cond, _&&_, true≢false}
 use mathlib.Core.List.{List, _++_}
 use mathlib.Core.Option.{Option, some, none, Option·getD}
 use Prim.Native.Nat.{ℕ, _+_, _/_, _<_, _≤_}
@@ -15,7 +15,7 @@ use Rattle.flags.specs.Flags.{flagIn}
 use Rattle.flags.proofs.Laws.{same-byte, in-first}
 use Rattle.format.specs.Format.{nodeCount, flagCount, isKind}
 use Rattle.rules.specs.Search.{someBelow}
-use Rattle.rules.proofs.Laws.{and-both, and-of, not-passed, found-at, none-at, or-none}
+use Rattle.rules.proofs.Laws.{and-both, and-of, not-passed, none-all, none-at, or-none}
 use Rattle.plan.specs.Meaning.{planOf, placeNumber, signIn}
 use Rattle.plan.proofs.Meaning.{kind-is, means}
 use Rattle.runs.specs.Plan.{Place}
@@ -27,7 +27,7 @@ use Rattle.state.proofs.Refused.{room-long, state-good, state-well}
 use Rattle.state.proofs.Passed.{has-room}
 use Rattle.conditions.specs.Conditions.{made}
 use Rattle.conditions.proofs.Laws.{length-literals, made-flag}
-use Rattle.refusals.specs.Refusals.{placeOf, eventRefusal}
+use Rattle.refusals.specs.Events.{placeOf, eventRefusal}
 use Rattle.refusals.proofs.Chain.{answer-task, event-does}
 use Rattle.monitor.specs.Events.{withEvent, afterEvent, eventState}
 use Rattle.monitor.proofs.Equations.{refused-22, accepted}
@@ -107,20 +107,15 @@ module _ (b s : List ℕ) (ok : stateRefusal b s ≡ 0) (k : Place) (t x : ℕ) 
       sym
       (state-good b next (sym (room-long b next (r .accepted) (omega (arith, next-length, r .room))))
       (rw (
-        none-found 64 (λ f. leb (flagCount b) f && flagIn next f) (λ y. let w = found-at 64 (λ f. leb (flagCount b) f && flagIn next f) y in
-            let f = w .0 in
-            let a = and-both (leb (flagCount b) f) (flagIn next f) (w .2) in
-            let z : flagIn next f ≡ flagIn s f = flag-next f (w .1) ∙ ap (λ (o : Option Bool). Option·getD o (flagIn s f)) (no-sign f (leb-true (flagCount b) f (a .0))) in
-            true≢false (sym (and-of (leb (flagCount b) f) (flagIn s f) (a .0) (sym z ∙ a .1)) ∙ none-at 64 (badFlag b s) (m .0) f (w .1))),
-        none-found (nodeCount b) (badByte b next) (λ y. let w = found-at (nodeCount b) (badByte b next) y in
-            let n = w .0 in
+        none-all 64 (λ f. leb (flagCount b) f && flagIn next f) (λ f l. not-passed (leb (flagCount b) f && flagIn next f) (λ y.
+            let a = and-both (leb (flagCount b) f) (flagIn next f) y in
+            let z : flagIn next f ≡ flagIn s f = flag-next f l ∙ ap (λ (o : Option Bool). Option·getD o (flagIn s f)) (no-sign f (leb-true (flagCount b) f (a .0))) in
+            true≢false (sym (and-of (leb (flagCount b) f) (flagIn s f) (a .0) (sym z ∙ a .1)) ∙ none-at 64 (badFlag b s) (m .0) f l))),
+        none-all (nodeCount b) (badByte b next) (λ n l.
             by-cases (ℕ-discrete n t)
-            (λ (e : n ≡ t). true≢false (sym (w .2) ∙ rw (e, task, byte-own) (le-ltb 2 x small)))
-            (λ e. true≢false (sym (w .2) ∙ rw (byte-other n e) (none-at (nodeCount b) (badByte b s) (m .1) n (w .1))))),
+            (λ (e : n ≡ t). rw (e, task, byte-own) (le-ltb 2 x small))
+            (λ e. rw (byte-other n e) (none-at (nodeCount b) (badByte b s) (m .1) n l))),
       )))
-    where
-      none-found : (n : ℕ) (p : ℕ → Bool) → (someBelow n p ≡ true → ⊥) → someBelow n p ≡ false
-      none-found n p h = not-passed (someBelow n p) h
 
 -- ---- the step of an event
 code-none : (o : Option Refusal) → code o ≡ 0 → o ≡ none

@@ -11,7 +11,7 @@ use Rattle.runs.specs.Calls.{one, statusByte, Answered}
 use Rattle.answers.specs.Answers.{first}
 use Rattle.state.specs.State.{stateRefusal, worldOf}
 use Rattle.conditions.specs.Conditions.{made}
-use Rattle.refusals.specs.Refusals.{placeOf, eventRefusal}
+use Rattle.refusals.specs.Events.{placeOf, eventRefusal}
 
 -- 1 to 16, then 17 to 22
 unfoldable pub eventReturn : List ℕ → List ℕ → Event → ℕ

@@ -15,7 +15,7 @@ ghost use Rattle.format.specs.Format.{nodeCount};
 ghost use Rattle.runs.specs.Execution as execution;
 ghost use Rattle.runs.specs.Calls.{statusByte};
 ghost use Rattle.state.specs.State.{stateRefusal};
-ghost use Rattle.refusals.specs.Refusals.{eventOf};
+ghost use Rattle.refusals.specs.Events.{eventOf};
 ghost use Rattle.monitor.specs.Status.{Told};
 ghost use Rattle.monitor.specs.Events.{withEvent, Called};
 

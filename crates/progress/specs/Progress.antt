@@ -1,7 +1,9 @@
 -- What the pass over the nodes counts: children that are begun; complete children of an any-of group, incomplete ones of another.
-use Prim.Native.Nat.{ℕ}
+use Prim.Native.Nat.{ℕ, _<_}
+use mathlib.Core.Path.{_≡_}
 use mathlib.Core.Bool.{Bool, _&&_}
 use mathlib.Core.List.{List}
+use lib.ListN.{getD}
 use Rattle.format.specs.Format.{nodeCount, isKind}
 use Rattle.rules.specs.Rules.{isChild}
 use Rattle.plan.specs.Meaning.{planOf}
@@ -21,3 +23,7 @@ countedChild k b s g c = isChild b g c && countedAt k b s g c
 
 unfoldable pub childrenCounted : Tally → List ℕ → List ℕ → ℕ → ℕ
 childrenCounted k b s g = countBelow (nodeCount b) (countedChild k b s g)
+
+-- the table has the number of each node's counted children
+abbrev pub Counted : Tally → List ℕ → List ℕ → List ℕ → Type 0
+Counted k b s table = (g : ℕ) → g < 128 → getD table g 0 ≡ childrenCounted k b s g

@@ -10,7 +10,7 @@ ghost use Rattle.format.specs.Format.{nodeCount};
 ghost use Rattle.plan.specs.Meaning.{planOf};
 ghost use Rattle.runs.specs.Model.Monitor.{completeB, begunB};
 ghost use Rattle.state.specs.State.{stateRefusal, statusIn};
-ghost use Rattle.progress.specs.Progress.{countedAt, childrenCounted};
+ghost use Rattle.progress.specs.Progress.{countedAt, childrenCounted, Counted};
 
 // Which children of a group are counted: those that are begun; or, for an any-of group the complete ones, for another those that are not.
 pub enum Tally {
@@ -76,7 +76,7 @@ pub fn blank() -> [u8; 128]
 // The number of counted children of each node.
 pub fn children(plan: &[u8], state: &[u8], tally: Tally) -> [u8; 128]
     requires { ⌜ stateRefusal (now plan) (now state) ≡ 0 ⌝ }
-    ensures { λ r. ⌜ (length r ≡ 128) × ((g : ℕ) → g < 128 → getD r g 0 ≡ childrenCounted tally (now (plan .entry)) (now (state .entry)) g) ⌝ }
+    ensures { λ r. ⌜ (length r ≡ 128) × Counted tally (now (plan .entry)) (now (state .entry)) r ⌝ }
 {
     let n = nodes(plan);
     let mut table = blank();

@@ -31,7 +31,8 @@ use Rattle.conditions.specs.Conditions.{made, brokenAt}
 use Rattle.conditions.proofs.Refusals.{broken-is}
 use Rattle.refusals.specs.declared.Move.{Move}
 use Rattle.refusals.specs.declared.Move.the-variants.{Start, Finish}
-use Rattle.refusals.specs.Refusals.{eventOf, placeOf, eventRefusal, treeRefusal, beginRefusal}
+use Rattle.refusals.specs.Events.{eventOf, placeOf, eventRefusal}
+use Rattle.refusals.specs.Parts.{treeRefusal, beginRefusal}
 
 -- ---- moves
 -- what does not depend on the task

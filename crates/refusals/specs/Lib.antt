@@ -1,1 +1,2 @@
-pub mod Refusals
+pub mod Events
+pub mod Parts

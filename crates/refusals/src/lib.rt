@@ -15,7 +15,8 @@ ghost use Rattle.plan.specs.Meaning.{placeNumber};
 ghost use Rattle.runs.specs.Execution as execution;
 ghost use Rattle.runs.specs.Calls.{asks, statusByte};
 ghost use Rattle.state.specs.State.{stateRefusal};
-ghost use Rattle.refusals.specs.Refusals.{eventOf, placeOf, treeRefusal, beginRefusal, eventRefusal};
+ghost use Rattle.refusals.specs.Events.{eventOf, placeOf, eventRefusal};
+ghost use Rattle.refusals.specs.Parts.{treeRefusal, beginRefusal};
 
 // How a call moves its task on.
 pub enum Move {

@@ -93,6 +93,10 @@ found-at (suc n) p h =
 pub none-at : (n : ℕ) (p : ℕ → Bool) → someBelow n p ≡ false → (i : ℕ) → i < n → p i ≡ false
 none-at n p h i l = not-passed (p i) (λ y. true≢false (sym (some-yes n p i l y) ∙ h))
 
+-- and conversely
+pub none-all : (n : ℕ) (p : ℕ → Bool) → ((i : ℕ) → i < n → p i ≡ false) → someBelow n p ≡ false
+none-all n p h = not-passed (someBelow n p) (λ y. let w = found-at n p y in true≢false (sym (w .2) ∙ h (w .0) (w .1)))
+
 -- the same tests find the same
 pub some-same : (n : ℕ) (p q : ℕ → Bool) → ((i : ℕ) → i < n → p i ≡ q i) → someBelow n p ≡ someBelow n q
 some-same n p q h =

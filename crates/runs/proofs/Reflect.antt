@@ -1,7 +1,7 @@
 -- Tests reflect what they test. `Reflects b A`: the test b is true exactly if A holds. The laws named `r-x` are gathered in the ruleset `reflection`.
-use Rattle.runs.proofs.Base.{_≡_, refl, ap, _⊎_, inl, inr, _↔_, Bool, true, false, decide, Option, none, some, ℕ, zero, suc, _<_, arith}
+use Rattle.runs.proofs.Base.{_≡_, refl, ap, _⊎_, inl, inr, _↔_, Bool, true, false, decide, Option, none, some, List, [], _∷_, ℕ, zero, suc, _<_, arith}
 use Rattle.runs.proofs.Base.{ℕ-discrete, T, eqb, ltb, eqb→eq, eqb-refl, ltb→lt, lt→ltb}
-use Rattle.runs.specs.Tests.{both, either, implies, negate, anyBelow, allBelow, sameB, isNone, isSome}
+use Rattle.runs.specs.Tests.{both, either, implies, negate, anyBelow, allBelow, sameB, sameList, isNone, isSome}
 
 -- two constructors are equal: `clash cc`
 pub clash : {A : Type 0} → _≡_ {A = ℕ} 0 1 → A
@@ -116,6 +116,13 @@ r-decide (no k) = record { to = λ t. absurd t; from = λ x. k x }
 
 pub r-eq : (a b : ℕ) → Reflects (eqb a b) (a ≡ b)
 r-eq a b = record { to = eqb→eq a b; from = λ e. rw e (eqb-refl b) }
+
+pub r-list : (l k : List ℕ) → Reflects (sameList l k) (l ≡ k)
+unfolding sameList
+r-list [] [] = record { to = λ t. refl; from = λ e. tt }
+r-list [] (y ∷ k) = record { to = λ t. absurd t; from = λ e. clash cc }
+r-list (x ∷ l) [] = record { to = λ t. absurd t; from = λ e. clash cc }
+r-list (x ∷ l) (y ∷ k) = r-map (λ h. rw (h .0, h .1), λ e. (cc, cc)) (r-both (eqb x y) (λ u. sameList l k) (r-eq x y) (r-list l k))
 
 pub r-lt : (a b : ℕ) → Reflects (ltb a b) (a < b)
 r-lt a b = record { to = ltb→lt a b; from = lt→ltb a b }

@@ -1,7 +1,7 @@
 -- What the fresh state shows, and that it is well formed. Assumes nothing.
 use mathlib.Core.Path.{_≡_, refl, sym, _∙_, fun-ext}
 use mathlib.Core.Logic.{by-cases, ⊎-elim}
-use mathlib.Core.Bool.{Bool, true, false, cond, not, _&&_, true≢false, and-false}
+use mathlib.Core.Bool.{Bool, true, false, cond, not, _&&_, and-false}
 use mathlib.Core.List.{List}
 use Prim.Native.Nat.{ℕ, _+_, _/_, _<_, _≤_}
 use native.Mathlib.Decide.{decLt}
@@ -13,8 +13,7 @@ use Rattle.answers.proofs.Overlay.{length-overlay, at-overlay}
 use Rattle.bits.specs.Bits.{bit}
 use Rattle.flags.specs.Flags.{flagIn}
 use Rattle.format.specs.Format.{nodeCount, flagCount, startFlag, isKind}
-use Rattle.rules.specs.Search.{someBelow}
-use Rattle.rules.proofs.Laws.{either, found-at, not-passed}
+use Rattle.rules.proofs.Laws.{either, none-all, not-passed}
 use Rattle.plan.specs.Meaning.{startOf}
 use Rattle.plan.proofs.Accepted.{start-below}
 use Rattle.plan.proofs.Meaning.{kind-is}
@@ -23,9 +22,6 @@ use Rattle.runs.specs.Calls as calls
 use Rattle.state.specs.State.{byteOf, badFlag, badByte, malformed, roomRefusal, stateRefusal, statusAt, statusIn, flagShown, worldOf}
 use Rattle.state.specs.Fresh.{freshByte, freshState}
 use Rattle.state.proofs.Refused.{Roomy, roomy, room-long, state-good}
-
-none-found : (n : ℕ) (p : ℕ → Bool) → ((i : ℕ) → i < n → p i ≡ false) → someBelow n p ≡ false
-none-found n p h = not-passed _ (λ y. let w = found-at n p y in true≢false (sym (w .2) ∙ h (w .0) (w .1)))
 
 module _ (b s : List ℕ) (r : Roomy b s) where
   written : List ℕ
@@ -47,8 +43,8 @@ module _ (b s : List ℕ) (r : Roomy b s) where
   unfolding malformed badFlag badByte
   well-formed =
       rw (
-        none-found 64 (λ f. leb (flagCount b) f && flagIn written f) (λ f l. by-cases (decLt f (flagCount b)) (λ (h : f < flagCount b). rw (lt-leb (flagCount b) f h)) (λ h. rw (fresh-flag f l, start-past f (omega arith) l) (and-false (leb (flagCount b) f)))),
-        none-found (nodeCount b) (λ n. cond (isKind b n 0) (ltb 2 (byteOf written n)) (not (eqb (byteOf written n) 0))) (λ n l. rw (fresh-node n l) (alike (isKind b n 0))),
+        none-all 64 (λ f. leb (flagCount b) f && flagIn written f) (λ f l. by-cases (decLt f (flagCount b)) (λ (h : f < flagCount b). rw (lt-leb (flagCount b) f h)) (λ h. rw (fresh-flag f l, start-past f (omega arith) l) (and-false (leb (flagCount b) f)))),
+        none-all (nodeCount b) (λ n. cond (isKind b n 0) (ltb 2 (byteOf written n)) (not (eqb (byteOf written n) 0))) (λ n l. rw (fresh-node n l) (alike (isKind b n 0))),
       )
     where
       alike : (x : Bool) → cond x false false ≡ false

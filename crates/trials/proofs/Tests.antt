@@ -18,12 +18,12 @@ use Rattle.plan.proofs.Meaning.{means-well-formed}
 use Rattle.plan.proofs.Nodes.{is-node}
 use Rattle.runs.specs.Calls.{World, fresh}
 use Rattle.runs.specs.Summary.{Mark, Marked}
-use Rattle.runs.specs.Tests.{both, allBelow}
+use Rattle.runs.specs.Tests.{both, allBelow, sameList}
 use Rattle.runs.specs.Verdict.{Verdict-discrete}
 use Rattle.runs.specs.Model.Marks.{markedB}
 use Rattle.runs.specs.Model.Monitor.{returns, states}
 use Rattle.runs.specs.Model.Verdicts.{verdict}
-use Rattle.runs.proofs.Reflect.{Reflects, r-both, r-T, r-eq, r-lt, r-decide, r-all, T-true}
+use Rattle.runs.proofs.Reflect.{T-true, Reflects, r-both, r-T, r-eq, r-list, r-lt, r-decide, r-all}
 use Rattle.runs.proofs.Summary.Exact.{marks-exact}
 use Rattle.runs.proofs.Calls.First.{worked-only}
 use Rattle.calls.specs.Shown.{shownByte}
@@ -44,21 +44,6 @@ overlay-same : (f g : ℕ → ℕ) (n : ℕ) (xs : List ℕ) → ((k : ℕ) → 
 unfolding overlay
 overlay-same f g zero xs h = refl
 overlay-same f g (suc n) xs h = rw (overlay-same f g n xs (λ k l. h k (omega arith)), h n (omega arith))
-
--- ---- lists
-unfoldable pub sameList : List ℕ → List ℕ → Bool
-sameList [] [] = true
-sameList [] (y ∷ k) = false
-sameList (x ∷ l) [] = false
-sameList (x ∷ l) (y ∷ k) = both (eqb x y) (λ u. sameList l k)
-
-same-list : (l k : List ℕ) → T (sameList l k) → l ≡ k
-unfolding sameList
-same-list [] [] t = refl
-same-list [] (y ∷ k) t = absurd t
-same-list (x ∷ l) [] t = absurd t
-same-list (x ∷ l) (y ∷ k) t = let r : Reflects (both (eqb x y) (λ u. sameList l k)) ((x ≡ y) × T (sameList l k)) = r-both _ _ (r-eq _ _) (r-T _) in
-    let (e, u) = r .to t in let q = same-list l k u in rw (e, q)
 
 -- ---- the test
 unfoldable pub showsB : List ℕ → List Shown → Bool
@@ -96,15 +81,15 @@ module _ (b : List ℕ) (t : Trial) (x : T (holdsB b t)) where
     accepted : refusal b ≡ 0
     judged : verdict (planOf b) (startOf b) ≡ t .verdict
     shows : T (showsB b (t .marks))
-    returned : T (sameList p-returns (t .returned))
+    returned : p-returns ≡ t .returned
     left : (k : ℕ) → k < 8 + nodeCount b → shownByte p-after k ≡ getD (t .left) k 0
 
   passed : Passed
   unfolding holdsB leftB
   passed =
       let r : Reflects (holdsB b t) ((T (areBytes b) × (refusal b ≡ 0)) × ((verdict (planOf b) (startOf b) ≡ t .verdict)
-      × (T (showsB b (t .marks)) × (T (sameList p-returns (t .returned)) × ((k : ℕ) → k < 8 + nodeCount b → shownByte p-after k ≡ getD (t .left) k 0)))))
-      = r-both _ _ (r-both _ _ (r-T _) (r-eq _ _)) (r-both _ _ (r-decide _) (r-both _ _ (r-T _) (r-both _ _ (r-T _) (r-all _ _ _ (λ k. r-eq _ _))))) in
+      × (T (showsB b (t .marks)) × ((p-returns ≡ t .returned) × ((k : ℕ) → k < 8 + nodeCount b → shownByte p-after k ≡ getD (t .left) k 0)))))
+      = r-both _ _ (r-both _ _ (r-T _) (r-eq _ _)) (r-both _ _ (r-decide _) (r-both _ _ (r-T _) (r-both _ _ (r-list _ _) (r-all _ _ _ (λ k. r-eq _ _))))) in
       let ((a, c), (d, (e, (f, g)))) = r .to x in
       record { small = a; accepted = c; judged = d; shows = e; returned = f; left = g }
 
@@ -119,7 +104,7 @@ module _ (b : List ℕ) (t : Trial) (x : T (holdsB b t)) where
         called = λ s rs z l.
             let g = list-follows b (bytes-of b (T-true (areBytes b) (w .small))) s (t .calls) rs z l in
             let (e, q) = worked-only (planOf b) (means-well-formed b (w .accepted)) (g .worked) in
-            (e ∙ same-list p-returns (t .returned) (w .returned), g .bytes ∙ ap (λ (a : World). overlay (shownByte a) (8 + nodeCount b) s) q ∙ overlay-same (shownByte p-after) (λ k. getD (t .left) k 0) (8 + nodeCount b) s (w .left));
+            (e ∙ w .returned, g .bytes ∙ ap (λ (a : World). overlay (shownByte a) (8 + nodeCount b) s) q ∙ overlay-same (shownByte p-after) (λ k. getD (t .left) k 0) (8 + nodeCount b) s (w .left));
       }
 
 unfoldable pub allHoldB : List Trial → Bool

@@ -29,20 +29,8 @@ below c =
     let k = a .before .least .ensures in
     ((omega arith, omega arith), omega arith)
 
-fresh-requires : tie.Need-fresh-requires Inv-loop μ-loop
-fresh-requires c κs = tt
-
-same-length : tie.Need-same-length Inv-loop μ-loop
-same-length c = search needs
-
 returns : tie.Need-returns Inv-loop μ-loop
 returns c = ran-refused _ _ _ _ _ _ (c .before .before .before .fresh .ensures) (c .if1 .taken)
-
-least-requires : tie.Need-least-requires Inv-loop μ-loop
-least-requires c κs = tt
-
-least-requires-2 : tie.Need-least-requires-2 Inv-loop μ-loop
-least-requires-2 c κs = tt
 
 loop-holds : tie.Need-loop-holds Inv-loop μ-loop
 loop-holds c = ((omega arith, refl), partly-none _ _ _ _)
@@ -56,20 +44,11 @@ mul-make c = omega (arith, below (c .before .before) .0 .1)
 shared-slice-read-make-2 : tie.Need-shared-slice-read-make-2 Inv-loop μ-loop
 shared-slice-read-make-2 c = below (c .before .before .before) .0 .1
 
-make-requires : tie.Need-make-requires Inv-loop μ-loop
-make-requires c κs = tt
-
 mul-returns : tie.Need-mul-returns Inv-loop μ-loop
 mul-returns c = omega (arith, below (c .before .before .before .before .before .before) .1)
 
 slice-write-returns : tie.Need-slice-write-returns Inv-loop μ-loop
 slice-write-returns c = omega (arith, below (c .before .before .before .before .before .before) .1, partly-length _ _ _ _ _ _ _ (c .before .before .before .before .before .before .before .loop .inv .1) (omega (arith, below (c .before .before .before .before .before .before) .1)))
-
-add-i : tie.Need-add-i Inv-loop μ-loop
-add-i c = omega arith
-
-loop-less : tie.Need-loop-less Inv-loop μ-loop
-loop-less c = omega arith
 
 loop-again : tie.Need-loop-again Inv-loop μ-loop
 loop-again c =
@@ -79,9 +58,6 @@ loop-again c =
     let q : l .i < length (callsOf (now (a .finishes)) (now (a .tasks)) (now (a .returns))) = omega (arith, count (c .before .before .before .before .before .before .before .before), c .before .before .before .before .before .before .loop-test .taken) in
     let z : length (c .before .before .make .last .1 .0) ≡ length (l .state) = search needs in
     ((omega (arith, c .before .before .before .before .before .before .loop-test .taken), z ∙ l .inv .0 .1), partly-more _ _ _ _ _ _ _ (l .inv .1) q (b .1) _ _ _ (calls-at (now (a .finishes)) (now (a .tasks)) (now (a .returns)) (l .i) q) (c .before .before .make .ensures))
-
-same-length-2 : tie.Need-same-length-2 Inv-loop μ-loop
-same-length-2 c = search needs
 
 same-length-3 : tie.Need-same-length-3 Inv-loop μ-loop
 same-length-3 c = partly-length _ _ _ _ _ _ _ (c .before .loop .inv .1) (omega (arith, c .before .before .least2 .ensures, c .before .before .before .least .ensures, c .before .loop .inv .0 .0))
@@ -100,21 +76,21 @@ replay-spec =
     (tie.spec
     Inv-loop
     μ-loop
-    fresh-requires
-    same-length
+    (λ c κs. tt)
+    (λ c. search needs)
     returns
-    least-requires
-    least-requires-2
+    (λ c κs. tt)
+    (λ c κs. tt)
     loop-holds
     shared-slice-read-make
     mul-make
     shared-slice-read-make-2
-    make-requires
+    (λ c κs. tt)
     mul-returns
     slice-write-returns
-    add-i
-    loop-less
+    (λ c. omega arith)
+    (λ c. omega arith)
     loop-again
-    same-length-2
+    (λ c. search needs)
     same-length-3
     returns-2)

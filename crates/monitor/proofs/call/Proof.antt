@@ -3,7 +3,7 @@ use mathlib.Core.Path.{_≡_, sym, _∙_}
 use denote.Ref.{now}
 use Rattle.plan.proofs.Meaning.{kind-is}
 use Rattle.state.specs.State.{stateRefusal}
-use Rattle.refusals.specs.Refusals.{eventOf, eventRefusal}
+use Rattle.refusals.specs.Events.{eventOf, eventRefusal}
 use Rattle.refusals.proofs.Chain.{node-of, answer-task}
 use Rattle.monitor.proofs.Called.{called-16, called-22, called-0}
 use borrow.Author.Needs.{needs}

@@ -13,7 +13,8 @@ use Rattle.runs.specs.Execution.{Status}
 use Rattle.runs.specs.Model.Monitor.{incBrokenB}
 use Rattle.state.specs.State.{byteOf, statusIn}
 use Rattle.state.proofs.Passed.{has-room}
-use Rattle.refusals.specs.Refusals.{eventOf, beginRefusal}
+use Rattle.refusals.specs.Events.{eventOf}
+use Rattle.refusals.specs.Parts.{beginRefusal}
 use Rattle.refusals.proofs.Chain.{asks-of, place-is, node-of, answer-17, answer-18, answer-begin, answer-broken, broken-by}
 use native.Mathlib.Omega.{arith}
 use Rattle.refusals.proofs.refused.Statement.{statement}

@@ -1,6 +1,6 @@
 -- One name for all the tests and functions that compute: a proof by computation writes `unfolding computing`. Definitions only.
 use mathlib.Core.Bool.{decide}
-use Rattle.runs.specs.Tests.{both, either, implies, negate, anyBelow, allBelow, sameB, isNone, isSome}
+use Rattle.runs.specs.Tests.{both, either, implies, negate, anyBelow, allBelow, sameB, sameList, isNone, isSome}
 use Rattle.runs.specs.Model.Marks.{quietIn, meetIn, lastIn, quietB, meetB, lastB, unassertedB, preB, assertsB, beginsIncB, neutralB, coversB}
 use Rattle.runs.specs.Model.Marks.{avoidB, mayPreB, mustPreB, mayPostB, mustPostB, mayIncB, mustIncB, conditionB, silentB, avoidedB, pairB}
 use Rattle.runs.specs.Model.Marks.{mayClobberIn, mayClobberB, aloneB, undisturbedB, mustClobberIn, mustClobberB, markedB}
@@ -11,7 +11,7 @@ use Rattle.runs.specs.Model.Trees.{unorderedB}
 use Rattle.runs.specs.Model.Verdicts.{failsB, someLiteralB, mayFailB, mustFailB, judge, verdict}
 
 unfoldable pub computing : Unit {0}
-unfolding decide both either implies negate anyBelow allBelow sameB isNone isSome kindB picksB byKind childB someChildB everyChildB underIn underB someTaskB
+unfolding decide both either implies negate anyBelow allBelow sameB sameList isNone isSome kindB picksB byKind childB someChildB everyChildB underIn underB someTaskB
     beforeIn beforeB unorderedB quietIn meetIn lastIn quietB meetB lastB unassertedB preB assertsB beginsIncB neutralB coversB avoidB mayPreB mustPreB mayPostB
     mustPostB mayIncB mustIncB conditionB silentB avoidedB pairB mayClobberIn mayClobberB aloneB undisturbedB mustClobberIn mustClobberB markedB failsB
     someLiteralB mayFailB mustFailB judge verdict statusB oppositeB taskB completeIn completeB begunB rivalB branchBegunB orderOpenB incBrokenB preUnmetB

@@ -1,14 +1,12 @@
--- The refusals 17 to 22 of an event, in terms of the states that 01 works out (`returned` of runs), and two parts of their chain.
+-- The events that moves are, and the refusals 17 to 22 of an event, in terms of the states that 01 works out (`returned` of runs).
 use Prim.Native.Nat.{ℕ}
-use mathlib.Core.Bool.{cond}
 use mathlib.Core.List.{List}
 use Rattle.plan.specs.Meaning.{planOf}
 use Rattle.runs.specs.Plan.{Place, inc, post}
 use Rattle.runs.specs.Execution.{Event, start, finish}
 use Rattle.runs.specs.Calls.{one}
-use Rattle.runs.specs.Model.Monitor.{returned, branchBegunB, orderOpenB, preUnmetB}
-use Rattle.answers.specs.Answers.{first}
-use Rattle.state.specs.State.{statusIn, flagShown, worldOf}
+use Rattle.runs.specs.Model.Monitor.{returned}
+use Rattle.state.specs.State.{worldOf}
 use Rattle.refusals.specs.declared.Move.{Move}
 use Rattle.refusals.specs.declared.Move.the-variants.{Start, Finish}
 
@@ -25,12 +23,3 @@ placeOf (finish t) = post
 -- the first of 17 to 22 that applies, or 0
 abbrev pub eventRefusal : List ℕ → List ℕ → Event → ℕ
 eventRefusal b s e = returned (planOf b) (worldOf b s) (one e)
-
--- 19 and 20
-unfoldable pub treeRefusal : List ℕ → List ℕ → ℕ → ℕ
-treeRefusal b s t = cond (branchBegunB (planOf b) (statusIn b s) t) 19 (cond (orderOpenB (planOf b) (statusIn b s) t) 20 0)
-
--- 19 to 21, which are asked of a start only
-unfoldable pub beginRefusal : List ℕ → List ℕ → Event → ℕ
-beginRefusal b s (start t) = first (treeRefusal b s t) (cond (preUnmetB (planOf b) (flagShown s) (start t)) 21 0)
-beginRefusal b s (finish t) = 0
