@@ -12,7 +12,7 @@ use Rattle.runs.specs.Verdict.{Verdict, CLEAR, DOOMED, OPEN}
 use Rattle.runs.specs.Model.Verdicts.{verdict}
 use Rattle.lengths.specs.Waits.{lengthOf}
 use Rattle.lengths.proofs.Bounds.{end-limit}
-use Rattle.lines.specs.Order.{ranking}
+use Rattle.ranking.specs.Order.{ranking}
 use Rattle.lines.specs.Lines.{ending, linesOf}
 use Rattle.lines.proofs.Text.{ending-limit, lines-limit}
 use Rattle.listing.specs.Text.{letters, firstLine, textOf, refusedText}
