@@ -23,10 +23,10 @@ use Rattle.runs.proofs.Verdict.Exact.{verdict-exact}
 use Rattle.listing.specs.Text.{textOf, refusedText, printed}
 use Rattle.listing.specs.Listing.{listingRefusal, listedOf, listingLeft, TellsVerdict, Lists, Prints}
 use Rattle.listing.specs.declared.Listed.the-variants.{Refused, Text}
-use Rattle.listing.proofs.Text.{text-fits, refusal-limit, refused-length}
+use Rattle.listing.proofs.Text.{text-fits, refusal-limit, refused-length, printed-text, printed-refused}
 
 -- what an answer says of the refusal
-said-value : {A : Type 0} (r : ℕ) (x v : A) → inr v ≡ refusedOr r x → (r ≡ 0) × (v ≡ x)
+pub said-value : {A : Type 0} (r : ℕ) (x v : A) → inr v ≡ refusedOr r x → (r ≡ 0) × (v ≡ x)
 said-value zero x v e = (refl, cc)
 said-value (suc r) x v e = absurd (let z : _≡_ {A = ℕ} 0 1 = cc in omega arith)
 
@@ -80,14 +80,6 @@ module _ (b out : List ℕ) where
       record { answer = rw (z, q); bytes = w .bytes ∙ sym (left-text z); judged = told-verdict b }
 
   -- ---- what was answered where there is room
-  printed-text : refusal b ≡ 0 → textOf b ≡ printed b
-  unfolding printed
-  printed-text e = rw e
-
-  printed-refused : (refusal b ≡ 0 → ⊥) → refusedText (refusal b) ≡ printed b
-  unfolding printed
-  printed-refused h = rw (ne-eqb (refusal b) 0 h)
-
   accepted-plan : listingRefusal b out ≡ 0 → refusal b ≡ 0
   unfolding listingRefusal
   accepted-plan e = both-none (refusal b) (cond (ltb (length out) 2048) 15 0) e .0
@@ -96,7 +88,7 @@ module _ (b out : List ℕ) where
   unfolding listedOf
   text-answered {r} h =
       let w = said-value (listingRefusal b out) (length (textOf b)) r (h .answer) in
-      wrote-same (printed-text (accepted-plan (w .0))) (record { bytes = h .bytes ∙ left-text (w .0); next = omega (arith, w .1) })
+      wrote-same (printed-text b (accepted-plan (w .0))) (record { bytes = h .bytes ∙ left-text (w .0); next = omega (arith, w .1) })
 
   pub refused-answered : {n : ℕ} {out' : List ℕ} → 2048 ≤ length out → Lists b out (Refused n) out' → (n ≤ 14) × (refusedText n ≡ printed b) × (out' ≡ out)
   unfolding listedOf
@@ -104,14 +96,14 @@ module _ (b out : List ℕ) where
       let w = said-number (listingRefusal b out) n (length (textOf b)) (h .answer) in
       let p : refusal b ≡ 0 → ⊥ = λ z. w .1 (refused-none z l) in
       let e : n ≡ refusal b = w .0 ∙ refused-first p in
-      (omega (arith, refusal-limit b), ap refusedText e ∙ printed-refused p, h .bytes ∙ left-out (w .1))
+      (omega (arith, refusal-limit b), ap refusedText e ∙ printed-refused b p, h .bytes ∙ left-out (w .1))
 
 -- ---- all that is printed fits too
 pub printed-fits : (b : List ℕ) → length (printed b) ≤ 1679
 printed-fits b =
     by-cases (ℕ-discrete (refusal b) 0)
-    (λ (e : refusal b ≡ 0). rw (← printed-text b b e) (text-fits (clean b e)))
-    (λ e. rw (← printed-refused b b e) (omega (arith, refused-length (refusal b) (refusal-limit b))))
+    (λ (e : refusal b ≡ 0). rw (← printed-text b e) (text-fits (clean b e)))
+    (λ e. rw (← printed-refused b e) (omega (arith, refused-length (refusal b) (refusal-limit b))))
 
 pub prints : (b : List ℕ) {out out' : List ℕ} {r : ℕ} → 2048 ≤ length out → Wrote out 0 (printed b) out' r → Prints b out out' r
 prints b {out' = out'} {r} l w =
