@@ -7,7 +7,7 @@ use Rattle.plan.specs.Meaning.{kindAt}
 use Rattle.decimals.specs.Decimals.{decimalBy, decimal}
 use Rattle.lengths.specs.Waits.{greatest, waitBy, lengthAs, lengthBy, lengthOf, waitWithin, waitsTo, longestWait}
 use Rattle.examples.specs.Plans.{planB}
-use Rattle.lines.specs.Order.{inserted, rankedTo, ranking}
+use Rattle.ranking.specs.Order.{inserted, rankedTo, ranking}
 use Rattle.lines.specs.Lines.{nameOf, ending, lineOf, linesOf}
 
 -- RADI 12, SATL 12, CAST 0

@@ -1,5 +1,3 @@
--- The order of the task lines, and their text.
-pub mod Order
-pub mod Places
+-- The text of the task lines.
 pub mod Text
 pub mod Examples

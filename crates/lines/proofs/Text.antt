@@ -13,9 +13,10 @@ use Rattle.decimals.proofs.Laws.{length-limit}
 use Rattle.decimals.proofs.Written.{written-none, wrote-then, wrote-same}
 use Rattle.lengths.specs.Waits.{longestWait}
 use Rattle.lengths.proofs.Bounds.{end-limit}
-use Rattle.lines.specs.Order.{rankedTo, ranking}
-use Rattle.lines.specs.Lines.{nameOf, ending, lineOf, linesOf, Ranking}
-use Rattle.lines.proofs.Order.{Among, here, there, among-at, ranked-task, ranked-length}
+use Rattle.ranking.specs.Order.{rankedTo, ranking}
+use Rattle.ranking.specs.Places.{Ranking}
+use Rattle.ranking.proofs.Order.{Among, here, there, among-at, ranked-task, ranked-length}
+use Rattle.lines.specs.Lines.{nameOf, ending, lineOf, linesOf}
 
 pub name-length : (b : List ℕ) (n : ℕ) → length (nameOf b n) ≡ 4
 unfolding nameOf

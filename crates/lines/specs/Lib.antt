@@ -1,3 +1,2 @@
 -- The task lines of the listing.
-pub mod Order
 pub mod Lines

@@ -1,12 +1,9 @@
 -- The task lines. Definitions only.
 use Prim.Native.Nat.{ℕ, _+_, _*_}
-use mathlib.Core.Path.{_≡_}
 use mathlib.Core.List.{List, [], _∷_, _++_}
-use lib.ListN.{length, take}
 use Rattle.format.specs.Format.{nameChar}
 use Rattle.decimals.specs.Decimals.{decimal}
 use Rattle.lengths.specs.Waits.{longestWait}
-use Rattle.lines.specs.Order.{ranking}
 
 -- the four characters of a name
 unfoldable pub nameOf : List ℕ → ℕ → List ℕ
@@ -23,9 +20,3 @@ lineOf b t = nameOf b t ++ ending (longestWait b t)
 unfoldable pub linesOf : List ℕ → List ℕ → List ℕ
 linesOf b [] = []
 linesOf b (t ∷ ts) = lineOf b t ++ linesOf b ts
-
--- the first k places of the table are the tasks in the order of their lines
-pub record Ranking (b ranked : List ℕ) (k : ℕ) : Type 0 where
-  pub long : length ranked ≡ 128
-  pub count : k ≡ length (ranking b)
-  pub is : take k ranked ≡ ranking b

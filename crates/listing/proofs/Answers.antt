@@ -1,4 +1,4 @@
--- What the listing answers, by the verdict's answer; and what is printed, by the listing's. Assumes nothing.
+-- What the listing answers; and what is printed, by the listing's answer. Assumes nothing.
 use mathlib.Core.Path.{_≡_, refl, sym, ap, _∙_}
 use mathlib.Core.Logic.{inl, inr, by-cases}
 use mathlib.Core.Bool.{cond}
@@ -18,29 +18,24 @@ use Rattle.decimals.proofs.Written.{wrote-long, wrote-same}
 use Rattle.plan.specs.Meaning.{planOf, startOf}
 use Rattle.plan.proofs.Accepted.{clean}
 use Rattle.plan.proofs.Meaning.{means-well-formed}
-use Rattle.runs.specs.Verdict.{Judged}
 use Rattle.runs.specs.Model.Verdicts.{verdict}
 use Rattle.runs.proofs.Verdict.Exact.{verdict-exact}
-use Rattle.verdict.specs.Verdict.{wordOf, said, answerOf, Assessed}
-use Rattle.verdict.specs.declared.Verdict.{Verdict}
-use Rattle.verdict.specs.declared.Answer.{Answer}
-use Rattle.verdict.specs.declared.Answer.the-variants as answers
 use Rattle.listing.specs.Text.{textOf, refusedText, printed}
-use Rattle.listing.specs.Listing.{listingRefusal, listedOf, listingLeft, Lists, Prints}
+use Rattle.listing.specs.Listing.{listingRefusal, listedOf, listingLeft, TellsVerdict, Lists, Prints}
 use Rattle.listing.specs.declared.Listed.the-variants.{Refused, Text}
-use Rattle.listing.proofs.Text.{text-fits, refusal-limit, refused-length}
+use Rattle.listing.proofs.Text.{text-fits, refusal-limit, refused-length, printed-text, printed-refused}
 
 -- what an answer says of the refusal
 pub said-value : {A : Type 0} (r : ℕ) (x v : A) → inr v ≡ refusedOr r x → (r ≡ 0) × (v ≡ x)
 said-value zero x v e = (refl, cc)
 said-value (suc r) x v e = absurd (let z : _≡_ {A = ℕ} 0 1 = cc in omega arith)
 
-pub said-number : {A : Type 0} (r n : ℕ) (x : A) → inl n ≡ refusedOr r x → (n ≡ r) × (r ≡ 0 → ⊥)
+said-number : {A : Type 0} (r n : ℕ) (x : A) → inl n ≡ refusedOr r x → (n ≡ r) × (r ≡ 0 → ⊥)
 said-number zero n x e = absurd (let z : _≡_ {A = ℕ} 0 1 = cc in omega arith)
 said-number (suc r) n x e = (cc, λ z. omega arith)
 
 -- the computed verdict is the one that 01 defines
-told-verdict : (b : List ℕ) → refusal b ≡ 0 → Judged (planOf b) (startOf b) (verdict (planOf b) (startOf b))
+told-verdict : (b : List ℕ) → TellsVerdict b
 told-verdict b e = verdict-exact (planOf b) (means-well-formed b e) (startOf b) (verdict (planOf b) (startOf b)) .0 refl
 
 module _ (b out : List ℕ) where
@@ -85,14 +80,6 @@ module _ (b out : List ℕ) where
       record { answer = rw (z, q); bytes = w .bytes ∙ sym (left-text z); judged = told-verdict b }
 
   -- ---- what was answered where there is room
-  printed-text : refusal b ≡ 0 → textOf b ≡ printed b
-  unfolding printed
-  printed-text e = rw e
-
-  printed-refused : (refusal b ≡ 0 → ⊥) → refusedText (refusal b) ≡ printed b
-  unfolding printed
-  printed-refused h = rw (ne-eqb (refusal b) 0 h)
-
   accepted-plan : listingRefusal b out ≡ 0 → refusal b ≡ 0
   unfolding listingRefusal
   accepted-plan e = both-none (refusal b) (cond (ltb (length out) 2048) 15 0) e .0
@@ -101,7 +88,7 @@ module _ (b out : List ℕ) where
   unfolding listedOf
   text-answered {r} h =
       let w = said-value (listingRefusal b out) (length (textOf b)) r (h .answer) in
-      wrote-same (printed-text (accepted-plan (w .0))) (record { bytes = h .bytes ∙ left-text (w .0); next = omega (arith, w .1) })
+      wrote-same (printed-text b (accepted-plan (w .0))) (record { bytes = h .bytes ∙ left-text (w .0); next = omega (arith, w .1) })
 
   pub refused-answered : {n : ℕ} {out' : List ℕ} → 2048 ≤ length out → Lists b out (Refused n) out' → (n ≤ 14) × (refusedText n ≡ printed b) × (out' ≡ out)
   unfolding listedOf
@@ -109,26 +96,16 @@ module _ (b out : List ℕ) where
       let w = said-number (listingRefusal b out) n (length (textOf b)) (h .answer) in
       let p : refusal b ≡ 0 → ⊥ = λ z. w .1 (refused-none z l) in
       let e : n ≡ refusal b = w .0 ∙ refused-first p in
-      (omega (arith, refusal-limit b), ap refusedText e ∙ printed-refused p, h .bytes ∙ left-out (w .1))
-
--- what the verdict's answer says
-module _ (b : List ℕ) {a : Answer} (h : Assessed b a) where
-  pub answer-number : {n : ℕ} → a ≡ answers.Refused n → (n ≡ refusal b) × (refusal b ≡ 0 → ⊥)
-  unfolding answerOf
-  answer-number {n} e = said-number (refusal b) n (verdict (planOf b) (startOf b)) (sym (ap said e) ∙ h .answer)
-
-  pub answer-verdict : {v : Verdict} → a ≡ answers.Judged v → (refusal b ≡ 0) × (wordOf v ≡ verdict (planOf b) (startOf b))
-  unfolding answerOf
-  answer-verdict {v} e = said-value (refusal b) (verdict (planOf b) (startOf b)) (wordOf v) (sym (ap said e) ∙ h .answer)
+      (omega (arith, refusal-limit b), ap refusedText e ∙ printed-refused b p, h .bytes ∙ left-out (w .1))
 
 -- ---- all that is printed fits too
 pub printed-fits : (b : List ℕ) → length (printed b) ≤ 1679
 printed-fits b =
     by-cases (ℕ-discrete (refusal b) 0)
-    (λ (e : refusal b ≡ 0). rw (← printed-text b b e) (text-fits (clean b e)))
-    (λ e. rw (← printed-refused b b e) (omega (arith, refused-length (refusal b) (refusal-limit b))))
+    (λ (e : refusal b ≡ 0). rw (← printed-text b e) (text-fits (clean b e)))
+    (λ e. rw (← printed-refused b e) (omega (arith, refused-length (refusal b) (refusal-limit b))))
 
 pub prints : (b : List ℕ) {out out' : List ℕ} {r : ℕ} → 2048 ≤ length out → Wrote out 0 (printed b) out' r → Prints b out out' r
 prints b {out' = out'} {r} l w =
     let f : r ≤ length out' = omega (arith, w .next, wrote-long w, printed-fits b) in
-    record { wrote = w; fits = f; counts = sym (length-take-le r out' f) }
+    record { wrote = w; fits = f; counts = sym (length-take-le r out' f); judged = told-verdict b }

@@ -1,4 +1,4 @@
 -- The listing.
-pub mod Prefix
 pub mod Text
+pub mod Prefix
 pub mod Answers

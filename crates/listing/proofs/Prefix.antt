@@ -8,13 +8,13 @@ use native.Mathlib.Decide.{decLt}
 use native.Mathlib.Omega.{arith}
 use lib.ListN.{length, take}
 use lib.Seq.{getD-take, length-take-le, take-all}
-use borrow.Author.Tests.{ne-eqb}
 use Rattle.format.specs.Format.{u16At, nodeCount, condCount, orderCount, flagCount, wholeLength}
 use Rattle.rules.specs.Rules.{refusal, cause2}
 use Rattle.rules.proofs.Laws.{either}
 use Rattle.rules.proofs.Causes.{limits}
 use Rattle.plan.proofs.Chain.{second, third}
 use Rattle.listing.specs.Text.{refusedText, printed}
+use Rattle.listing.proofs.Text.{printed-refused}
 
 module _ (xs : List ℕ) (long : 5137 < length xs) where
   front : List ℕ
@@ -56,15 +56,11 @@ unfolding front
 refusal-prefix xs =
     by-cases (decLt 5137 (length xs)) (λ (l : 5137 < length xs). front-refused xs l .0) (λ l. ap refusal (take-all 5137 xs (omega arith)))
 
-printed-refused : (b : List ℕ) → (refusal b ≡ 0 → ⊥) → printed b ≡ refusedText (refusal b)
-unfolding printed
-printed-refused b h = rw (ne-eqb (refusal b) 0 h)
-
 pub printed-prefix : (xs : List ℕ) → printed (take 5137 xs) ≡ printed xs
 unfolding front
 printed-prefix xs =
     by-cases (decLt 5137 (length xs))
     (λ (l : 5137 < length xs).
     let w = front-refused xs l in
-    printed-refused (take 5137 xs) (λ z. w .1 (sym (w .0) ∙ z)) ∙ ap refusedText (w .0) ∙ sym (printed-refused xs (w .1)))
+    sym (printed-refused (take 5137 xs) (λ z. w .1 (sym (w .0) ∙ z))) ∙ ap refusedText (w .0) ∙ printed-refused xs (w .1))
     (λ l. ap printed (take-all 5137 xs (omega arith)))

@@ -1,10 +1,11 @@
--- The text always fits. Assumes nothing.
+-- The text: how long it can be, and which one is printed. Assumes nothing.
 use mathlib.Core.Path.{_≡_, refl}
 use mathlib.Core.Bool.{Bool, true, false, cond}
 use mathlib.Core.List.{List, [], _∷_, _++_}
 use Prim.Native.Nat.{ℕ, _≤_}
 use native.Mathlib.Omega.{arith}
 use lib.ListN.{length, length-append}
+use borrow.Author.Tests.{ne-eqb}
 use Rattle.rules.specs.Rules.{refusal, cause1, cause2, cause3, cause4, cause5, cause6, cause7, cause8, cause9, cause10, cause11, cause12, cause13, cause14}
 use Rattle.plan.specs.Meaning.{planOf, startOf}
 use Rattle.plan.proofs.Accepted.{Clean}
@@ -12,10 +13,10 @@ use Rattle.runs.specs.Verdict.{Verdict, CLEAR, DOOMED, OPEN}
 use Rattle.runs.specs.Model.Verdicts.{verdict}
 use Rattle.lengths.specs.Waits.{lengthOf}
 use Rattle.lengths.proofs.Bounds.{end-limit}
-use Rattle.lines.specs.Order.{ranking}
+use Rattle.ranking.specs.Order.{ranking}
 use Rattle.lines.specs.Lines.{ending, linesOf}
 use Rattle.lines.proofs.Text.{ending-limit, lines-limit}
-use Rattle.listing.specs.Text.{letters, firstLine, textOf, refusedText}
+use Rattle.listing.specs.Text.{letters, firstLine, textOf, refusedText, printed}
 
 pub letters-limit : (v : Verdict) → length (letters v) ≤ 6
 letters-limit CLEAR = omega arith
@@ -70,3 +71,13 @@ refused-is n = refl
 pub refused-length : (n : ℕ) → n ≤ 14 → length (refusedText n) ≤ 16
 unfolding refusedText
 refused-length n l = omega (arith, length-append (82 ∷ 69 ∷ 70 ∷ 85 ∷ 83 ∷ 69 ∷ 68 ∷ []) (ending n), ending-limit n (omega arith))
+
+-- ---- what is printed, accepted and refused
+module _ (b : List ℕ) where
+  pub printed-text : refusal b ≡ 0 → textOf b ≡ printed b
+  unfolding printed
+  printed-text e = rw e
+
+  pub printed-refused : (refusal b ≡ 0 → ⊥) → refusedText (refusal b) ≡ printed b
+  unfolding printed
+  printed-refused h = rw (ne-eqb (refusal b) 0 h)

@@ -32,14 +32,18 @@ listedOf b out = refusedOr (listingRefusal b out) (length (textOf b))
 unfoldable pub listingLeft : List ℕ → List ℕ → List ℕ
 listingLeft b out = cond (eqb (listingRefusal b out) 0) (written out 0 (textOf b)) out
 
+-- the verdict that the text of an accepted plan tells is the one that 01 defines
+abbrev pub TellsVerdict : List ℕ → Type 0
+TellsVerdict b = refusal b ≡ 0 → Judged (planOf b) (startOf b) (verdict (planOf b) (startOf b))
+
 pub record Lists (b out : List ℕ) (r : Listed) (out' : List ℕ) : Type 0 where
   pub answer : told r ≡ listedOf b out
   pub bytes : out' ≡ listingLeft b out
-  -- of an accepted plan: the verdict that the text tells is the one that 01 defines
-  pub judged : refusal b ≡ 0 → Judged (planOf b) (startOf b) (verdict (planOf b) (startOf b))
+  pub judged : TellsVerdict b
 
--- a call wrote all that the program prints from the first byte, and answered how much of out' that is (the last part follows from the one before; `&out[..r]` asks for both)
+-- a call wrote all that the program prints from the first byte, and answered how much of out' that is (`counts` follows from `fits`; `&out[..r]` asks for both)
 pub record Prints (b out out' : List ℕ) (r : ℕ) : Type 0 where
   pub wrote : Wrote out 0 (printed b) out' r
   pub fits : r ≤ length out'
   pub counts : r ≡ length (take r out')
+  pub judged : TellsVerdict b

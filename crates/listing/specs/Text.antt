@@ -8,7 +8,7 @@ use Rattle.plan.specs.Meaning.{planOf, startOf}
 use Rattle.runs.specs.Verdict.{Verdict, CLEAR, DOOMED, OPEN}
 use Rattle.runs.specs.Model.Verdicts.{verdict}
 use Rattle.lengths.specs.Waits.{lengthOf}
-use Rattle.lines.specs.Order.{ranking}
+use Rattle.ranking.specs.Order.{ranking}
 use Rattle.lines.specs.Lines.{ending, linesOf}
 
 -- 01's words, in ASCII

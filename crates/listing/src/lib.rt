@@ -12,11 +12,11 @@ ghost use Rattle.listing.specs.Listing.{Lists, Prints};
 use children::no_nodes;
 use decimals::write_bytes;
 use lines::end_line;
-use lines::rank;
 use lines::write_lines;
-use verdict::Answer;
+use plan::check;
+use ranking::rank;
 use verdict::Verdict;
-use verdict::assess;
+use verdict::judge;
 use waits::longest_waits;
 use waits::no_times;
 
@@ -56,16 +56,15 @@ fn write_text(plan: &[u8], verdict: Verdict, out: &mut [u8]) -> usize
 pub fn listing(plan: &[u8], out: &mut [u8]) -> Listed
     ensures { λ r. ⌜ Lists (now (plan .entry)) (now (out .entry)) r (now (out .exit)) ⌝ }
 {
-    let answer = assess(plan);
-    match answer {
-        Answer::Refused(n) => Listed::Refused(n),
-        Answer::Judged(verdict) => {
-            if out.len() < 2048 {
-                return Listed::Refused(15);
-            }
-            Listed::Text(write_text(plan, verdict, out))
-        }
+    let r = check(plan);
+    if r != 0 {
+        return Listed::Refused(r);
     }
+    if out.len() < 2048 {
+        return Listed::Refused(15);
+    }
+    let verdict = judge(plan);
+    Listed::Text(write_text(plan, verdict, out))
 }
 
 // Writes all that the program prints for these bytes, and answers how long it is.

@@ -49,7 +49,7 @@ fn start_word(plan: &[u8]) -> u64
 }
 
 // The verdict on an accepted plan, from the marks of its root.
-fn judge(plan: &[u8]) -> Verdict
+pub fn judge(plan: &[u8]) -> Verdict
     requires { ⌜ refusal (now plan) ≡ 0 ⌝ }
     ensures { λ r. ⌜ wordOf r ≡ model.verdict (planOf (now (plan .entry))) (startOf (now (plan .entry))) ⌝ }
 {

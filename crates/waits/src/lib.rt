@@ -17,7 +17,7 @@ use spread::longest_child;
 use spread::spread;
 
 // Works out an all-of group and all groups under it: the lengths, and the waits of the children.
-pub fn all_length(plan: &[u8], lengths: &mut [u32; 128], waits: &mut [u32; 128], node: usize)
+fn all_length(plan: &[u8], lengths: &mut [u32; 128], waits: &mut [u32; 128], node: usize)
     requires { ⌜ ((refusal (now plan) ≡ 0) × (node < nodeCount (now plan))) × ((kindOf (now plan) node ≡ 1) × Tables (now plan) (now lengths) (now waits)) ⌝ }
     ensures { λ r. ⌜ Worked (now (plan .entry)) (now (lengths .entry)) (now (waits .entry)) (now (lengths .exit)) (now (waits .exit)) node ⌝ }
 {
@@ -39,7 +39,7 @@ pub fn all_length(plan: &[u8], lengths: &mut [u32; 128], waits: &mut [u32; 128],
 }
 
 // Works out an any-of group and all groups under it.
-pub fn any_length(plan: &[u8], lengths: &mut [u32; 128], waits: &mut [u32; 128], node: usize)
+fn any_length(plan: &[u8], lengths: &mut [u32; 128], waits: &mut [u32; 128], node: usize)
     requires { ⌜ ((refusal (now plan) ≡ 0) × (node < nodeCount (now plan))) × ((kindOf (now plan) node ≡ 2) × Tables (now plan) (now lengths) (now waits)) ⌝ }
     ensures { λ r. ⌜ Worked (now (plan .entry)) (now (lengths .entry)) (now (waits .entry)) (now (lengths .exit)) (now (waits .exit)) node ⌝ }
 {

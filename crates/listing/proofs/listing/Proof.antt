@@ -1,30 +1,32 @@
 -- `listing` meets its contract. Assumes nothing.
-use Rattle.listing.proofs.Answers.{lists-refused, lists-short, lists-text, answer-number, answer-verdict}
+use mathlib.Core.Path.{_≡_, sym, _∙_}
+use denote.Ref.{now}
+use Rattle.rules.specs.Rules.{refusal}
+use Rattle.listing.proofs.Answers.{lists-refused, lists-short, lists-text}
 use borrow.Author.Needs.{needs}
 use Rattle.listing.proofs.listing.Statement.{statement}
 use Rattle.listing.proofs.listing.Tie as tie
 
-returns : tie.Need-returns
-returns c = let w = answer-verdict _ (c .before .before .before .before .assess .ensures) (c .before .before .answer2 .given .1) in lists-short _ _ (w .0) (c .if1 .taken)
+passed : (c : tie.Else1) → refusal (now (c .before .before .before .before .args .plan)) ≡ 0
+passed c = sym (c .before .check .ensures) ∙ c .if1 .left
 
-write-text-requires : tie.Need-write-text-requires
-write-text-requires c κs = let w = answer-verdict _ (c .before .before .before .before .before .assess .ensures) (c .before .before .before .answer2 .given .1) in (w .0, w .1, c .before .if1 .left)
+returns : tie.Need-returns
+returns c = let e = c .before .check .ensures in lists-refused _ _ e (λ z. c .if1 .taken (e ∙ z))
 
 returns-2 : tie.Need-returns-2
-returns-2 c = let w = answer-number _ (c .before .before .before .assess .ensures) (c .before .answer .given .1) in lists-refused _ _ (w .0) (w .1)
+returns-2 c = lists-short _ _ (passed (c .before)) (c .if2 .taken)
+
+judge-requires : tie.Need-judge-requires
+judge-requires c κs = passed (c .before)
+
+write-text-requires : tie.Need-write-text-requires
+write-text-requires c κs = let i = c .before .before in (passed (i .before), c .before .judge .ensures, i .if2 .left)
 
 returns-3 : tie.Need-returns-3
-returns-3 c = let w = answer-verdict _ (c .before .before .before .before .before .before .before .before .assess .ensures) (c .before .before .before .before .before .before .answer2 .given .1) in lists-text _ _ (w .0) (c .before .before .before .before .if1 .left) (c .before .before .write-text .ensures)
+returns-3 c =
+    let w = c .before .before in
+    let i = w .before .before .before in
+    lists-text _ _ (passed (i .before)) (i .if2 .left) (w .write-text .ensures)
 
 pub listing-spec : {M : Type 1} → statement M
-listing-spec =
-    tie.close
-    (tie.spec
-    (λ c κs. search needs)
-    (λ c. search needs)
-    (λ c. search needs)
-    returns
-    write-text-requires
-    returns-2
-    (λ c. search needs)
-    returns-3)
+listing-spec = tie.close (tie.spec (λ c κs. search needs) returns returns-2 judge-requires write-text-requires (λ c. search needs) returns-3)
