@@ -1,27 +1,11 @@
 -- `node_rows` meets its contract. Assumes nothing.
-use mathlib.Core.Path.{refl}
-use Rattle.marks.proofs.Children.{all-nodes, one-node}
+use Rattle.marks.proofs.Children.{all-nodes}
 use borrow.Author.Needs.{needs}
 use Rattle.marks.proofs.node_rows.Statement.{statement}
 use Rattle.marks.proofs.node_rows.Tie as tie
 
 returns : tie.Need-returns
-returns c = all-nodes refl (c .before .before .before .before .task-rows .ensures) (c .all-of .ensures)
-
-returns-2 : tie.Need-returns-2
-returns-2 c = all-nodes refl (c .before .before .before .before .before .task-rows .ensures) (c .any-of .ensures)
-
-returns-3 : tie.Need-returns-3
-returns-3 c = one-node refl (c .before .before .before .task-rows .ensures) (c .before .if1 .left) (c .if2 .left)
+returns c = all-nodes (c .before .before .task-rows .ensures) (c .rows-under .ensures)
 
 pub node-rows-spec : {M : Type 1} → statement M
-node-rows-spec =
-    tie.close
-    (tie.spec
-    (λ c κs. search needs)
-    (λ c. search needs)
-    (λ c κs. search needs)
-    (λ c κs. search needs)
-    returns
-    returns-2
-    returns-3)
+node-rows-spec = tie.close (tie.spec (λ c κs. search needs) (λ c κs. search needs) returns)
