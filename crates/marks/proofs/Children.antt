@@ -51,13 +51,13 @@ module _ (kind from kids order : List ℕ) (n node : ℕ) where
   children-none rows e = record { long = e; kept = λ p g m x. x; right = λ p g. record { each = λ j a b. absurd (omega arith) } }
 
   -- one child more
-  pub child-more : {rows₀ rows rows' : List ℕ} {i c : ℕ} → c ≡ getD kids i 0 → Position from node i → ChildrenTo rows₀ rows i
-      → Filled kind from kids order rows rows' n c → ChildrenTo rows₀ rows' (i + 1)
-  child-more {rows₀} {rows} {c = c} e at h x = record {
+  pub child-more : {rows₀ rows rows' rows″ : List ℕ} {i c : ℕ} → c ≡ getD kids i 0 → Position from node i → ChildrenTo rows₀ rows i → rows″ ≡ rows'
+      → Filled kind from kids order rows rows' n c → ChildrenTo rows₀ rows″ (i + 1)
+  child-more {rows₀} {rows} {c = c} e at h q x = rw q (record {
     long = x .long;
     kept = λ p g m r. x .kept p (given p g) m (h .kept p g m r);
     right = λ p g. (every-next (at .low)) .0 (record { each = λ j a b m u. x .kept p (given p g) m (h .right p g .each j a b m u) }, rw e at (x .right p (given p g)));
-  }
+  })
     where
       given : (p : Plan) → Given kind from kids order rows₀ n node p → Given kind from kids order rows n c p
       given p g = record {

@@ -107,7 +107,12 @@ fn all_of(
     let mut i = wide(from[node]);
     while i < end {
         let child = wide(kids[i]);
-        rows_under(kind, from, kids, order, rows, n, child);
+        let k = kind[child];
+        if k == 1 {
+            all_of(kind, from, kids, order, rows, n, child);
+        } else if k == 2 {
+            any_of(kind, from, kids, order, rows, n, child);
+        }
         i += 1;
     }
     let words = all_row(from, kids, order, rows, n, node);
@@ -131,32 +136,16 @@ fn any_of(
     let mut i = wide(from[node]);
     while i < end {
         let child = wide(kids[i]);
-        rows_under(kind, from, kids, order, rows, n, child);
+        let k = kind[child];
+        if k == 1 {
+            all_of(kind, from, kids, order, rows, n, child);
+        } else if k == 2 {
+            any_of(kind, from, kids, order, rows, n, child);
+        }
         i += 1;
     }
     let words = any_words(from, kids, rows, n, node);
     write_row(rows, node, words);
-}
-
-// Works out the rows of a node and of all under it, those of the tasks excepted.
-fn rows_under(
-    kind: &[u8; 128],
-    from: &[u8; 129],
-    kids: &[u8; 128],
-    order: &[u8; 16384],
-    rows: &mut [u64; 2688],
-    n: usize,
-    node: usize,
-)
-    requires { ⌜ (Shaped (now from) (now kids) n × (node < n)) × (length (now rows) ≡ 2688) ⌝ }
-    ensures { λ r. ⌜ Filled (now (kind .entry)) (now (from .entry)) (now (kids .entry)) (now (order .entry)) (now (rows .entry)) (now (rows .exit)) n node ⌝ }
-{
-    let k = kind[node];
-    if k == 1 {
-        all_of(kind, from, kids, order, rows, n, node);
-    } else if k == 2 {
-        any_of(kind, from, kids, order, rows, n, node);
-    }
 }
 
 // Works out the rows of the tasks.
@@ -188,5 +177,10 @@ pub fn node_rows(
     ensures { λ r. ⌜ AllFilled (now (kind .entry)) (now (from .entry)) (now (kids .entry)) (now (order .entry)) (now (conds .entry)) (now (rows .exit)) n ⌝ }
 {
     task_rows(kind, conds, rows, n);
-    rows_under(kind, from, kids, order, rows, n, 0);
+    let root = kind[0];
+    if root == 1 {
+        all_of(kind, from, kids, order, rows, n, 0);
+    } else if root == 2 {
+        any_of(kind, from, kids, order, rows, n, 0);
+    }
 }
