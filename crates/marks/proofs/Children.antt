@@ -2,15 +2,15 @@
 use mathlib.Core.Path.{_≡_, refl, sym, _∙_}
 use mathlib.Core.Logic.{_≢_, _⊎_, inl, inr}
 use mathlib.Core.List.{List}
-use Prim.Native.Nat.{ℕ, _+_, _≤_, _<_}
+use Prim.Native.Nat.{ℕ, _+_, _<_}
 use native.Mathlib.Decide.{ℕ-discrete}
 use native.Mathlib.Omega.{arith}
 use lib.ListN.{length, getD}
 use Rattle.bits.proofs.Says.{says-eq}
-use Rattle.runs.specs.Plan.{Kind, task, all-of, any-of, Plan, Node, Child, Under, itself, WellFormed}
+use Rattle.runs.specs.Plan.{Kind, task, all-of, any-of, Plan, Node, Under, itself, WellFormed}
 use Rattle.runs.proofs.Plan.Trees.{Branch, branch, under-root}
 use Rattle.runs.proofs.Execution.Final.{under-task}
-use Rattle.words.specs.Tables.{kindCode, RepresentsKinds, RepresentsConditions, Represents}
+use Rattle.words.specs.Tables.{kindCode, Position, Shaped, RepresentsKinds, RepresentsConditions, Represents}
 use Rattle.words.specs.Columns.{indexOf, Right, Row, Written}
 use Rattle.words.specs.Segments.{Every}
 use Rattle.words.specs.Tasks.{Task}
@@ -36,6 +36,10 @@ is-any task e = absurd (omega arith)
 is-any all-of e = absurd (omega arith)
 is-any any-of e = refl
 
+-- a child has a greater number than its group
+pub kid-later : {from kids : List ℕ} {n node i c : ℕ} → Shaped from kids n × (node < n) → Position from node i → c ≡ getD kids i 0 → (node < c) × (c < n)
+kid-later s at e = rw e (s .0 .rises _ _ (s .1) at)
+
 module _ (kind from kids order : List ℕ) (n node : ℕ) where
   -- the children at the positions before i are worked out, with all under them
   pub record ChildrenTo (rows₀ rows : List ℕ) (i : ℕ) : Type 0 where
@@ -46,44 +50,33 @@ module _ (kind from kids order : List ℕ) (n node : ℕ) where
   pub children-none : (rows : List ℕ) → length rows ≡ 2688 → ChildrenTo rows rows (getD from node 0)
   children-none rows e = record { long = e; kept = λ p g m x. x; right = λ p g. record { each = λ j a b. absurd (omega arith) } }
 
-  module _ {rows₀ rows : List ℕ} {i : ℕ} (low : getD from node 0 ≤ i) (high : i < getD from (node + 1) 0) (h : ChildrenTo rows₀ rows i) where
-    child : (p : Plan) → Given kind from kids order rows₀ n node p → Child p node (getD kids i 0)
-    child p g = listed (g .tree) (g .is-node) refl (record { low = low; high = high })
+  -- one child more
+  pub child-more : {rows₀ rows rows' rows″ : List ℕ} {i c : ℕ} → c ≡ getD kids i 0 → Position from node i → ChildrenTo rows₀ rows i → rows″ ≡ rows'
+      → Filled kind from kids order rows rows' n c → ChildrenTo rows₀ rows″ (i + 1)
+  child-more {rows₀} {rows} {c = c} e at h q x = rw q (record {
+    long = x .long;
+    kept = λ p g m r. x .kept p (given p g) m (h .kept p g m r);
+    right = λ p g. (every-next (at .low)) .0 (record { each = λ j a b m u. x .kept p (given p g) m (h .right p g .each j a b m u) }, rw e at (x .right p (given p g)));
+  })
+    where
+      given : (p : Plan) → Given kind from kids order rows₀ n node p → Given kind from kids order rows n c p
+      given p g = record {
+        well-formed = g .well-formed;
+        kinds = g .kinds;
+        tree = g .tree;
+        orders = g .orders;
+        is-node = (listed (g .tree) (g .is-node) e at) .node;
+        tasks = λ t l k. h .kept p g t (g .tasks t l k);
+      }
 
-    given-child : (p : Plan) → Given kind from kids order rows₀ n node p → Given kind from kids order rows n (getD kids i 0) p
-    given-child p g = record {
-      well-formed = g .well-formed;
-      kinds = g .kinds;
-      tree = g .tree;
-      orders = g .orders;
-      is-node = (child p g) .node;
-      tasks = λ t l k. h .kept p g t (g .tasks t l k);
-    }
-
-    -- a group
-    pub child-group : {rows' rows″ : List ℕ} → rows″ ≡ rows' → Filled kind from kids order rows rows' n (getD kids i 0) → ChildrenTo rows₀ rows″ (i + 1)
-    child-group e x = rw e (record {
-      long = x .long;
-      kept = λ p g m r. x .kept p (given-child p g) m (h .kept p g m r);
-      right = λ p g. (every-next low) .0 (
-        record { each = λ j a b m u. x .kept p (given-child p g) m (h .right p g .each j a b m u) },
-        x .right p (given-child p g),
-      );
-    })
-
-    -- a task, whose row stands
-    pub child-task : {rows″ : List ℕ} → rows″ ≡ rows → getD kind (getD kids i 0) 0 ≢ 1 → getD kind (getD kids i 0) 0 ≢ 2 → ChildrenTo rows₀ rows″ (i + 1)
-    child-task e a b = rw e (record {
-      long = h .long;
-      kept = h .kept;
-      right = λ p g. (every-next low) .0 (h .right p g, λ m u. at p g m u);
-    })
-      where
-        at : (p : Plan) → Given kind from kids order rows₀ n node p → (m : ℕ) → Under p (getD kids i 0) m → Right p rows m
-        at p g m u = let hc = child p g in
-            let q = g .kinds .is (getD kids i 0) (hc .node) in
-            let k = is-task (p .tree .kind (getD kids i 0)) (λ e. a (q ∙ e)) (λ e. b (q ∙ e)) in
-            rw (under-task p (g .well-formed) k u) at (h .kept p g (getD kids i 0) (g .tasks (getD kids i 0) (hc .node) k))
+  -- a task, whose row stands
+  pub task-filled : {rows : List ℕ} → length rows ≡ 2688 → getD kind node 0 ≢ 1 → getD kind node 0 ≢ 2 → Filled kind from kids order rows rows n node
+  task-filled {rows} e a b = record { long = e; kept = λ p g m x. x; right = at }
+    where
+      at : (p : Plan) → Given kind from kids order rows n node p → (m : ℕ) → Under p node m → Right p rows m
+      at p g m u = let q = g .kinds .is node (g .is-node) in
+          let k = is-task (p .tree .kind node) (λ z. a (q ∙ z)) (λ z. b (q ∙ z)) in
+          rw (under-task p (g .well-formed) k u) at (g .tasks node (g .is-node) k)
 
   module _ {rows₀ rows rows' words : List ℕ} (h : ChildrenTo rows₀ rows (getD from (node + 1) 0)) (x : Written rows rows' node words) where
     -- all children are right
@@ -138,12 +131,9 @@ module _ {kind conds rows : List ℕ} where
       at p w k c t l n q (no ne) = h .right p w k c t (omega arith) n q
 
 -- all nodes, once the root is worked out
-pub all-nodes : {kind from kids order conds rows rows' rows″ : List ℕ} {n : ℕ} → rows″ ≡ rows' → TasksFilled kind conds rows n → Filled kind from kids order rows rows' n 0
-    → AllFilled kind from kids order conds rows″ n
-all-nodes {kind} {from} {kids} {order} {conds} {rows} {n = n} e t x = rw e (record {
-  long = x .long;
-  right = λ p w r m l. x .right p (given p w r) m (under-root p w m l);
-})
+pub all-nodes : {kind from kids order conds rows rows' : List ℕ} {n : ℕ} → TasksFilled kind conds rows n → Filled kind from kids order rows rows' n 0
+    → AllFilled kind from kids order conds rows' n
+all-nodes {kind} {from} {kids} {order} {conds} {rows} {n = n} t x = record { long = x .long; right = λ p w r m l. x .right p (given p w r) m (under-root p w m l) }
   where
     given : (p : Plan) → WellFormed p → Represents kind from kids order conds n p → Given kind from kids order rows n 0 p
     given p w r = record {
@@ -154,14 +144,3 @@ all-nodes {kind} {from} {kids} {order} {conds} {rows} {n = n} e t x = rw e (reco
       is-node = w .root-node;
       tasks = λ u l k. t .right p w (r .kinds) (r .conditions) u (rw (r .tree .size) at (w .node-below u l)) l k;
     }
-
--- the root is a task, and so the only node
-pub one-node : {kind from kids order conds rows rows″ : List ℕ} {n : ℕ} → rows″ ≡ rows → TasksFilled kind conds rows n → getD kind 0 0 ≢ 1 → getD kind 0 0 ≢ 2
-    → AllFilled kind from kids order conds rows″ n
-one-node {kind} {from} {kids} {order} {conds} {rows} {n = n} e t a b = rw e (record { long = t .long; right = at })
-  where
-    at : (p : Plan) → WellFormed p → Represents kind from kids order conds n p → (m : ℕ) → Node p m → Right p rows m
-    at p w r m l = let q = r .kinds .is 0 (w .root-node) in
-        let k = is-task (p .tree .kind 0) (λ e. a (q ∙ e)) (λ e. b (q ∙ e)) in
-        rw (under-task p w k (under-root p w m l)) at
-        (t .right p w (r .kinds) (r .conditions) 0 (rw (r .tree .size) at (w .node-below 0 (w .root-node))) (w .root-node) k)

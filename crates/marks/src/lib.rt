@@ -91,7 +91,7 @@ fn all_row(
 }
 
 // Works out the rows of an all-of group and of all under it, those of the tasks excepted.
-pub fn all_of(
+fn all_of(
     kind: &[u8; 128],
     from: &[u8; 129],
     kids: &[u8; 128],
@@ -120,7 +120,7 @@ pub fn all_of(
 }
 
 // Works out the rows of an any-of group and of all under it, those of the tasks excepted.
-pub fn any_of(
+fn any_of(
     kind: &[u8; 128],
     from: &[u8; 129],
     kids: &[u8; 128],
@@ -149,7 +149,7 @@ pub fn any_of(
 }
 
 // Works out the rows of the tasks.
-pub fn task_rows(kind: &[u8; 128], conds: &[u64; 768], rows: &mut [u64; 2688], n: usize)
+fn task_rows(kind: &[u8; 128], conds: &[u64; 768], rows: &mut [u64; 2688], n: usize)
     requires { ⌜ (n ≤ 128) × (length (now rows) ≡ 2688) ⌝ }
     ensures { λ r. ⌜ TasksFilled (now (kind .entry)) (now (conds .entry)) (now (rows .exit)) n ⌝ }
 {

@@ -1,28 +1,54 @@
 -- Flags found pair by pair: those already known, and those that a pair must clobber. Assumes nothing.
 use mathlib.Core.Path.{_≡_, refl}
-use mathlib.Core.Logic.{_⊎_, inl, inr, _↔_}
-use mathlib.Core.Bool.{Bool, not}
+use mathlib.Core.Logic.{_⊎_, inl, inr}
+use mathlib.Core.Bool.{Bool, true, not}
 use mathlib.Core.List.{List}
-use Prim.Native.Nat.{ℕ, _+_, _≤_, _<_}
+use Prim.Native.Nat.{ℕ, _+_, _-_, _≤_, _<_}
 use native.Mathlib.Omega.{arith}
 use lib.Bits.{bitAnd, bitOr, bitXor}
 use lib.Dec.{T}
 use lib.ListN.{getD}
 use Rattle.bits.specs.Bits.{bit, ones, Says}
-use Rattle.bits.proofs.Says.{says-map, says-dec, says-self, says-and, says-or, says-not, no-flag}
-use Rattle.runs.specs.Plan.{Plan, Child, Before}
+use Rattle.bits.proofs.Says.{says-map, says-dec, says-self, says-and, says-or, says-not, says-none, says-among, no-flag}
+use Rattle.runs.specs.Plan.{Plan, Child}
 use Rattle.runs.specs.Summary.{Must, ExternalPre, ExternalPost}
+use Rattle.words.specs.Tables.{signNum, code}
 use Rattle.words.specs.Segments.{Some}
+use Rattle.words.specs.Musts.{MustPreWord, MustPostWord}
+use Rattle.words.proofs.Signs.{opposite}
 use Rattle.words.proofs.Segments.{some-next, some-child}
-use Rattle.passing.specs.Passing.{Undisturbed, Pairing}
-use Rattle.mustpairs.specs.MustPairs.{MustPair}
+use Rattle.passing.specs.Passing.{PassingWord, Pairing}
+use Rattle.mustpairs.specs.MustPairs.{MustPair, MustPairWord}
+
+-- a word for each place where `must_pair_word` returns
+module _ {from kids order rows : List ℕ} {size n s c d : ℕ} (w : ℕ) where
+  -- d stands before c: what is shared passes from d to c in every execution
+  module _ (x y : ℕ) (q : code order d c ≡ 1) (ex : MustPostWord rows d (1 - s) x) (ey : MustPreWord rows c s y) where
+    shared : {p : Plan} → Pairing from kids order rows size n p → Child p n c → Child p n d → (v : Bool) → s ≡ signNum v → (f : ℕ) → f < 64
+        → Says (bitAnd w (bitAnd x y)) f (T (bit w f) × (Must p d (ExternalPost p f (not v)) × Must p c (ExternalPre p f v)))
+    shared g hc hd v e f l = let formed = g .group .well-formed in
+        says-and {x = w} {y = bitAnd x y} refl (says-self w f) (says-and {x = x} {y = y} refl
+        (ex _ formed (g .group .children d hd) (not v) (opposite v s e) f l) (ey _ formed (hc .node) (g .group .children c hc) v e f l))
+
+    pub none-shared : bitAnd w (bitAnd x y) ≡ 0 → MustPairWord from kids order rows size n s w c d 0
+    none-shared z = record { says = λ p g hc hd v e f l. says-none refl (λ u. no-flag _ f z (shared g hc hd v e f l .from (u .0, u .1 .1 .0))) }
+
+    pub shared-passes : {r : ℕ} → PassingWord from kids order rows size n true (bitAnd w (bitAnd x y)) c d r → MustPairWord from kids order rows size n s w c d r
+    shared-passes h = record {
+      says = λ p g hc hd v e f l. says-map (
+        λ u. (u .0 .0, ((g .orders .before d c (hd .node) (hc .node)) .0 q, (u .0 .1, u .1))),
+        λ u. ((u .0, u .1 .1 .0), u .1 .1 .1),
+      ) (says-among (shared g hc hd v e f l) (h .says p g hc hd f l));
+    }
+
+  pub not-before : ¬ (code order d c ≡ 1) → MustPairWord from kids order rows size n s w c d 0
+  not-before k = record { says = λ p g hc hd v e f l. says-none refl (λ u. k ((g .orders .before d c (hd .node) (hc .node)) .1 (u .1 .0))) }
+
+-- the child d by its position
+pub pair-kid : {from kids order rows : List ℕ} {size n s w c d k r : ℕ} → d ≡ k → MustPairWord from kids order rows size n s w c d r → MustPairWord from kids order rows size n s w c k r
+pair-kid e h = rw e at h
 
 module _ {p : Plan} {n c f : ℕ} {v : Bool} where
-  -- d stands before c
-  pub must-pair : {d : ℕ} {W : Type 0} → Before p d c
-      → ((W × (Must p d (ExternalPost p f (not v)) × Must p c (ExternalPre p f v))) × Undisturbed p n f c d) ↔ (W × MustPair p n f v c d)
-  must-pair q = (λ x. (x .0 .0, (q, (x .0 .1, x .1))), λ x. ((x .0, x .1 .1 .0), x .1 .1 .1))
-
   -- no pair with c adds a flag, if c must not require one that is not yet known
   pub none-new : {known pre : ℕ} → f < 64 → bitAnd (bitXor known ones) pre ≡ 0 → Says pre f (Must p c (ExternalPre p f v))
       → Says known f (T (bit known f) ⊎ ((d : ℕ) × Child p n d × MustPair p n f v c d))

@@ -16,9 +16,8 @@ MustPair p n f v c d = Before p d c × ((Must p d (ExternalPost p f (not v)) × 
 
 module _ (from kids order rows : List ℕ) (size n : ℕ) where
   -- the wanted flags of one sign that the pair c, d must clobber
-  abbrev pub MustPairWord : ℕ → ℕ → ℕ → ℕ → ℕ → Type 0
-  MustPairWord s wanted c d r = OfPlans from kids order rows size n
-      (λ p. Child p n c → Child p n d → SaysOf s r (λ f v. T (bit wanted f) × MustPair p n f v c d))
+  pub record MustPairWord (s wanted c d r : ℕ) : Type 0 where
+    pub says : OfPlans from kids order rows size n (λ p. Child p n c → Child p n d → SaysOf s r (λ f v. T (bit wanted f) × MustPair p n f v c d))
 
   -- the known flags, and those that some pair with c must clobber; that some pair must clobber
   abbrev pub WithChildWord : ℕ → ℕ → ℕ → ℕ → Type 0

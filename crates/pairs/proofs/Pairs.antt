@@ -89,12 +89,8 @@ module _ {from kids order rows : List ℕ} {size n s c d : ℕ} (w : ℕ) where
   }
 
 -- the child d by its position
-module _ {from kids order rows : List ℕ} {size n c d k : ℕ} (e : d ≡ k) where
-  pub pair-kid : {s w r : ℕ} → PairWord from kids order rows size n s w c d r → PairWord from kids order rows size n s w c k r
-  pair-kid h = rw e at h
-
-  pub passing-kid : {a : Bool} {w r : ℕ} → PassingWord from kids order rows size n a w c k r → PassingWord from kids order rows size n a w c d r
-  passing-kid h = rw e h
+pub pair-kid : {from kids order rows : List ℕ} {size n s w c d k r : ℕ} → d ≡ k → PairWord from kids order rows size n s w c d r → PairWord from kids order rows size n s w c k r
+pair-kid e h = rw e at h
 
 -- both signs of a pair
 pub pair-words : {from kids order rows : List ℕ} {size n c d : ℕ} {wanted r : Literals} → PairWord from kids order rows size n 0 (wanted .clear) c d (r .clear)

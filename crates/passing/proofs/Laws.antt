@@ -16,7 +16,7 @@ use Rattle.words.proofs.Rows.{cell}
 use Rattle.words.proofs.Segments.{listed, every-next, every-child, joined}
 use Rattle.siblings.specs.Siblings.{Narrows}
 use Rattle.siblings.proofs.Sibling.{silent-cell}
-use Rattle.passing.specs.Passing.{Passes, Counts, LetsPass, Part, PartWord, PassingPart, Pairing, PassingWord}
+use Rattle.passing.specs.Passing.{Passes, InTheWay, LetsPass, Part, PartWord, PassingPart, Pairing, PassingWord}
 
 -- the part from low to high of a segment
 pub part-of : {from kids : List ℕ} {size n low high : ℕ} → Shaped from kids size → n < size → getD from n 0 ≤ low → low ≤ high → high ≤ getD from (n + 1) 0 → Part kids low high
@@ -63,7 +63,7 @@ module _ {from kids order rows : List ℕ} {size n : ℕ} {p : Plan} (g : Pairin
 
   -- the flags that pass every child in the whole segment: by the tables and by the plan
   module _ {c d f : ℕ} (hc : Child p n c) (hd : Child p n d) (l : f < 64) where
-    every-passes : (always : Bool) → ((b : ℕ) → Child p n b → Counts order always b c d → LetsPass rows always b f) ↔ Passes p n f always c d
+    every-passes : (always : Bool) → ((b : ℕ) → Child p n b → InTheWay order always b c d → LetsPass rows always b f) ↔ Passes p n f always c d
     every-passes false = (
       λ h b hb x y. (cell (g .group .children b hb) l avoid) .0
           (h b hb ((g .orders .before d b (hd .node) (hb .node)) .1 x, (g .orders .before b c (hb .node) (hc .node)) .1 y)),
@@ -90,3 +90,8 @@ pub passing-says : {from kids order rows : List ℕ} {size n flags c d r : ℕ} 
     → PassingPart kids order rows (getD from n 0) (getD from (n + 1) 0) always flags c d r
     → PassingWord from kids order rows size n always flags c d r
 passing-says always s = record { among = λ f l t. (s .says f l .to t) .0; says = λ p g hc hd f l. passing-all g hc hd l always s }
+
+-- the child at a position, by its number
+pub passing-kid : {from kids order rows : List ℕ} {size n flags c d k r : ℕ} {always : Bool} → d ≡ k → PassingWord from kids order rows size n always flags c k r
+    → PassingWord from kids order rows size n always flags c d r
+passing-kid e h = rw e h

@@ -39,9 +39,9 @@ pub record Disturbs (order : List ℕ) (b c d : ℕ) : Type 0 where
   pub not-after : code order b c ≢ 2
 
 -- b is one of the children that the flags have to pass
-abbrev pub Counts : List ℕ → Bool → ℕ → ℕ → ℕ → Type 0
-Counts order false b c d = StandsBetween order b c d
-Counts order true b c d = Disturbs order b c d
+abbrev pub InTheWay : List ℕ → Bool → ℕ → ℕ → ℕ → Type 0
+InTheWay order false b c d = StandsBetween order b c d
+InTheWay order true b c d = Disturbs order b c d
 
 -- by its row, b lets the flag pass: it can avoid it; no task under it asserts it
 abbrev pub LetsPass : List ℕ → Bool → ℕ → ℕ → Type 0
@@ -60,7 +60,7 @@ pub record PartWord (kids : List ℕ) (low high flags : ℕ) (Q : ℕ → ℕ �
 
 -- of the given flags, those that pass every child in the part, by the tables
 abbrev pub PassingPart : List ℕ → List ℕ → List ℕ → ℕ → ℕ → Bool → ℕ → ℕ → ℕ → ℕ → Type 0
-PassingPart kids order rows low high always flags c d r = PartWord kids low high flags (λ f b. Counts order always b c d → LetsPass rows always b f) r
+PassingPart kids order rows low high always flags c d r = PartWord kids low high flags (λ f b. InTheWay order always b c d → LetsPass rows always b f) r
 
 -- what is known of an all-of group whose pairs of children are looked at
 pub record Pairing (from kids order rows : List ℕ) (size n : ℕ) (p : Plan) : Type 0 where

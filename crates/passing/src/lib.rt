@@ -6,7 +6,7 @@ ghost use lib.Dec.{T};
 ghost use lib.ListN.{getD};
 ghost use Rattle.bits.specs.Bits.{bit};
 ghost use Rattle.words.specs.Tables.{Position, Shaped};
-ghost use Rattle.passing.specs.Passing.{StandsBetween, Disturbs, Counts, LetsPass, Part, PassingPart, PassingWord};
+ghost use Rattle.passing.specs.Passing.{StandsBetween, Disturbs, InTheWay, LetsPass, Part, PassingPart, PassingWord};
 use siblings::narrowed;
 use words::neither;
 use words::wide;
@@ -46,9 +46,9 @@ fn disturbs(order: &[u8; 16384], b: usize, c: usize, d: usize) -> bool
 }
 
 // The child b is one of those that the flags have to pass.
-fn counts(order: &[u8; 16384], always: bool, b: usize, c: usize, d: usize) -> bool
+fn in_the_way(order: &[u8; 16384], always: bool, b: usize, c: usize, d: usize) -> bool
     requires { ⌜ (b < 128) × ((c < 128) × (d < 128)) ⌝ }
-    ensures { λ r. ⌜ T r ↔ Counts (now (order .entry)) always b c d ⌝ }
+    ensures { λ r. ⌜ T r ↔ InTheWay (now (order .entry)) always b c d ⌝ }
 {
     if always {
         return disturbs(order, b, c, d);
@@ -91,7 +91,7 @@ fn passing_part(
         let b = wide(kids[i]);
         left = narrowed(
             left,
-            counts(order, always, b, c, d),
+            in_the_way(order, always, b, c, d),
             lets_pass(rows, always, b),
         );
         i += 1;

@@ -1,6 +1,6 @@
 -- The facts of a task, by its conditions. Assumes nothing.
 use mathlib.Core.Path.{_≡_, refl}
-use mathlib.Core.Logic.{_⊎_, inl, inr, _↔_}
+use mathlib.Core.Logic.{_⊎_, inl, inr, _↔_, Iff·trans, Iff·symm}
 use mathlib.Core.Bool.{Bool, true, false}
 use mathlib.Core.Option.{Option, none, some}
 use Prim.Native.Nat.{ℕ}
@@ -77,16 +77,16 @@ module _ (p : Plan) (w : WellFormed p) {n : ℕ} (k : p .tree .kind n ≡ task) 
         from (inr x) = (x .1 .1, x .0 .0)
 
     pub may-pre-is : Has pre ↔ Fact p n f (may-pre v)
-    may-pre-is = (λ q. (may-task p w _ k) .1 ((pre-task p w f v n) .1 q), λ m. (pre-task p w f v n) .0 ((may-task p w _ k) .0 m))
+    may-pre-is = Iff·symm (Iff·trans (may-task p w _ k) (pre-task p w f v n))
 
     pub may-post-is : Has post ↔ Fact p n f (may-post v)
-    may-post-is = (λ q. (may-task p w _ k) .1 ((post-task p w f v n) .1 q), λ m. (post-task p w f v n) .0 ((may-task p w _ k) .0 m))
+    may-post-is = Iff·symm (Iff·trans (may-task p w _ k) (post-task p w f v n))
 
     pub may-inc-is : Has inc ↔ Fact p n f (may-inc v)
-    may-inc-is = (λ q. (may-task p w _ k) .1 ((inc-task p w f v n) .1 q), λ m. (inc-task p w f v n) .0 ((may-task p w _ k) .0 m))
+    may-inc-is = Iff·symm (Iff·trans (may-task p w _ k) (inc-task p w f v n))
 
     pub must-inc-is : Has inc ↔ Fact p n f (must-inc v)
-    must-inc-is = (λ q. (must-task p w _ k) .1 ((inc-task p w f v n) .1 q), λ m. (inc-task p w f v n) .0 ((must-task p w _ k) .0 m))
+    must-inc-is = Iff·symm (Iff·trans (must-task p w _ k) (inc-task p w f v n))
 
     pub with-is : (i j : Place) → (Has i ⊎ Has j) ↔ TaskWith p i j f v n
     with-is i j = (

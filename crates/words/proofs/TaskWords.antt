@@ -1,5 +1,6 @@
 -- The words that are worked out of a task's conditions say its facts. Assumes nothing.
 use mathlib.Core.Path.{_≡_, refl, ap, _∙_}
+use mathlib.Core.Logic.{Iff·trans, Iff·symm}
 use mathlib.Core.Bool.{Bool, true, false}
 use mathlib.Core.Option.{none, some}
 use mathlib.Core.List.{List, [], _∷_}
@@ -8,7 +9,7 @@ use native.Mathlib.Omega.{arith}
 use lib.Bits.{bitAnd, bitOr, bitXor}
 use lib.ListN.{getD}
 use Rattle.bits.specs.Bits.{ones, Says}
-use Rattle.bits.proofs.Says.{says-map, says-eq, says-or, says-less, says-not, says-none}
+use Rattle.bits.proofs.Says.{says-map, says-eq, says-or, says-less, says-neither, says-none}
 use Rattle.runs.specs.Plan.{Place, pre, inc, post, Plan}
 use Rattle.runs.proofs.Summary.Clobber.{clobber-task}
 use Rattle.runs.proofs.Summary.ReflectClobber.{must-clobber-task}
@@ -35,7 +36,7 @@ module _ {conds : List ℕ} {n : ℕ} {p : Plan} (t : Task conds n p) where
     asserted f l = says-map (a-sign _) (says-or {x = a} {y = b} refl (word post false 4 a f refl qa l) (word post true 5 b f refl qb l))
 
     silent : (f : ℕ) → f < 64 → Says (bitXor (bitOr a b) ones) f (p .cond .sign post n f ≡ none)
-    silent f l = says-map (no-sign _) (says-not {x = bitOr a b} l refl (says-or {x = a} {y = b} refl (word post false 4 a f refl qa l) (word post true 5 b f refl qb l)))
+    silent f l = says-map (no-sign _) (says-neither {x = a} {y = b} l refl (word post false 4 a f refl qa l) (word post true 5 b f refl qb l))
 
     pub literal-says : (v : Bool) (s x y z : ℕ) → s ≡ signNum v → x ≡ getD conds (n * 6 + s) 0 → y ≡ getD conds (n * 6 + (2 + s)) 0
         → z ≡ getD conds (n * 6 + (4 + s)) 0 → LiteralSays p n v (record {
@@ -71,7 +72,7 @@ module _ {conds : List ℕ} {n : ℕ} {p : Plan} (t : Task conds n p) where
       where
         -- must incondition is may incondition
         must : (v : Bool) (z f : ℕ) → Says z f (Fact p n f (may-inc v)) → Says z f (Fact p n f (must-inc v))
-        must v z f s = says-map (λ h. (must-inc-is p (t .well-formed) (t .is-task) f v) .0 ((may-inc-is p (t .well-formed) (t .is-task) f v) .1 h), λ h. (may-inc-is p (t .well-formed) (t .is-task) f v) .0 ((must-inc-is p (t .well-formed) (t .is-task) f v) .1 h)) s
+        must v z f s = says-map (Iff·trans (Iff·symm (may-inc-is p (t .well-formed) (t .is-task) f v)) (must-inc-is p (t .well-formed) (t .is-task) f v)) s
 
         at : (col : Column) (f : ℕ) → f < 64 → Says (getD (rowOf (bitXor (bitOr a b) ones) c d) (indexOf col) 0) f (Fact p n f col)
         at avoid f l = says-map (avoid-task p (t .well-formed) (t .is-task) f) (silent f l)

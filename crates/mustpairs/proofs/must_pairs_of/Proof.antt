@@ -50,7 +50,7 @@ loop-again c =
     let at = position turn test in (
       next-turn turn test,
       λ p g hc v q f m. child-more (turn .low) (l .loop .inv .1 p g hc v q f m)
-          (added (l .loop .flags) (c .must-pair-word .result) m refl (c .must-pair-word .ensures p g hc (kid g refl at) v q f m)),
+          (added (l .loop .flags) (c .must-pair-word .result) m refl (c .must-pair-word .ensures .says p g hc (kid g refl at) v q f m)),
     )
 
 returns-2 : tie.Need-returns-2 Inv-loop μ-loop

@@ -1,6 +1,7 @@
 -- `pair_word` meets its contract: a case for each place where it returns. Assumes nothing.
 use Rattle.words.proofs.Turns.{position-small, kid-small}
-use Rattle.pairs.proofs.Pairs.{none-shared, shared-passes, apart-both, neither-rule, pair-kid, passing-kid}
+use Rattle.passing.proofs.Laws.{passing-kid}
+use Rattle.pairs.proofs.Pairs.{none-shared, shared-passes, apart-both, neither-rule, pair-kid}
 use native.Mathlib.Omega.{arith}
 use borrow.Author.Needs.{needs}
 use Rattle.pairs.proofs.pair_word.Statement.{statement}

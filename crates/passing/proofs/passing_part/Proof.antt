@@ -23,8 +23,8 @@ returns c = let l = c .before .before in part-empty (omega (arith, l .loop .inv 
 element-copy-out-wide : tie.Need-element-copy-out-wide Inv-loop μ-loop
 element-copy-out-wide c = omega (arith, c .before .before .before .pre .0 .ends)
 
-counts-requires : tie.Need-counts-requires Inv-loop μ-loop
-counts-requires c κs =
+in-the-way-requires : tie.Need-in-the-way-requires Inv-loop μ-loop
+in-the-way-requires c κs =
     let l = c .before .before .before .before in
     let kid = l .before .pre .0 .nodes .each (l .loop .i) (l .loop .inv .0 .0) (omega arith) in
     omega (arith, l .before .pre .1, kid, c .wide .ensures)
@@ -41,7 +41,7 @@ loop-again c =
     let e = c .before .before .before .wide .ensures in (
       omega arith,
       part-more (l .loop .inv .0 .0) (c .narrowed .ensures)
-          (λ f k. implied (rw e at (c .before .before .counts .ensures)) (rw e at (c .before .lets-pass .ensures f k))) (l .loop .inv .1),
+          (λ f k. implied (rw e at (c .before .before .in-the-way .ensures)) (rw e at (c .before .lets-pass .ensures f k))) (l .loop .inv .1),
     )
 
 returns-2 : tie.Need-returns-2 Inv-loop μ-loop
@@ -60,7 +60,7 @@ passing-part-spec =
     returns
     element-copy-out-wide
     (λ c κs. omega arith)
-    counts-requires
+    in-the-way-requires
     lets-pass-requires
     (λ c κs. omega arith)
     (λ c. omega arith)
