@@ -1,3 +1,3 @@
--- What a call answers and leaves, and tables of zeros. Definitions only.
+-- What a call answers and leaves; memory of zeros. Definitions only.
 pub mod Answers
 pub mod Zeros
