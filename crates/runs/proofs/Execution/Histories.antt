@@ -1,14 +1,10 @@
 -- Histories: the states that they leave, what holds of all their events, and what they were earlier.
 use Rattle.runs.proofs.Base.{_≡_, refl, ap, _≢_, _⊎_, inl, inr, Bool, true, false, cond, [], _∷_, _++_, ℕ, T, eqb, eqb→eq, eqb-refl}
 use Rattle.runs.specs.Execution.{waiting, Event, History, nodeOf, statusOf, statusAfter, Earlier, now, then}
-use Rattle.runs.proofs.Reflect.{clash}
 use Rattle.runs.specs.Classes.{All, all-nil, all-cons, Anything}
+use Rattle.runs.proofs.Reflect.{clash, T-true}
 
 -- the states
-true-of : (b : Bool) → T b → b ≡ true
-true-of true t = refl
-true-of false t = absurd t
-
 false-of : (b : Bool) → ¬ T b → b ≡ false
 false-of true k = absurd (k tt)
 false-of false k = refl
@@ -19,7 +15,7 @@ after-nil x = refl
 
 pub after-same : (e : Event) (h : History) → statusAfter (e ∷ h) (nodeOf e) ≡ statusOf e
 unfolding statusAfter
-after-same e h = rw (true-of (eqb (nodeOf e) (nodeOf e)) (eqb-refl (nodeOf e)))
+after-same e h = rw (T-true (eqb (nodeOf e) (nodeOf e)) (eqb-refl (nodeOf e)))
 
 pub after-other : (e : Event) (h : History) (x : ℕ) → x ≢ nodeOf e → statusAfter (e ∷ h) x ≡ statusAfter h x
 unfolding statusAfter
