@@ -1,3 +1,2 @@
--- What a call answers and leaves, and tables of zeros. Definitions only.
+-- What a call answers and leaves. Definitions only.
 pub mod Answers
-pub mod Zeros

@@ -1,1 +1,1 @@
-// Definitions and laws only: what a call answers, what it leaves in lent memory, and tables of zeros.
+// Definitions and laws only: what a call answers, and what it leaves in lent memory.
