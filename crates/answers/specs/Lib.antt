@@ -1,3 +1,2 @@
--- What a call answers and leaves; memory of zeros. Definitions only.
+-- What a call answers and leaves. Definitions only.
 pub mod Answers
-pub mod Zeros

@@ -1,1 +1,1 @@
-// Definitions and laws only: what a call answers, and what it leaves in lent memory; memory of zeros.
+// Definitions and laws only: what a call answers, and what it leaves in lent memory.

@@ -6,7 +6,7 @@ use Prim.Native.Nat.{ℕ, _+_, _-_, _*_, _<_, _≤_}
 use native.Mathlib.Decide.{ℕ-discrete, decLt}
 use native.Mathlib.Omega.{arith}
 use lib.ListN.{length}
-use Rattle.answers.specs.Zeros.{Zeros}
+use Rattle.zeros.specs.Zeros.{Zeros}
 use Rattle.words.specs.Tables.{code, RepresentsOrder}
 use Rattle.format.specs.Format.{orderCount, earlierOf, laterOf}
 use Rattle.rules.specs.Rules.{refusal}

@@ -2,7 +2,7 @@
 ghost use mathlib.Core.Path.{_≡_};
 ghost use Prim.Native.Nat.{_<_};
 ghost use lib.ListN.{length};
-ghost use Rattle.answers.specs.Zeros.{Zeros};
+ghost use Rattle.zeros.specs.Zeros.{Zeros};
 ghost use Rattle.rules.specs.Rules.{refusal};
 ghost use Rattle.plan.specs.Meaning.{planOf};
 ghost use Rattle.words.specs.Tables.{RepresentsOrder};

@@ -9,7 +9,6 @@ ghost use Rattle.verdict.specs.Verdict.{wordOf};
 ghost use Rattle.decimals.specs.Decimals.{Wrote};
 ghost use Rattle.listing.specs.Text.{letters, textOf};
 ghost use Rattle.listing.specs.Listing.{Lists, Prints};
-use children::no_nodes;
 use decimals::write_bytes;
 use lines::end_line;
 use lines::write_lines;
@@ -18,7 +17,8 @@ use ranking::rank;
 use verdict::Verdict;
 use verdict::judge;
 use waits::longest_waits;
-use waits::no_times;
+use zeros::no_nodes;
+use zeros::no_times;
 
 // A refusal up to 15, or the length of the text.
 pub enum Listed {

@@ -11,7 +11,7 @@ use lib.ListN.{length, getD, set, length-set}
 use lib.Seq.{getD-set-same, getD-set-other}
 use lib.Dec.{eqb}
 use borrow.Author.Tests.{eq-eqb, ne-eqb}
-use Rattle.answers.specs.Zeros.{Zeros}
+use Rattle.zeros.specs.Zeros.{Zeros}
 use Rattle.passes.specs.declared.Step.{Step}
 
 -- entry k of the table after the first m of the steps s

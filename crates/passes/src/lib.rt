@@ -12,7 +12,7 @@ use rules::tests::wide;
 ghost use mathlib.Core.Path.{_≡_};
 ghost use mathlib.Core.Bool.{false};
 ghost use Prim.Native.Nat.{_<_};
-ghost use Rattle.answers.specs.Zeros.{Zeros};
+ghost use Rattle.zeros.specs.Zeros.{Zeros};
 ghost use Rattle.format.specs.Format.{nodeCount, condCount, Whole};
 ghost use Rattle.rules.specs.Rules.{cause9};
 ghost use Rattle.passes.specs.Passes.{childStep, signStep, postStep, stepOf, stepsOf, Ready, passCause};

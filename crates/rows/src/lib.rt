@@ -8,13 +8,13 @@ ghost use Rattle.plan.specs.Meaning.{planOf};
 ghost use Rattle.literals.specs.Words.{MarkWords};
 ghost use Rattle.rows.specs.Rows.{RowsOf};
 use chains::no_order;
-use children::no_nodes;
-use children::no_starts;
 use format::fields::nodes;
 use literals::mark_words;
 use marks::node_rows;
 use tables::fill_tables;
-use tables::no_conditions;
+use zeros::no_conditions;
+use zeros::no_nodes;
+use zeros::no_starts;
 
 fn no_rows() -> [u64; 2688]
     ensures { λ r. ⌜ length r ≡ 2688 ⌝ }

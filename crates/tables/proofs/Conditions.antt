@@ -19,7 +19,7 @@ use Rattle.plan.specs.Meaning.{planOf, placeNumber, signNumber}
 use Rattle.plan.proofs.Accepted.{clean}
 use Rattle.plan.proofs.Meaning.{means}
 use Rattle.words.specs.Tables.{placeNum, signNum, RepresentsConditions}
-use Rattle.answers.specs.Zeros.{Zeros}
+use Rattle.zeros.specs.Zeros.{Zeros}
 
 -- `1 << k` is added to word j
 pub bit-added : (c : List ℕ) (j k : ℕ) → k < 64 → set c j (bitOr (getD c j 0) ((1 * 2 ^ k) % 2 ^ 64)) ≡ set c j (bitOr (getD c j 0) (2 ^ k))

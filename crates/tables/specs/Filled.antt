@@ -1,7 +1,7 @@
 -- The tables of an accepted plan, before and after they are filled. Definitions only.
 use mathlib.Core.List.{List}
 use Prim.Native.Nat.{ℕ}
-use Rattle.answers.specs.Zeros.{Zeros}
+use Rattle.zeros.specs.Zeros.{Zeros}
 use Rattle.format.specs.Format.{nodeCount}
 use Rattle.plan.specs.Meaning.{planOf}
 use Rattle.words.specs.Tables.{Shaped, Represents}

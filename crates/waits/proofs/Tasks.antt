@@ -9,7 +9,7 @@ use lib.ListN.{length, getD, set, length-set}
 use lib.Seq.{getD-set-same, getD-set-other}
 use Rattle.format.specs.Format.{nodeCount, kindOf, minutesOf}
 use Rattle.plan.proofs.Accepted.{Clean}
-use Rattle.answers.specs.Zeros.{Zeros}
+use Rattle.zeros.specs.Zeros.{Zeros}
 use Rattle.lengths.specs.Waits.{lengthOf}
 use Rattle.spread.specs.Spread.{Tables}
 use Rattle.lengths.proofs.Laws.{length-task}

@@ -4,7 +4,7 @@ ghost use Prim.Native.Nat.{_<_};
 ghost use lib.ListN.{length};
 ghost use Rattle.format.specs.Format.{nodeCount, kindOf};
 ghost use Rattle.rules.specs.Rules.{refusal};
-ghost use Rattle.answers.specs.Zeros.{Zeros};
+ghost use Rattle.zeros.specs.Zeros.{Zeros};
 ghost use Rattle.lengths.specs.Waits.{lengthOf};
 ghost use Rattle.spread.specs.Spread.{Tables};
 ghost use Rattle.waits.specs.Filled.{Worked, AllWorked, Within, Longest};
@@ -15,6 +15,7 @@ use format::fields::parent;
 use rules::tests::wide;
 use spread::longest_child;
 use spread::spread;
+use zeros::no_times;
 
 // Works out an all-of group and all groups under it: the lengths, and the waits of the children.
 fn all_length(plan: &[u8], lengths: &mut [u32; 128], waits: &mut [u32; 128], node: usize)
@@ -58,13 +59,6 @@ fn any_length(plan: &[u8], lengths: &mut [u32; 128], waits: &mut [u32; 128], nod
     }
     let longest = longest_child(plan, lengths, node);
     lengths[node] = longest;
-}
-
-// A table with a zero for each node.
-pub fn no_times() -> [u32; 128]
-    ensures { λ r. ⌜ Zeros 128 r ⌝ }
-{
-    [0u32; 128]
 }
 
 // The lengths of the tasks.

@@ -1,5 +1,5 @@
 -- `no_order` meets its contract. Assumes nothing.
-use Rattle.answers.proofs.Zeros.{zeros}
+use Rattle.zeros.proofs.Zeros.{zeros}
 use Rattle.chains.proofs.no_order.Statement.{statement}
 use Rattle.chains.proofs.no_order.Tie as tie
 

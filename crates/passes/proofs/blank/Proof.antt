@@ -1,5 +1,5 @@
 -- `passes::blank` meets its contract. Assumes nothing.
-use Rattle.answers.proofs.Zeros.{zeros}
+use Rattle.zeros.proofs.Zeros.{zeros}
 use Rattle.passes.proofs.blank.Statement.{statement}
 use Rattle.passes.proofs.blank.Tie as tie
 

@@ -1,5 +1,5 @@
 -- `progress::blank` meets its contract. Assumes nothing.
-use Rattle.answers.proofs.Zeros.{blank}
+use Rattle.zeros.proofs.Zeros.{blank}
 use mathlib.Core.Path.{refl}
 use Rattle.progress.proofs.blank.Statement.{statement}
 use Rattle.progress.proofs.blank.Tie as tie

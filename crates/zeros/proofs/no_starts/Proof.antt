@@ -1,7 +1,7 @@
 -- `no_starts` meets its contract. Assumes nothing.
-use Rattle.answers.proofs.Zeros.{zeros}
-use Rattle.children.proofs.no_starts.Statement.{statement}
-use Rattle.children.proofs.no_starts.Tie as tie
+use Rattle.zeros.proofs.Zeros.{zeros}
+use Rattle.zeros.proofs.no_starts.Statement.{statement}
+use Rattle.zeros.proofs.no_starts.Tie as tie
 
 returns : tie.Need-returns
 returns c = zeros 129

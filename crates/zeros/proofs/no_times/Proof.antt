@@ -1,7 +1,7 @@
 -- `no_times` meets its contract. Assumes nothing.
-use Rattle.answers.proofs.Zeros.{zeros}
-use Rattle.waits.proofs.no_times.Statement.{statement}
-use Rattle.waits.proofs.no_times.Tie as tie
+use Rattle.zeros.proofs.Zeros.{zeros}
+use Rattle.zeros.proofs.no_times.Statement.{statement}
+use Rattle.zeros.proofs.no_times.Tie as tie
 
 returns : tie.Need-returns
 returns c = zeros 128

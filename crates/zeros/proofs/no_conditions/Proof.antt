@@ -1,7 +1,7 @@
 -- `no_conditions` meets its contract. Assumes nothing.
-use Rattle.answers.proofs.Zeros.{zeros}
-use Rattle.tables.proofs.no_conditions.Statement.{statement}
-use Rattle.tables.proofs.no_conditions.Tie as tie
+use Rattle.zeros.proofs.Zeros.{zeros}
+use Rattle.zeros.proofs.no_conditions.Statement.{statement}
+use Rattle.zeros.proofs.no_conditions.Tie as tie
 
 returns : tie.Need-returns
 returns c = zeros 768

@@ -2,7 +2,7 @@
 use mathlib.Core.Path.{_≡_, refl}
 use Prim.Native.Nat.{ℕ, zero, suc}
 use lib.ListN.{getD, replicate, length-replicate, getD-replicate}
-use Rattle.answers.specs.Zeros.{Zeros}
+use Rattle.zeros.specs.Zeros.{Zeros}
 
 pub zeros : (n : ℕ) → Zeros n (replicate n 0)
 zeros n = record { long = length-replicate {A = ℕ} n 0; zero = λ j l. getD-replicate {A = ℕ} n j 0 0 l }

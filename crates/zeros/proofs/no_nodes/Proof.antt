@@ -1,7 +1,7 @@
 -- `no_nodes` meets its contract. Assumes nothing.
-use Rattle.answers.proofs.Zeros.{zeros}
-use Rattle.children.proofs.no_nodes.Statement.{statement}
-use Rattle.children.proofs.no_nodes.Tie as tie
+use Rattle.zeros.proofs.Zeros.{zeros}
+use Rattle.zeros.proofs.no_nodes.Statement.{statement}
+use Rattle.zeros.proofs.no_nodes.Tie as tie
 
 returns : tie.Need-returns
 returns c = zeros 128
