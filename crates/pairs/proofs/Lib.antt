@@ -1,4 +1,2 @@
--- Laws of the pairs of children that may clobber, and of the search for them.
+-- Laws of the words of a pair of children.
 pub mod Pairs
-pub mod Search
-pub mod Again

@@ -5,10 +5,11 @@ use mathlib.Core.Bool.{Bool, true, false, not}
 use mathlib.Core.List.{List}
 use Prim.Native.Nat.{ℕ, _+_, _-_, _<_}
 use native.Mathlib.Omega.{arith}
-use lib.Bits.{bitAnd}
+use lib.Bits.{bitAnd, bitOr}
 use lib.Dec.{T}
 use Rattle.bits.specs.Bits.{bit, Says}
-use Rattle.bits.proofs.Says.{says-map, says-self, says-and, says-none, says-among, no-flag, among-left}
+use Rattle.bits.proofs.Says.{says-map, says-self, says-and, says-or, says-none, says-among, no-flag, among-left}
+use Rattle.bits.proofs.Words.{or-zero}
 use Rattle.runs.specs.Plan.{Plan, Child, Before, Unordered}
 use Rattle.runs.specs.Summary.{MayClobber, ClobberByPairs, in-child, unordered-pair, passed-on}
 use Rattle.words.specs.Tables.{signNum, code}
@@ -19,7 +20,7 @@ use Rattle.siblings.specs.Siblings.{Apart}
 use Rattle.siblings.proofs.Sibling.{apart-is}
 use Rattle.passing.specs.Passing.{Between, PassingWord, Pairing, SomePair}
 use Rattle.pairs.specs.declared.Literals.{Literals}
-use Rattle.pairs.specs.Pairs.{Pair, PairWord, wordOf, PairWords}
+use Rattle.pairs.specs.Pairs.{Pair, PairWord, wordOf, PairWords, NoneRequired}
 
 -- which of the two rules a pair meets, by its order; W is what is wanted
 module _ {p : Plan} {n c d f : ℕ} {v : Bool} {W : Type 0} where
@@ -122,3 +123,19 @@ by-pairs p n f v = (to, back)
     back : ((c : ℕ) × Child p n c × MayClobber p f v c) ⊎ SomePair p n (Pair p n f v) → ClobberByPairs p f v n
     back (inl x) = in-child (x .0) (x .1) (x .2)
     back (inr x) = pair (x .0) (x .1) (x .2 .0) (x .2 .1) (x .2 .2)
+
+-- c requires no wanted literal
+pub none-required : (rows : List ℕ) (wanted : Literals) (c a b x y : ℕ) → a ≡ wordAt rows c 11 → b ≡ wordAt rows c 5 → x ≡ wordAt rows c 12 → y ≡ wordAt rows c 6
+    → bitOr (bitAnd (wanted .clear) (bitOr a b)) (bitAnd (wanted .set) (bitOr x y)) ≡ 0 → NoneRequired rows wanted c
+none-required rows wanted c a b x y ea eb ex ey e = record { none = λ v f l. at v f }
+  where
+    none : (w s t : ℕ) → bitAnd w (bitOr s t) ≡ 0 → (f : ℕ) → T (bit w f) → ¬ (T (bit s f) ⊎ T (bit t f))
+    none w s t q f h z = no-flag (bitAnd w (bitOr s t)) f q
+        (says-and {x = w} {y = bitOr s t} refl (says-self w f) (says-or {x = s} {y = t} refl (says-self s f) (says-self t f)) .from (h, z))
+
+    both : (bitAnd (wanted .clear) (bitOr a b) ≡ 0) × (bitAnd (wanted .set) (bitOr x y) ≡ 0)
+    both = or-zero (bitAnd (wanted .clear) (bitOr a b)) (bitAnd (wanted .set) (bitOr x y)) e
+
+    at : (v : Bool) (f : ℕ) → T (bit (wordOf wanted v) f) → ¬ (T (bit (wordAt rows c (indexOf (requires v))) f) ⊎ T (bit (wordAt rows c (indexOf (may-pre v))) f))
+    at false f = rw (ea, eb) at (none (wanted .clear) a b (both .0) f)
+    at true f = rw (ex, ey) at (none (wanted .set) x y (both .1) f)

@@ -1,8 +1,8 @@
-// The pairs of children of an all-of group that may clobber a literal: for all flags at once, from the rows of the children.
-ghost use Prim.Native.Nat.{_+_, _≤_, _<_};
+// The literals that a pair of children of an all-of group may clobber: for all flags at once, from the rows of the children.
+ghost use Prim.Native.Nat.{_<_};
 ghost use lib.ListN.{getD};
 ghost use Rattle.words.specs.Tables.{Position, Shaped};
-ghost use Rattle.pairs.specs.Pairs.{PairWord, PairWords, FirstPartner, Search, AllPairs};
+ghost use Rattle.pairs.specs.Pairs.{PairWord, PairWords, FirstPartner};
 use passing::passing;
 use siblings::apart;
 use words::wide;
@@ -56,7 +56,7 @@ fn pair_word(
 }
 
 // The wanted literals that the child c and the child at j clobber.
-fn pair_words(
+pub fn pair_words(
     from: &[u8; 129],
     kids: &[u8; 128],
     order: &[u8; 16384],
@@ -79,7 +79,13 @@ fn pair_words(
 }
 
 // The position of the first child to pair with c: past them all, if c requires no wanted literal.
-fn first_partner(rows: &[u64; 2688], wanted: Literals, c: usize, start: usize, end: usize) -> usize
+pub fn first_partner(
+    rows: &[u64; 2688],
+    wanted: Literals,
+    c: usize,
+    start: usize,
+    end: usize,
+) -> usize
     requires { ⌜ c < 128 ⌝ }
     ensures { λ r. ⌜ FirstPartner (now (rows .entry)) wanted c start end r ⌝ }
 {
@@ -89,77 +95,4 @@ fn first_partner(rows: &[u64; 2688], wanted: Literals, c: usize, start: usize, e
         return end;
     }
     start
-}
-
-// The literals of a pair that a search found, and the position of the pair's first child; with no literal, the end of the children.
-pub struct Found {
-    pub literals: Literals,
-    pub at: usize,
-}
-
-// Looks for a pair of children that clobbers a wanted literal, from a position of the first child on; the search ends as soon as one is found.
-pub fn clobbering_pair(
-    from: &[u8; 129],
-    kids: &[u8; 128],
-    order: &[u8; 16384],
-    rows: &[u64; 2688],
-    n: usize,
-    node: usize,
-    wanted: Literals,
-    first: usize,
-) -> Found
-    requires { ⌜ (Shaped (now from) (now kids) n × (node < n)) × ((getD (now from) node 0 ≤ first) × (first ≤ getD (now from) (node + 1) 0)) ⌝ }
-    ensures { λ r. ⌜ Search (now (from .entry)) (now (kids .entry)) (now (order .entry)) (now (rows .entry)) n node wanted first r ⌝ }
-{
-    let end = wide(from[node + 1]);
-    let start = wide(from[node]);
-    let mut found = Literals { clear: 0, set: 0 };
-    let mut i = first;
-    'search: while i < end {
-        let c = wide(kids[i]);
-        let mut j = first_partner(rows, wanted, c, start, end);
-        while j < end {
-            let pair = pair_words(from, kids, order, rows, n, node, wanted, c, j);
-            if (pair.clear | pair.set) != 0 {
-                found = pair;
-                break 'search;
-            }
-            j += 1;
-        }
-        i += 1;
-    }
-    Found {
-        literals: found,
-        at: i,
-    }
-}
-
-// The wanted literals that some pair of children clobbers: the search is asked again for those still wanted, and goes on at the child where it stood.
-pub fn clobbering_pairs(
-    from: &[u8; 129],
-    kids: &[u8; 128],
-    order: &[u8; 16384],
-    rows: &[u64; 2688],
-    n: usize,
-    node: usize,
-    wanted: Literals,
-) -> Literals
-    requires { ⌜ Shaped (now from) (now kids) n × (node < n) ⌝ }
-    ensures { λ r. ⌜ AllPairs (now (from .entry)) (now (kids .entry)) (now (order .entry)) (now (rows .entry)) n node wanted r ⌝ }
-{
-    let mut left = wanted;
-    let mut found = Literals { clear: 0, set: 0 };
-    let mut first = wide(from[node]);
-    loop {
-        let next = clobbering_pair(from, kids, order, rows, n, node, left, first);
-        let pair = next.literals;
-        if (pair.clear | pair.set) == 0 {
-            return found;
-        }
-        first = next.at;
-        found.clear = found.clear | pair.clear;
-        found.set = found.set | pair.set;
-        left.clear = left.clear ^ (left.clear & pair.clear);
-        left.set = left.set ^ (left.set & pair.set);
-    }
 }

@@ -1,7 +1,7 @@
 -- `first_partner` meets its contract. Assumes nothing.
 use mathlib.Core.Path.{refl}
 use mathlib.Core.Logic.{inl, inr}
-use Rattle.pairs.proofs.Search.{none-required}
+use Rattle.pairs.proofs.Pairs.{none-required}
 use borrow.Author.Needs.{needs}
 use Rattle.pairs.proofs.first_partner.Statement.{statement}
 use Rattle.pairs.proofs.first_partner.Tie as tie

@@ -5,11 +5,11 @@ use mathlib.Core.Bool.{Bool, true, false}
 use mathlib.Core.List.{List}
 use Prim.Native.Nat.{ℕ, _+_, _≤_, _<_}
 use native.Mathlib.Omega.{arith}
-use lib.Bits.{bitAnd, bitOr}
+use lib.Bits.{bitOr}
 use lib.Dec.{T}
 use lib.ListN.{getD}
 use Rattle.bits.specs.Bits.{bit}
-use Rattle.bits.proofs.Says.{says-self, says-and, says-or, no-flag}
+use Rattle.bits.proofs.Says.{no-flag}
 use Rattle.bits.proofs.Words.{or-zero}
 use Rattle.runs.specs.Plan.{Plan}
 use Rattle.words.specs.Tables.{Position}
@@ -20,24 +20,9 @@ use Rattle.words.proofs.Segments.{every-next, every-child}
 use Rattle.words.proofs.Turns.{Turn, turn-at, position, next-turn, last-turn}
 use Rattle.passing.specs.Passing.{Pairing, OfPlans}
 use Rattle.passing.proofs.Laws.{kid}
 use Rattle.pairs.specs.declared.Literals.{Literals}
-use Rattle.pairs.specs.Pairs.{Pair, wordOf, PairWords, NoneRequired, FirstPartner, NoClobber, Unclobbered, Search}
-
--- c requires no wanted literal
-pub none-required : (rows : List ℕ) (wanted : Literals) (c a b x y : ℕ) → a ≡ wordAt rows c 11 → b ≡ wordAt rows c 5 → x ≡ wordAt rows c 12 → y ≡ wordAt rows c 6
-    → bitOr (bitAnd (wanted .clear) (bitOr a b)) (bitAnd (wanted .set) (bitOr x y)) ≡ 0 → NoneRequired rows wanted c
-none-required rows wanted c a b x y ea eb ex ey e = record { none = λ v f l. at v f }
-  where
-    none : (w s t : ℕ) → bitAnd w (bitOr s t) ≡ 0 → (f : ℕ) → T (bit w f) → ¬ (T (bit s f) ⊎ T (bit t f))
-    none w s t q f h z = no-flag (bitAnd w (bitOr s t)) f q
-        (says-and {x = w} {y = bitOr s t} refl (says-self w f) (says-or {x = s} {y = t} refl (says-self s f) (says-self t f)) .from (h, z))
-
-    both : (bitAnd (wanted .clear) (bitOr a b) ≡ 0) × (bitAnd (wanted .set) (bitOr x y) ≡ 0)
-    both = or-zero (bitAnd (wanted .clear) (bitOr a b)) (bitAnd (wanted .set) (bitOr x y)) e
-
-    at : (v : Bool) (f : ℕ) → T (bit (wordOf wanted v) f) → ¬ (T (bit (wordAt rows c (indexOf (requires v))) f) ⊎ T (bit (wordAt rows c (indexOf (may-pre v))) f))
-    at false f = rw (ea, eb) at (none (wanted .clear) a b (both .0) f)
-    at true f = rw (ex, ey) at (none (wanted .set) x y (both .1) f)
+use Rattle.pairs.specs.Pairs.{Pair, wordOf, PairWords, FirstPartner}
+use Rattle.maypairs.specs.Search.{NoClobber, Unclobbered, Search}
 
 word-zero : (r : Literals) → bitOr (r .clear) (r .set) ≡ 0 → (v : Bool) → wordOf r v ≡ 0
 word-zero r e false = (or-zero (r .clear) (r .set) e) .0

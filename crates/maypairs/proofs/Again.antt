@@ -16,9 +16,10 @@ use Rattle.runs.specs.Plan.{Plan, Child}
 use Rattle.words.specs.Segments.{Every}
 use Rattle.words.proofs.Segments.{every-child, joined}
 use Rattle.passing.specs.Passing.{SomePair, Pairing}
-use Rattle.pairs.specs.declared.Found.{Found}
+use Rattle.maypairs.specs.declared.Found.{Found}
 use Rattle.pairs.specs.declared.Literals.{Literals}
-use Rattle.pairs.specs.Pairs.{Pair, wordOf, Unclobbered, Search, AllPairs}
+use Rattle.pairs.specs.Pairs.{Pair, wordOf}
+use Rattle.maypairs.specs.Search.{Unclobbered, Search, AllPairs}
 
 -- one literal word more, one less
 abbrev pub gained : Literals → Literals → Literals

@@ -2,10 +2,10 @@
 use mathlib.Core.Path.{_≡_, refl}
 use Prim.Native.Nat.{_-_}
 use Rattle.words.proofs.Turns.{Turn, position-small, kid-below, kid-small, position, next-turn, last-turn}
-use Rattle.pairs.proofs.Search.{Standing, standing-first, standing-next, NoneWith, NonePassed, partners, outer-none, inner-more, outer-more, nothing-found, pair-found}
+use Rattle.maypairs.proofs.Search.{Standing, standing-first, standing-next, NoneWith, NonePassed, partners, outer-none, inner-more, outer-more, nothing-found, pair-found}
 use native.Mathlib.Omega.{arith}
-use Rattle.pairs.proofs.clobbering_pair.Statement.{statement}
-use Rattle.pairs.proofs.clobbering_pair.Tie as tie
+use Rattle.maypairs.proofs.clobbering_pair.Statement.{statement}
+use Rattle.maypairs.proofs.clobbering_pair.Tie as tie
 
 abbrev Inv-loop : tie.InvT-loop
 Inv-loop from kids order rows n node wanted first end start found₀ i c j₀ found j =

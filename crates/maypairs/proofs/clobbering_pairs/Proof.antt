@@ -1,9 +1,9 @@
 -- `clobbering_pairs` meets its contract. Assumes nothing.
 use Prim.Native.Nat.{_+_}
 use native.Mathlib.Omega.{arith}
-use Rattle.pairs.proofs.Again.{Progress, at-first, found-more, all-found, fewer}
-use Rattle.pairs.proofs.clobbering_pairs.Statement.{statement}
-use Rattle.pairs.proofs.clobbering_pairs.Tie as tie
+use Rattle.maypairs.proofs.Again.{Progress, at-first, found-more, all-found, fewer}
+use Rattle.maypairs.proofs.clobbering_pairs.Statement.{statement}
+use Rattle.maypairs.proofs.clobbering_pairs.Tie as tie
 
 abbrev Inv-loop : tie.InvT-loop
 Inv-loop from kids order rows n node left₀ found₀ first₀ left found first = Progress from kids order rows n node left₀ left found first
