@@ -12,7 +12,7 @@ use borrow.Author.Tests.{eqb-true, not-false, lt-ltb, le-ltb}
 use Rattle.format.specs.Format.{nodeCount, isKind}
 use Rattle.rules.specs.Search.{someBelow}
 use Rattle.rules.proofs.Laws.{either, or-none, none-at}
-use Rattle.plan.specs.Meaning.{placeNumber}
+use Rattle.runs.specs.Plan.{placeNumber}
 use Rattle.plan.proofs.Meaning.{kind-is}
 use Rattle.runs.specs.Execution.{Event, nodeOf, statusOf}
 use Rattle.runs.specs.Calls.{statusByte}

@@ -17,11 +17,11 @@ use Rattle.flags.proofs.Laws.{length-with, with-same, with-other}
 use Rattle.format.specs.Format.{nodeCount, kindOf, condCount, condNode, condValue}
 use Rattle.rules.specs.Rules.{refusal}
 use Rattle.rules.proofs.Laws.{either, and-both, and-of}
-use Rattle.plan.specs.Meaning.{placeNumber, signNumber, signIn}
+use Rattle.plan.specs.Meaning.{signIn}
 use Rattle.plan.proofs.Accepted.{clean}
 use Rattle.rules.proofs.Causes.{Usable, usable, condition-fits}
 use Rattle.plan.proofs.Meaning.{is, has, sign-is, sign-has, kind-is}
-use Rattle.runs.specs.Plan.{Place}
+use Rattle.runs.specs.Plan.{Place, placeNumber, signNumber}
 use Rattle.runs.specs.Tests.{sameB}
 use Rattle.runs.proofs.Reflect.{clash}
 use Rattle.state.specs.State.{byteOf}

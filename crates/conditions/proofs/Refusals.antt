@@ -15,8 +15,8 @@ use Rattle.format.specs.Format.{condCount, condNode, condValue}
 use Rattle.rules.specs.Rules.{refusal}
 use Rattle.rules.specs.Search.{someBelow}
 use Rattle.rules.proofs.Laws.{and-both, and-of, found-at, some-yes}
-use Rattle.plan.specs.Meaning.{planOf, placeNumber, signIn}
-use Rattle.runs.specs.Plan.{Place, pre, inc}
+use Rattle.plan.specs.Meaning.{planOf, signIn}
+use Rattle.runs.specs.Plan.{Place, pre, inc, placeNumber}
 use Rattle.runs.specs.Execution.{Event, start, nodeOf, asserts}
 use Rattle.runs.specs.Calls.{PreUnmet, IncBroken}
 use Rattle.runs.specs.Tests.{sameB}

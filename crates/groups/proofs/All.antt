@@ -13,7 +13,7 @@ use Rattle.runs.proofs.Summary.ByChildren.{avoids-all, may-pre-all, may-post-al
 use Rattle.words.specs.Columns.{Column, avoid, quiet, covered, may-pre, may-post, may-inc, requires, asserts, may-clobber, must-inc, must-clobber}
 use Rattle.words.specs.Columns.{indexOf, Fact}
 use Rattle.groups.specs.Groups.{Others, Within}
-use Rattle.words.proofs.Signs.{sign-small}
+use Rattle.runs.proofs.Plan.Numbers.{sign-small}
 use Rattle.groups.proofs.Any.{with-child}
 
 module _ (p : Plan) (w : WellFormed p) {n : ℕ} (l : Node p n) (k : p .tree .kind n ≡ all-of) (f : ℕ) where

@@ -18,7 +18,7 @@ use Rattle.runs.proofs.Summary.Clobber.{clobber-any}
 use Rattle.runs.proofs.Summary.ReflectClobber.{must-clobber-any}
 use Rattle.words.specs.Columns.{Column, avoid, quiet, covered, may-pre, may-post, may-inc, requires, asserts, may-clobber, must-inc, must-clobber}
 use Rattle.words.specs.Columns.{indexOf, Fact}
-use Rattle.words.proofs.Signs.{sign-small}
+use Rattle.runs.proofs.Plan.Numbers.{sign-small}
 
 module _ (p : Plan) (w : WellFormed p) where
   -- some task under a group has it: some task under a child

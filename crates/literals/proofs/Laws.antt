@@ -9,13 +9,12 @@ use lib.Bits.{bitAnd, bitOr, bitXor}
 use lib.ListN.{getD}
 use Rattle.bits.specs.Bits.{Says}
 use Rattle.bits.proofs.Says.{says-map, says-and, says-or, says-less}
-use Rattle.runs.specs.Plan.{Plan}
+use Rattle.runs.specs.Plan.{Plan, signNumber}
 use Rattle.runs.specs.Summary.{Mark, may-pre, must-pre, may-post, must-post, may-inc, must-inc, may-clobber, must-clobber, byteOf, Marked}
 use Rattle.runs.specs.Verdict.{Fails}
-use Rattle.words.specs.Tables.{signNum}
 use Rattle.words.specs.Columns as columns
 use Rattle.words.specs.Columns.{Right, wordAt}
-use Rattle.words.proofs.Signs.{sign-small}
+use Rattle.runs.proofs.Plan.Numbers.{sign-small}
 use Rattle.literals.specs.Words.{wordOf, markAt, firstWords, MarkWords, StartWord}
 
 pub mark-small : (m : Mark) → byteOf m < 8
@@ -54,7 +53,7 @@ byte-mark (suc (suc (suc (suc (suc (suc (suc (suc k)))))))) l = absurd (omega ar
 
 -- word k is for sign k / 8 and mark k % 8
 module _ {k : ℕ} (v : Bool) (m : Mark) (e : k ≡ wordOf v m) where
-  pub sign-is : k / 8 ≡ signNum v
+  pub sign-is : k / 8 ≡ signNumber v
   sign-is = omega (arith, e, mark-small m)
 
   pub mark-is : k % 8 ≡ byteOf m
@@ -79,7 +78,7 @@ first-small k l = rw (← byte-mark k l) (at (markAt k))
 -- the marks that have a column
 module _ {p : Plan} {rows : List ℕ} {n : ℕ} (r : Right p rows n) where
   pub column-says : (v : Bool) (m : Mark) → (byteOf m ≡ 1 → ⊥) → (byteOf m ≡ 3 → ⊥) → (f : ℕ) → f < 64
-      → Says (wordAt rows n (getD firstWords (byteOf m) 0 + signNum v)) f (Marked p n f v m)
+      → Says (wordAt rows n (getD firstWords (byteOf m) 0 + signNumber v)) f (Marked p n f v m)
   column-says v may-pre a b f l = r .says (columns.may-pre v) f l
   column-says v must-pre a b f l = absurd (a refl)
   column-says v may-post a b f l = r .says (columns.may-post v) f l

@@ -5,15 +5,14 @@ use mathlib.Core.List.{List, [], _∷_}
 use Prim.Native.Nat.{ℕ, zero, suc, _+_, _*_, _<_}
 use lib.ListN.{getD}
 use Rattle.bits.specs.Bits.{Says}
-use Rattle.runs.specs.Plan.{Plan, Node, WellFormed}
+use Rattle.runs.specs.Plan.{Plan, Node, WellFormed, signNumber}
 use Rattle.runs.specs.Summary.{Mark, may-pre, must-pre, may-post, must-post, may-inc, must-inc, may-clobber, must-clobber, byteOf, Marked}
 use Rattle.runs.specs.Verdict.{Fails}
-use Rattle.words.specs.Tables.{signNum}
 use Rattle.words.specs.Columns.{Right}
 
 -- the word of a sign and a mark
 abbrev pub wordOf : Bool → Mark → ℕ
-wordOf v m = byteOf m + 8 * signNum v
+wordOf v m = byteOf m + 8 * signNumber v
 
 -- the mark of a number, back from `byteOf`
 abbrev pub markAt : ℕ → Mark

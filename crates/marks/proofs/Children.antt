@@ -7,10 +7,10 @@ use native.Mathlib.Decide.{ℕ-discrete}
 use native.Mathlib.Omega.{arith}
 use lib.ListN.{length, getD}
 use Rattle.bits.proofs.Says.{says-eq}
-use Rattle.runs.specs.Plan.{Kind, task, all-of, any-of, Plan, Node, Under, itself, WellFormed}
+use Rattle.runs.specs.Plan.{Kind, task, all-of, any-of, Plan, Node, Under, itself, WellFormed, kindNumber}
 use Rattle.runs.proofs.Plan.Trees.{Branch, branch, under-root}
 use Rattle.runs.proofs.Execution.Final.{under-task}
-use Rattle.words.specs.Tables.{kindCode, Position, Shaped, RepresentsKinds, RepresentsConditions, Represents}
+use Rattle.words.specs.Tables.{Position, Shaped, RepresentsKinds, RepresentsConditions, Represents}
 use Rattle.words.specs.Columns.{indexOf, Right, Row, Written}
 use Rattle.words.specs.Segments.{Every}
 use Rattle.words.specs.Tasks.{Task}
@@ -21,17 +21,17 @@ use Rattle.passing.specs.Passing.{Pairing}
 use Rattle.marks.specs.Filled.{Given, Filled, TasksFilled, AllFilled}
 
 -- a kind by its code
-is-task : (k : Kind) → kindCode k ≢ 1 → kindCode k ≢ 2 → k ≡ task
+is-task : (k : Kind) → kindNumber k ≢ 1 → kindNumber k ≢ 2 → k ≡ task
 is-task task a b = refl
 is-task all-of a b = absurd (a refl)
 is-task any-of a b = absurd (b refl)
 
-is-all : (k : Kind) → kindCode k ≡ 1 → k ≡ all-of
+is-all : (k : Kind) → kindNumber k ≡ 1 → k ≡ all-of
 is-all task e = absurd (omega arith)
 is-all all-of e = refl
 is-all any-of e = absurd (omega arith)
 
-is-any : (k : Kind) → kindCode k ≡ 2 → k ≡ any-of
+is-any : (k : Kind) → kindNumber k ≡ 2 → k ≡ any-of
 is-any task e = absurd (omega arith)
 is-any all-of e = absurd (omega arith)
 is-any any-of e = refl
@@ -127,7 +127,7 @@ module _ {kind conds rows : List ℕ} where
     where
       at : (p : Plan) → WellFormed p → RepresentsKinds kind p → RepresentsConditions conds p → (t : ℕ) → t < i + 1 → Node p t → p .tree .kind t ≡ task
           → Dec (t ≡ i) → Right p rows t
-      at p w k c t l n q (yes e) = let y : getD kind i 0 ≡ kindCode task = rw (q, e) at (k .is t n) in absurd (z y)
+      at p w k c t l n q (yes e) = let y : getD kind i 0 ≡ kindNumber task = rw (q, e) at (k .is t n) in absurd (z y)
       at p w k c t l n q (no ne) = h .right p w k c t (omega arith) n q
 
 -- all nodes, once the root is worked out

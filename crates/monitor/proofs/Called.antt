@@ -2,7 +2,8 @@
 use mathlib.Core.Path.{_≡_, refl, sym, ap, _∙_}
 use mathlib.Core.List.{List}
 use Prim.Native.Nat.{ℕ}
-use Rattle.plan.specs.Meaning.{planOf, placeNumber}
+use Rattle.runs.specs.Plan.{placeNumber}
+use Rattle.plan.specs.Meaning.{planOf}
 use Rattle.runs.specs.Execution.{Event, statusOf}
 use Rattle.runs.specs.Calls.{one, statusByte}
 use Rattle.runs.proofs.Calls.First.{answered}

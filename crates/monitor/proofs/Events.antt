@@ -16,9 +16,9 @@ use Rattle.flags.proofs.Laws.{same-byte, in-first}
 use Rattle.format.specs.Format.{nodeCount, flagCount, isKind}
 use Rattle.rules.specs.Search.{someBelow}
 use Rattle.rules.proofs.Laws.{and-both, and-of, not-passed, none-all, none-at, or-none}
-use Rattle.plan.specs.Meaning.{planOf, placeNumber, signIn}
+use Rattle.plan.specs.Meaning.{planOf, signIn}
 use Rattle.plan.proofs.Meaning.{kind-is, means}
-use Rattle.runs.specs.Plan.{Place}
+use Rattle.runs.specs.Plan.{Place, placeNumber}
 use Rattle.runs.specs.Execution.{Status, waiting, running, done, Event, nodeOf, statusOf, moved, asserts}
 use Rattle.runs.specs.Calls.{one, statusByte, no-task, wrong-status, branch-begun, order-open, pre-unmet, inc-broken, Refusal, World}
 use Rattle.runs.specs.Model.Monitor.{returned, refusalOf, step, code, settle}

@@ -5,7 +5,8 @@ use mathlib.Core.Bool.{cond}
 use mathlib.Core.List.{List, _++_}
 use lib.ListN.{take, drop, set}
 use lib.Dec.{eqb}
-use Rattle.plan.specs.Meaning.{planOf, placeNumber}
+use Rattle.runs.specs.Plan.{placeNumber}
+use Rattle.plan.specs.Meaning.{planOf}
 use Rattle.runs.specs.Execution.{Event, nodeOf, statusOf}
 use Rattle.runs.specs.Calls.{one, statusByte, Answered}
 use Rattle.answers.specs.Answers.{first}

@@ -10,12 +10,12 @@ use lib.Dec.{T}
 use lib.ListN.{getD}
 use Rattle.bits.specs.Bits.{bit, ones, Says}
 use Rattle.bits.proofs.Says.{says-map, says-dec, says-self, says-and, says-or, says-not, says-none, says-among, no-flag}
-use Rattle.runs.specs.Plan.{Plan, Child}
+use Rattle.runs.specs.Plan.{Plan, Child, signNumber}
 use Rattle.runs.specs.Summary.{Must, ExternalPre, ExternalPost}
-use Rattle.words.specs.Tables.{signNum, code}
+use Rattle.words.specs.Tables.{code}
 use Rattle.words.specs.Segments.{Some}
 use Rattle.words.specs.Musts.{MustPreWord, MustPostWord}
-use Rattle.words.proofs.Signs.{opposite}
+use Rattle.runs.proofs.Plan.Numbers.{opposite}
 use Rattle.words.proofs.Segments.{some-next, some-child}
 use Rattle.passing.specs.Passing.{PassingWord, Pairing}
 use Rattle.mustpairs.specs.MustPairs.{MustPair, MustPairWord}
@@ -24,7 +24,7 @@ use Rattle.mustpairs.specs.MustPairs.{MustPair, MustPairWord}
 module _ {from kids order rows : List ℕ} {size n s c d : ℕ} (w : ℕ) where
   -- d stands before c: what is shared passes from d to c in every execution
   module _ (x y : ℕ) (q : code order d c ≡ 1) (ex : MustPostWord rows d (1 - s) x) (ey : MustPreWord rows c s y) where
-    shared : {p : Plan} → Pairing from kids order rows size n p → Child p n c → Child p n d → (v : Bool) → s ≡ signNum v → (f : ℕ) → f < 64
+    shared : {p : Plan} → Pairing from kids order rows size n p → Child p n c → Child p n d → (v : Bool) → s ≡ signNumber v → (f : ℕ) → f < 64
         → Says (bitAnd w (bitAnd x y)) f (T (bit w f) × (Must p d (ExternalPost p f (not v)) × Must p c (ExternalPre p f v)))
     shared g hc hd v e f l = let formed = g .group .well-formed in
         says-and {x = w} {y = bitAnd x y} refl (says-self w f) (says-and {x = x} {y = y} refl

@@ -10,11 +10,11 @@ use lib.Dec.{T}
 use Rattle.bits.specs.Bits.{bit, Says}
 use Rattle.bits.proofs.Says.{says-map, says-self, says-and, says-or, says-none, says-among, no-flag, among-left}
 use Rattle.bits.proofs.Words.{or-zero}
-use Rattle.runs.specs.Plan.{Plan, Child, Before, Unordered}
+use Rattle.runs.specs.Plan.{Plan, Child, Before, Unordered, signNumber}
 use Rattle.runs.specs.Summary.{MayClobber, ClobberByPairs, in-child, unordered-pair, passed-on}
-use Rattle.words.specs.Tables.{signNum, code}
+use Rattle.words.specs.Tables.{code}
 use Rattle.words.specs.Columns.{Column, may-pre, may-post, requires, asserts, indexOf, Fact, wordAt, Right}
-use Rattle.words.proofs.Signs.{opposite}
+use Rattle.runs.proofs.Plan.Numbers.{opposite}
 use Rattle.words.proofs.Rows.{read}
 use Rattle.siblings.specs.Siblings.{Apart}
 use Rattle.siblings.proofs.Sibling.{apart-is}
@@ -56,7 +56,7 @@ both-say ra rb j k i m w x y ei em ex ey f l = says-and {x = w} {y = bitAnd x y}
 module _ {from kids order rows : List ℕ} {size n s c d : ℕ} (w : ℕ) where
   -- d stands before c: what is shared passes from d to c
   module _ (x y : ℕ) (q : code order d c ≡ 1) (ex : x ≡ wordAt rows d (7 + (1 - s))) (ey : y ≡ wordAt rows c (5 + s)) where
-    shared : {p : Plan} → Pairing from kids order rows size n p → Child p n c → Child p n d → (v : Bool) → s ≡ signNum v → (f : ℕ) → f < 64
+    shared : {p : Plan} → Pairing from kids order rows size n p → Child p n c → Child p n d → (v : Bool) → s ≡ signNumber v → (f : ℕ) → f < 64
         → Says (bitAnd w (bitAnd x y)) f (T (bit w f) × (Fact p d f (may-post (not v)) × Fact p c f (may-pre v)))
     shared g hc hd v e f l = both-say (g .group .children d hd) (g .group .children c hc) (may-post (not v)) (may-pre v) (7 + (1 - s)) (5 + s) w x y (omega (arith, opposite v s e)) (omega (arith, e)) ex ey f l
 

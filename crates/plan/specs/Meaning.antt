@@ -9,25 +9,11 @@ use lib.Dec.{T, eqb, ltb}
 use Rattle.codes.specs.Values.{flagOf, signOf, placeOf}
 use Rattle.format.specs.Format.{nodeCount, condCount, orderCount, flagCount, parentOf, kindOf, condNode, condValue, earlierOf, laterOf, startFlag}
 use Rattle.rules.specs.Search.{someBelow}
-use Rattle.runs.specs.Plan.{Kind, task, all-of, any-of, Place, pre, inc, post, Plan, Accepted}
+use Rattle.runs.specs.Plan.{Kind, task, all-of, any-of, Place, Plan, Accepted, kindNumber, placeNumber, signNumber}
 
--- 01's numbers
+-- the kind of a number
 unfoldable pub kindAt : ℕ → Kind
 kindAt k = cond (eqb k 0) task (cond (eqb k 1) all-of any-of)
-
-abbrev pub kindNumber : Kind → ℕ
-kindNumber task = 0
-kindNumber all-of = 1
-kindNumber any-of = 2
-
-abbrev pub placeNumber : Place → ℕ
-placeNumber pre = 0
-placeNumber inc = 1
-placeNumber post = 2
-
-abbrev pub signNumber : Bool → ℕ
-signNumber false = 0
-signNumber true = 1
 
 -- condition i is of task t, at place p, on flag f, with sign s
 unfoldable pub conditionIs : List ℕ → ℕ → ℕ → ℕ → ℕ → ℕ → Bool

@@ -13,10 +13,10 @@ use Rattle.format.specs.Format.{nodeCount, kindOf, isKind, condCount}
 use Rattle.rules.specs.Search.{someBelow}
 use Rattle.rules.proofs.Laws.{either}
 use mathlib.Core.Option.{none}
-use Rattle.plan.specs.Meaning.{planOf, kindAt, placeNumber, signIn}
+use Rattle.plan.specs.Meaning.{planOf, kindAt, signIn}
 use Rattle.plan.proofs.Meaning.{kind-is, kind-of, kind-task, kind-limit}
 use Rattle.plan.proofs.Nodes.{is-node, node-is, plan-kind}
-use Rattle.runs.specs.Plan.{task}
+use Rattle.runs.specs.Plan.{task, placeNumber}
 use Rattle.runs.specs.Execution.{Status, waiting, running, done, Event, start, finish, nodeOf, asserts}
 use Rattle.runs.specs.Calls.{asks, statusByte, no-task, wrong-status, branch-begun, order-open, pre-unmet, inc-broken}
 use Rattle.runs.specs.Model.Monitor.{returned, refusalOf, firstOf, orElse, code, appliesB, taskB, statusB, branchBegunB, orderOpenB, preUnmetB, incBrokenB}

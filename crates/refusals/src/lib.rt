@@ -11,7 +11,7 @@ use progress::children;
 ghost use mathlib.Core.Path.{_≡_};
 ghost use Prim.Native.Nat.{_<_};
 ghost use Rattle.format.specs.Format.{nodeCount};
-ghost use Rattle.plan.specs.Meaning.{placeNumber};
+ghost use Rattle.runs.specs.Plan.{placeNumber};
 ghost use Rattle.runs.specs.Execution as execution;
 ghost use Rattle.runs.specs.Calls.{asks, statusByte};
 ghost use Rattle.state.specs.State.{stateRefusal};

@@ -1,7 +1,7 @@
 -- Plans: a tree of tasks, all-of and any-of groups; conditions of the tasks; orders among the children of a group. Definitions only.
 use mathlib.Core.Path.{_≡_}
 use mathlib.Core.Logic.{_≢_}
-use mathlib.Core.Bool.{Bool}
+use mathlib.Core.Bool.{Bool, true, false}
 use mathlib.Core.Option.{Option, some}
 use Prim.Native.Nat.{ℕ, _<_}
 use lib.Dec.{T}
@@ -20,6 +20,21 @@ Picks any-of = Unit {0}
 pub data Place : Type 0 where
   pre inc post : Place
   deriving Discrete as Place-discrete
+
+-- 01's numbers of kinds, places and signs (0 clear, 1 set)
+abbrev pub kindNumber : Kind → ℕ
+kindNumber task = 0
+kindNumber all-of = 1
+kindNumber any-of = 2
+
+abbrev pub placeNumber : Place → ℕ
+placeNumber pre = 0
+placeNumber inc = 1
+placeNumber post = 2
+
+abbrev pub signNumber : Bool → ℕ
+signNumber false = 0
+signNumber true = 1
 
 pub record Tree : Type 0 where
   pub size : ℕ

@@ -14,13 +14,14 @@ use Rattle.answers.proofs.First.{first-some, both-none, check-passed}
 use Rattle.answers.proofs.Overlay.{at-overlay}
 use Rattle.format.specs.Format.{nodeCount, flagCount}
 use Rattle.rules.specs.Rules.{refusal}
-use Rattle.plan.specs.Meaning.{planOf, signNumber}
+use Rattle.runs.specs.Plan.{signNumber}
+use Rattle.runs.proofs.Plan.Numbers.{sign-small}
+use Rattle.plan.specs.Meaning.{planOf}
 use Rattle.plan.proofs.Meaning.{means-well-formed}
 use Rattle.runs.specs.Summary.{Mark, byteOf, Marked}
 use Rattle.runs.specs.Model.Marks.{markedB}
 use Rattle.runs.proofs.Reflect.{Reflects}
 use Rattle.runs.proofs.Summary.Exact.{marks-exact}
-use Rattle.words.specs.Tables.{signNum}
 use Rattle.literals.specs.Words.{wordOf, markAt, MarkWords}
 use Rattle.literals.proofs.Laws.{mark-small, mark-byte, byte-mark}
 use Rattle.rows.proofs.Nodes.{node-of}
@@ -40,7 +41,7 @@ pub tells : {A : Type 0} (t : Bool) → Reflects t A → Tells (cond t 1 0) A
 tells true r = inl (refl, r .to tt)
 tells false r = inr (refl, r .from)
 
-sign-of : (d : ℕ) → d < 2 → signNum (eqb d 1) ≡ d
+sign-of : (d : ℕ) → d < 2 → signNumber (eqb d 1) ≡ d
 sign-of zero l = refl
 sign-of (suc zero) l = refl
 sign-of (suc (suc d)) l = absurd (omega arith)
@@ -48,10 +49,6 @@ sign-of (suc (suc d)) l = absurd (omega arith)
 sign-back : (v : Bool) → eqb (signNumber v) 1 ≡ v
 sign-back false = refl
 sign-back true = refl
-
-sign-below : (v : Bool) → signNumber v < 2
-sign-below false = omega arith
-sign-below true = omega arith
 
 module _ (b : List ℕ) (ok : refusal b ≡ 0) (n : ℕ) (l : n < nodeCount b) where
   exact : (f : ℕ) (v : Bool) (m : Mark) → Reflects (markedB (planOf b) n f v m) (Marked (planOf b) n f v m)
@@ -71,8 +68,8 @@ module _ (b : List ℕ) (ok : refusal b ≡ 0) (n : ℕ) (l : n < nodeCount b) w
   byte-at f v m =
       let i = 8 * (2 * f + signNumber v) + byteOf m in
       let entry : i / 8 ≡ 2 * f + signNumber v = omega (arith, mark-small m) in
-      let flag : i / 8 / 2 ≡ f = omega (arith, entry, sign-below v) in
-      let sign : i / 8 % 2 ≡ signNumber v = omega (arith, entry, sign-below v) in
+      let flag : i / 8 / 2 ≡ f = omega (arith, entry, sign-small v) in
+      let sign : i / 8 % 2 ≡ signNumber v = omega (arith, entry, sign-small v) in
       let mark : i % 8 ≡ byteOf m = omega (arith, mark-small m) in
       rw (flag, sign, mark, sign-back v, mark-byte m)
 
@@ -80,7 +77,7 @@ module _ (b : List ℕ) (ok : refusal b ≡ 0) (n : ℕ) (l : n < nodeCount b) w
       → Tells (getD (overlay (summaryByte b n) (16 * flagCount b) out) (8 * (2 * f + signNumber v) + byteOf m) 0) (Marked (planOf b) n f v m)
   byte-tells out long f k v m =
       rw (
-        at-overlay (summaryByte b n) out (16 * flagCount b) (8 * (2 * f + signNumber v) + byteOf m) long (omega (arith, sign-below v, mark-small m)),
+        at-overlay (summaryByte b n) out (16 * flagCount b) (8 * (2 * f + signNumber v) + byteOf m) long (omega (arith, sign-small v, mark-small m)),
         byte-at f v m,
       ) (tells (markedB (planOf b) n f v m) (exact f v m))
 

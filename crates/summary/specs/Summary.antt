@@ -9,7 +9,8 @@ use lib.Dec.{eqb, ltb}
 use Rattle.answers.specs.Answers.{first, overlay}
 use Rattle.format.specs.Format.{nodeCount, flagCount}
 use Rattle.rules.specs.Rules.{refusal}
-use Rattle.plan.specs.Meaning.{planOf, signNumber}
+use Rattle.runs.specs.Plan.{signNumber}
+use Rattle.plan.specs.Meaning.{planOf}
 use Rattle.runs.specs.Summary.{Mark, byteOf, Marked}
 use Rattle.runs.specs.Model.Marks.{markedB}
 use Rattle.literals.specs.Words.{markAt}

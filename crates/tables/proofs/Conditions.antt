@@ -1,7 +1,7 @@
 -- The words of the conditions while they are filled: they have the first i conditions. Assumes nothing.
 use mathlib.Core.Path.{_≡_, refl, sym, ap, _∙_}
 use mathlib.Core.Logic.{_⊎_, inl, inr, ⊎-elim, by-cases, _↔_}
-use mathlib.Core.Bool.{Bool, true, false}
+use mathlib.Core.Bool.{Bool}
 use mathlib.Core.List.{List}
 use Prim.Native.Nat.{ℕ, _+_, _*_, _/_, _%_, _^_, _<_, _≤_}
 use native.Mathlib.Decide.{ℕ-discrete}
@@ -14,11 +14,12 @@ use Rattle.bits.proofs.Equations.{one-shl}
 use Rattle.bits.proofs.Says.{says-map, says-eq, says-none, says-set}
 use Rattle.format.specs.Format.{condCount, condNode, condValue}
 use Rattle.rules.specs.Rules.{refusal}
-use Rattle.runs.specs.Plan.{Place, pre, inc, post}
-use Rattle.plan.specs.Meaning.{planOf, placeNumber, signNumber}
+use Rattle.runs.specs.Plan.{Place, placeNumber, signNumber}
+use Rattle.plan.specs.Meaning.{planOf}
 use Rattle.plan.proofs.Accepted.{clean}
+use Rattle.runs.proofs.Plan.Numbers.{place-small, sign-small}
 use Rattle.plan.proofs.Meaning.{means}
-use Rattle.words.specs.Tables.{placeNum, signNum, RepresentsConditions}
+use Rattle.words.specs.Tables.{RepresentsConditions}
 use Rattle.zeros.specs.Zeros.{Zeros}
 
 -- `1 << k` is added to word j
@@ -85,21 +86,11 @@ module _ {b c c' : List ℕ} {i x v : ℕ} (ex : x ≡ condNode b i) (ev : v ≡
       }
 
 -- the word of a place and a sign
-word-small : (k : Place) (v : Bool) → placeNum k + signNum v < 6
-word-small pre false = omega arith
-word-small pre true = omega arith
-word-small inc false = omega arith
-word-small inc true = omega arith
-word-small post false = omega arith
-word-small post true = omega arith
+word-small : (k : Place) (v : Bool) → 2 * placeNumber k + signNumber v < 6
+word-small k v = omega (arith, place-small k, sign-small v)
 
-word-value : (k : Place) (v : Bool) (f : ℕ) → f + 64 * (placeNum k + signNum v) ≡ f + 64 * signNumber v + 128 * placeNumber k
-word-value pre false f = omega arith
-word-value pre true f = omega arith
-word-value inc false f = omega arith
-word-value inc true f = omega arith
-word-value post false f = omega arith
-word-value post true f = omega arith
+word-value : (k : Place) (v : Bool) (f : ℕ) → f + 64 * (2 * placeNumber k + signNumber v) ≡ f + 64 * signNumber v + 128 * placeNumber k
+word-value k v f = omega arith
 
 pub noted-all : {b conds : List ℕ} → refusal b ≡ 0 → Noted b conds (condCount b) → RepresentsConditions conds (planOf b)
 noted-all {b} r h =
@@ -110,5 +101,5 @@ noted-all {b} r h =
             λ w. a .condition k t f v l .1 (record { at = w .at; below = w .below; node = w .node; value = w .value ∙ word-value k v f }),
             λ e. let w = a .condition k t f v l .0 e in record { at = w .at; below = w .below; node = w .node; value = w .value ∙ sym (word-value k v f) },
           )
-          (h .says t (placeNum k + signNum v) f (omega (arith, a .accepted .nodes t .0 m, a .size, clean b r .fits .limits .nodes)) (word-small k v) l);
+          (h .says t (2 * placeNumber k + signNumber v) f (omega (arith, a .accepted .nodes t .0 m, a .size, clean b r .fits .limits .nodes)) (word-small k v) l);
     }

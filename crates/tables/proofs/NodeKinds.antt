@@ -1,5 +1,5 @@
 -- The kinds while they are filled: the table has those of the first i nodes. Assumes nothing.
-use mathlib.Core.Path.{_≡_, refl, sym, _∙_}
+use mathlib.Core.Path.{_≡_, sym, _∙_}
 use mathlib.Core.Logic.{by-cases}
 use mathlib.Core.List.{List}
 use Prim.Native.Nat.{ℕ, _+_, _<_}
@@ -9,10 +9,9 @@ use lib.ListN.{length, getD, set, length-set}
 use lib.Seq.{getD-set-same, getD-set-other}
 use Rattle.format.specs.Format.{nodeCount, kindOf}
 use Rattle.rules.specs.Rules.{refusal}
-use Rattle.runs.specs.Plan.{Kind, task, all-of, any-of}
-use Rattle.plan.specs.Meaning.{planOf, kindNumber}
+use Rattle.plan.specs.Meaning.{planOf}
 use Rattle.plan.proofs.Meaning.{means}
-use Rattle.words.specs.Tables.{kindCode, RepresentsKinds}
+use Rattle.words.specs.Tables.{RepresentsKinds}
 
 pub record Kinds (b kinds : List ℕ) (i : ℕ) : Type 0 where
   pub long : length kinds ≡ 128
@@ -30,12 +29,7 @@ kinds-more {c = c} {i = i} {v = v} l e h =
           (λ n. getD-set-other c i j v 0 n ∙ h .is j (omega arith));
     }
 
-same-code : (k : Kind) → kindNumber k ≡ kindCode k
-same-code task = refl
-same-code all-of = refl
-same-code any-of = refl
-
 pub kinds-all : {b kinds : List ℕ} → refusal b ≡ 0 → Kinds b kinds (nodeCount b) → RepresentsKinds kinds (planOf b)
 kinds-all {b} r h =
     let a = means b r in
-    record { is = λ i m. let l : i < nodeCount b = omega (arith, a .accepted .nodes i .0 m, a .size) in h .is i l ∙ sym (a .kind i l) ∙ same-code (planOf b .tree .kind i) }
+    record { is = λ i m. let l : i < nodeCount b = omega (arith, a .accepted .nodes i .0 m, a .size) in h .is i l ∙ sym (a .kind i l) }

@@ -8,7 +8,8 @@ use lib.ListN.{getD}
 use Rattle.answers.specs.Answers.{overlay}
 use Rattle.format.specs.Format.{nodeCount}
 use Rattle.rules.specs.Rules.{refusal}
-use Rattle.plan.specs.Meaning.{planOf, signNumber}
+use Rattle.runs.specs.Plan.{signNumber}
+use Rattle.plan.specs.Meaning.{planOf}
 use Rattle.runs.specs.Execution.{Status}
 use Rattle.runs.specs.Summary.{Mark, byteOf, Marked}
 use Rattle.runs.specs.Verdict.{Verdict}

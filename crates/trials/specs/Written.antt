@@ -3,8 +3,7 @@ use Prim.Native.Nat.{ℕ, suc, _+_, _*_, _/_, _%_}
 use mathlib.Core.Bool.{Bool}
 use mathlib.Core.List.{List, [], _∷_, _++_}
 use lib.ListN.{length, replicate}
-use Rattle.plan.specs.Meaning.{kindNumber, placeNumber, signNumber}
-use Rattle.runs.specs.Plan.{Kind, Place}
+use Rattle.runs.specs.Plan.{Kind, Place, kindNumber, placeNumber, signNumber}
 use Rattle.calls.specs.Shown.{flagByte}
 
 -- a node: four characters, kind, parent, minutes, and the values of its conditions, rising

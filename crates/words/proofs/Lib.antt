@@ -1,5 +1,4 @@
 -- Laws of rows of words, and of the words of a task.
-pub mod Signs
 pub mod Segments
 pub mod Turns
 pub mod Rows

@@ -8,20 +8,19 @@ use native.Mathlib.Omega.{arith}
 use lib.Bits.{bitOr, bitXor}
 use Rattle.bits.specs.Bits.{ones, Says}
 use Rattle.bits.proofs.Says.{says-map, says-neither}
-use Rattle.runs.specs.Plan.{Plan, Node, WellFormed}
+use Rattle.runs.specs.Plan.{Plan, Node, WellFormed, signNumber}
 use Rattle.runs.specs.Summary.{Must, ExternalPre, ExternalPost}
 use Rattle.runs.proofs.Summary.Preconditions.{must-pre-is}
 use Rattle.runs.proofs.Summary.Postconditions.{must-post-is}
-use Rattle.words.specs.Tables.{signNum}
 use Rattle.words.specs.Columns.{avoid, quiet, covered, may-post, wordAt, Right}
-use Rattle.words.proofs.Signs.{opposite}
+use Rattle.runs.proofs.Plan.Numbers.{opposite}
 use Rattle.words.proofs.Rows.{read}
 
 -- neither of two
 both-not : {A B : Type 0} → (¬ (A ⊎ B)) ↔ ((¬ A) × (¬ B))
 both-not = (λ k. (λ h. k (inl h), λ h. k (inr h)), λ k h. ⊎-elim (k .0) (k .1) h)
 
-module _ {p : Plan} (w : WellFormed p) {rows : List ℕ} {n : ℕ} (r : Right p rows n) (v : Bool) (s : ℕ) (e : s ≡ signNum v) {z : ℕ} (f : ℕ) (l : f < 64) where
+module _ {p : Plan} (w : WellFormed p) {rows : List ℕ} {n : ℕ} (r : Right p rows n) (v : Bool) (s : ℕ) (e : s ≡ signNumber v) {z : ℕ} (f : ℕ) (l : f < 64) where
   pub must-pre-says : Node p n → z ≡ bitXor (bitOr (wordAt rows n (1 + s)) (wordAt rows n (3 + s))) ones → Says z f (Must p n (ExternalPre p f v))
   must-pre-says m q = says-map (Iff·trans both-not (Iff·symm (must-pre-is p w f v m))) (says-neither {x = wordAt rows n (1 + s)} {y = wordAt rows n (3 + s)} l q
       (read r (quiet v) (1 + s) _ f (omega (arith, e)) refl l) (read r (covered v) (3 + s) _ f (omega (arith, e)) refl l))

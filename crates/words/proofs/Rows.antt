@@ -13,7 +13,7 @@ use Rattle.bits.proofs.Says.{says-eq}
 use Rattle.runs.specs.Plan.{Plan}
 use Rattle.words.specs.Columns.{Column, avoid, quiet, covered, may-pre, may-post, may-inc, requires, asserts, may-clobber, must-inc, must-clobber}
 use Rattle.words.specs.Columns.{indexOf, Fact, wordAt, Right, Row, Written}
-use Rattle.words.proofs.Signs.{sign-small}
+use Rattle.runs.proofs.Plan.Numbers.{sign-small}
 
 -- an array filled from the front: what holds of each word written holds of one more
 pub filled : (P : ℕ → ℕ → Type 0) (out : List ℕ) (k x : ℕ) → k < length out → P k x → ((j : ℕ) → j < k → P j (getD out j 0))

@@ -10,11 +10,10 @@ use lib.Bits.{bitAnd, bitOr, bitXor}
 use lib.ListN.{getD}
 use Rattle.bits.specs.Bits.{ones, Says}
 use Rattle.bits.proofs.Says.{says-map, says-eq, says-or, says-less, says-neither, says-none}
-use Rattle.runs.specs.Plan.{Place, pre, inc, post, Plan}
+use Rattle.runs.specs.Plan.{Place, pre, inc, post, Plan, placeNumber, signNumber}
 use Rattle.runs.proofs.Summary.Clobber.{clobber-task}
 use Rattle.runs.proofs.Summary.ReflectClobber.{must-clobber-task}
 use Rattle.words.specs.declared.Literal.{Literal}
-use Rattle.words.specs.Tables.{signNum, placeNum}
 use Rattle.words.specs.Columns.{Column, avoid, quiet, covered, may-pre, may-post, may-inc, requires, asserts, may-clobber, must-inc, must-clobber}
 use Rattle.words.specs.Columns.{indexOf, Fact, Row}
 use Rattle.words.specs.Tasks.{Task, LiteralSays}
@@ -28,7 +27,7 @@ rowOf x c d =
 
 module _ {conds : List ℕ} {n : ℕ} {p : Plan} (t : Task conds n p) where
   -- a word read from the table of conditions
-  word : (k : Place) (v : Bool) (i x f : ℕ) → i ≡ placeNum k + signNum v → x ≡ getD conds (n * 6 + i) 0 → f < 64 → Says x f (p .cond .sign k n f ≡ some v)
+  word : (k : Place) (v : Bool) (i x f : ℕ) → i ≡ 2 * placeNumber k + signNumber v → x ≡ getD conds (n * 6 + i) 0 → f < 64 → Says x f (p .cond .sign k n f ≡ some v)
   word k v i x f e q l = says-eq (q ∙ ap (λ (j : ℕ). getD conds (n * 6 + j) 0) e) (t .conditions .says n (t .node) (t .is-task) k v f l)
 
   module _ (a b : ℕ) (qa : a ≡ getD conds (n * 6 + 4) 0) (qb : b ≡ getD conds (n * 6 + 5) 0) where
@@ -38,7 +37,7 @@ module _ {conds : List ℕ} {n : ℕ} {p : Plan} (t : Task conds n p) where
     silent : (f : ℕ) → f < 64 → Says (bitXor (bitOr a b) ones) f (p .cond .sign post n f ≡ none)
     silent f l = says-map (no-sign _) (says-neither {x = a} {y = b} l refl (word post false 4 a f refl qa l) (word post true 5 b f refl qb l))
 
-    pub literal-says : (v : Bool) (s x y z : ℕ) → s ≡ signNum v → x ≡ getD conds (n * 6 + s) 0 → y ≡ getD conds (n * 6 + (2 + s)) 0
+    pub literal-says : (v : Bool) (s x y z : ℕ) → s ≡ signNumber v → x ≡ getD conds (n * 6 + s) 0 → y ≡ getD conds (n * 6 + (2 + s)) 0
         → z ≡ getD conds (n * 6 + (4 + s)) 0 → LiteralSays p n v (record {
           quiet = bitXor (bitXor (bitOr a b) ones) (bitAnd (bitXor (bitOr a b) ones) x);
           covered = bitXor (bitOr a b) (bitAnd (bitOr a b) x);

@@ -6,11 +6,10 @@ use mathlib.Core.List.{List}
 use Prim.Native.Nat.{ℕ, _+_, _*_, _<_}
 use lib.ListN.{length, getD}
 use Rattle.bits.specs.Bits.{Says}
-use Rattle.runs.specs.Plan.{pre, inc, post, Plan}
+use Rattle.runs.specs.Plan.{pre, inc, post, Plan, signNumber}
 use Rattle.runs.specs.Execution.{lastAsserted}
 use Rattle.runs.specs.Summary.{May, Must, ExternalPre, ExternalPost, Incondition, MayClobber, TaskWith, MustClobber}
 use Rattle.runs.specs.Classes.{Neutral, Covers, MayQuiet, MayMeet}
-use Rattle.words.specs.Tables.{signNum}
 
 -- Each but the first is for a sign. `requires`: some task has the literal as pre- or incondition; `asserts`: as in- or postcondition. The last two are the
 -- ones that an any-of group has where every branch has them; it has the others where some branch does.
@@ -20,16 +19,16 @@ pub data Column : Type 0 where
 
 abbrev pub indexOf : Column → ℕ
 indexOf avoid = 0
-indexOf (quiet v) = 1 + signNum v
-indexOf (covered v) = 3 + signNum v
-indexOf (may-pre v) = 5 + signNum v
-indexOf (may-post v) = 7 + signNum v
-indexOf (may-inc v) = 9 + signNum v
-indexOf (requires v) = 11 + signNum v
-indexOf (asserts v) = 13 + signNum v
-indexOf (may-clobber v) = 15 + signNum v
-indexOf (must-inc v) = 17 + signNum v
-indexOf (must-clobber v) = 19 + signNum v
+indexOf (quiet v) = 1 + signNumber v
+indexOf (covered v) = 3 + signNumber v
+indexOf (may-pre v) = 5 + signNumber v
+indexOf (may-post v) = 7 + signNumber v
+indexOf (may-inc v) = 9 + signNumber v
+indexOf (requires v) = 11 + signNumber v
+indexOf (asserts v) = 13 + signNumber v
+indexOf (may-clobber v) = 15 + signNumber v
+indexOf (must-inc v) = 17 + signNumber v
+indexOf (must-clobber v) = 19 + signNumber v
 
 -- what a column says of node n and flag f. (Must precondition is 'neither quiet nor covered', must postcondition 'neither avoid nor may post of the
 -- opposite': the theory's must-pre-is and must-post-is.)

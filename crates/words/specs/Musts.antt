@@ -4,14 +4,13 @@ use mathlib.Core.Bool.{Bool}
 use mathlib.Core.List.{List}
 use Prim.Native.Nat.{ℕ, _<_}
 use Rattle.bits.specs.Bits.{Says}
-use Rattle.runs.specs.Plan.{Plan, Node, WellFormed}
+use Rattle.runs.specs.Plan.{Plan, Node, WellFormed, signNumber}
 use Rattle.runs.specs.Summary.{Must, ExternalPre, ExternalPost}
-use Rattle.words.specs.Tables.{signNum}
 use Rattle.words.specs.Columns.{Right}
 
 -- for each flag and the sign of the number s, the word r says A
 abbrev pub SaysOf : ℕ → ℕ → (ℕ → Bool → Type 0) → Type 0
-SaysOf s r A = (v : Bool) → s ≡ signNum v → (f : ℕ) → f < 64 → Says r f (A f v)
+SaysOf s r A = (v : Bool) → s ≡ signNumber v → (f : ℕ) → f < 64 → Says r f (A f v)
 
 -- for every plan in which the row of n is right
 abbrev pub MustPreWord : List ℕ → ℕ → ℕ → ℕ → Type 0

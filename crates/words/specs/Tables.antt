@@ -1,28 +1,13 @@
 -- Tables of a plan, as lists of numbers, and what it means that they represent a plan. Definitions only.
 use mathlib.Core.Path.{_≡_}
 use mathlib.Core.Logic.{_↔_}
-use mathlib.Core.Bool.{Bool, true, false}
+use mathlib.Core.Bool.{Bool}
 use mathlib.Core.Option.{some}
 use mathlib.Core.List.{List}
 use Prim.Native.Nat.{ℕ, _+_, _*_, _≤_, _<_}
 use lib.ListN.{getD}
 use Rattle.bits.specs.Bits.{Says}
-use Rattle.runs.specs.Plan.{Kind, task, all-of, any-of, Place, pre, inc, post, Plan, Node, Child, Before}
-
-abbrev pub kindCode : Kind → ℕ
-kindCode task = 0
-kindCode all-of = 1
-kindCode any-of = 2
-
-abbrev pub signNum : Bool → ℕ
-signNum false = 0
-signNum true = 1
-
--- the first of a place's two words
-abbrev pub placeNum : Place → ℕ
-placeNum pre = 0
-placeNum inc = 2
-placeNum post = 4
+use Rattle.runs.specs.Plan.{task, Place, Plan, Node, Child, Before, kindNumber, placeNumber, signNumber}
 
 -- i is a position of the segment of g
 pub record Position (from : List ℕ) (g i : ℕ) : Type 0 where
@@ -37,7 +22,7 @@ pub record Listed (from kids : List ℕ) (g c : ℕ) : Type 0 where
 
 -- the word of a task's conditions at a place and with a sign
 abbrev pub condition : List ℕ → ℕ → Place → Bool → ℕ
-condition conds t k v = getD conds (t * 6 + (placeNum k + signNum v)) 0
+condition conds t k v = getD conds (t * 6 + (2 * placeNumber k + signNumber v)) 0
 
 -- the code of a and b: 1 where a stands before b, 2 where a stands after b
 abbrev pub code : List ℕ → ℕ → ℕ → ℕ
@@ -51,7 +36,7 @@ pub record Shaped (from kids : List ℕ) (n : ℕ) : Type 0 where
   pub rises : (g i : ℕ) → g < n → Position from g i → (g < getD kids i 0) × (getD kids i 0 < n)
 
 pub record RepresentsKinds (kind : List ℕ) (p : Plan) : Type 0 where
-  pub is : (i : ℕ) → Node p i → getD kind i 0 ≡ kindCode (p .tree .kind i)
+  pub is : (i : ℕ) → Node p i → getD kind i 0 ≡ kindNumber (p .tree .kind i)
 
 pub record RepresentsTree (from kids : List ℕ) (n : ℕ) (p : Plan) : Type 0 where
   pub size : p .tree .size ≡ n

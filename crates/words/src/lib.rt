@@ -5,8 +5,7 @@ ghost use Prim.Native.Nat.{_+_, _*_, _<_};
 ghost use lib.Bits.{bitOr, bitXor};
 ghost use lib.ListN.{length, getD};
 ghost use Rattle.bits.specs.Bits.{ones};
-ghost use Rattle.runs.specs.Plan.{Plan};
-ghost use Rattle.words.specs.Tables.{signNum};
+ghost use Rattle.runs.specs.Plan.{Plan, signNumber};
 ghost use Rattle.words.specs.Columns.{wordAt, Row, Written};
 ghost use Rattle.words.specs.Tasks.{Task, LiteralSays};
 ghost use Rattle.words.specs.Musts.{MustPreWord, MustPostWord};
@@ -43,7 +42,7 @@ fn condition_word(conds: &[u64; 768], node: usize, at: usize) -> u64
 // A task has one execution, so its facts are read off its conditions. An incondition's flag has a postcondition too.
 fn literal_words(conds: &[u64; 768], node: usize, sign: usize) -> Literal
     requires { ⌜ (node < 128) × (sign < 2) ⌝ }
-    ensures { λ r. ⌜ ((p : Plan) → Task (now (conds .entry)) node p → (v : Bool) → sign ≡ signNum v → LiteralSays p node v r) ⌝ }
+    ensures { λ r. ⌜ ((p : Plan) → Task (now (conds .entry)) node p → (v : Bool) → sign ≡ signNumber v → LiteralSays p node v r) ⌝ }
 {
     let pre = condition_word(conds, node, sign);
     let inc = condition_word(conds, node, 2 + sign);

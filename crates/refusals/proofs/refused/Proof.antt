@@ -5,10 +5,10 @@ use Prim.Native.Nat.{_<_}
 use denote.Ref.{now}
 use borrow.Author.Tests.{not-true, not-false}
 use Rattle.format.specs.Format.{nodeCount, isKind}
-use Rattle.plan.specs.Meaning.{planOf, placeNumber}
+use Rattle.plan.specs.Meaning.{planOf}
 use Rattle.plan.proofs.Meaning.{kind-is}
 use Rattle.runs.specs.Calls.{asks, statusByte}
-use Rattle.runs.specs.Plan.{Place}
+use Rattle.runs.specs.Plan.{Place, placeNumber}
 use Rattle.runs.specs.Execution.{Status}
 use Rattle.runs.specs.Model.Monitor.{incBrokenB}
 use Rattle.state.specs.State.{byteOf, statusIn}
