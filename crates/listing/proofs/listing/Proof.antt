@@ -1,5 +1,6 @@
 -- `listing` meets its contract. Assumes nothing.
 use mathlib.Core.Path.{_≡_, sym, _∙_}
+use native.Mathlib.Omega.{arith}
 use denote.Ref.{now}
 use Rattle.rules.specs.Rules.{refusal}
 use Rattle.listing.proofs.Answers.{lists-refused, lists-short, lists-text}
@@ -14,19 +15,19 @@ returns : tie.Need-returns
 returns c = let e = c .before .check .ensures in lists-refused _ _ e (λ z. c .if1 .taken (e ∙ z))
 
 returns-2 : tie.Need-returns-2
-returns-2 c = lists-short _ _ (passed (c .before)) (c .if2 .taken)
+returns-2 c = lists-short _ _ (passed (c .before)) (omega (arith, c .if2 .taken))
 
 judge-requires : tie.Need-judge-requires
 judge-requires c κs = passed (c .before)
 
 write-text-requires : tie.Need-write-text-requires
-write-text-requires c κs = let i = c .before .before in (passed (i .before), c .before .judge .ensures, i .if2 .left)
+write-text-requires c κs = let i = c .before .before in (passed (i .before), c .before .judge .ensures, omega (arith, i .if2 .left))
 
 returns-3 : tie.Need-returns-3
 returns-3 c =
     let w = c .before .before in
     let i = w .before .before .before in
-    lists-text _ _ (passed (i .before)) (i .if2 .left) (w .write-text .ensures)
+    lists-text _ _ (passed (i .before)) (omega (arith, i .if2 .left)) (w .write-text .ensures)
 
 pub listing-spec : {M : Type 1} → statement M
 listing-spec = tie.close (tie.spec (λ c κs. search needs) returns returns-2 judge-requires write-text-requires (λ c. search needs) returns-3)
