@@ -16,14 +16,14 @@ use Rattle.runs.specs.Plan.{placeNumber}
 use Rattle.plan.proofs.Meaning.{kind-is}
 use Rattle.runs.specs.Execution.{Event, nodeOf, statusOf}
 use Rattle.runs.specs.Calls.{statusByte}
-use Rattle.state.specs.State.{byteOf, badFlag, badByte, malformed, roomRefusal, stateRefusal, statusAt, statusIn, worldOf}
+use Rattle.state.specs.State.{nodeByte, badFlag, badByte, malformed, roomRefusal, stateRefusal, statusAt, statusIn, worldOf}
 use Rattle.state.specs.Fresh.{freshByte, freshState}
 use Rattle.answers.specs.Answers.{overlay}
 use Rattle.state.proofs.Refused.{roomy, state-well}
 use Rattle.answers.proofs.Overlay.{length-overlay, at-overlay, past-overlay}
 use Rattle.state.proofs.Left.{fresh-accepted}
 use Rattle.state.proofs.Passed.{has-room, byte-small}
-use Rattle.refusals.specs.Events.{placeOf, eventRefusal}
+use Rattle.refusals.specs.Events.{eventPlace, eventRefusal}
 use Rattle.refusals.proofs.Chain.{answer-task}
 use Rattle.monitor.specs.Events.{afterEvent, eventState}
 use Rattle.monitor.proofs.Equations.{refused-22, accepted}
@@ -61,10 +61,10 @@ module _ (b s z : List ℕ) (ok : stateRefusal b z ≡ 0) (h : Kept b s z) (e : 
       (λ l. rw (List·getD-eq-default (take 8 z) 0 {n = i} (omega (arith, eight-long))) (omega arith))
 
   written-kept : isKind b (nodeOf e) 0 ≡ true → Kept b s (afterEvent b z e)
-  unfolding byteOf
+  unfolding nodeByte
   written-kept y =
       let l = kind-is b (nodeOf e) 0 y .0 in
-      let k = placeOf e in
+      let k = eventPlace e in
       let x = statusByte (statusOf e) in
       record {
         same-length = next-length b z ok k (nodeOf e) x y ∙ h .same-length;
@@ -75,7 +75,7 @@ module _ (b s z : List ℕ) (ok : stateRefusal b z ≡ 0) (h : Kept b s z) (e : 
       past : (j : ℕ) → 8 + nodeCount b ≤ j → nodeOf e < nodeCount b → isKind b (nodeOf e) 0 ≡ true → getD (afterEvent b z e) j 0 ≡ getD z j 0
       past j m l y =
           let q : 8 + (j - 8) ≡ j = omega arith in
-          rw q at (byte-other b z ok (placeOf e) (nodeOf e) (statusByte (statusOf e)) y (j - 8) (λ w. omega arith))
+          rw q at (byte-other b z ok (eventPlace e) (nodeOf e) (statusByte (statusOf e)) y (j - 8) (λ w. omega arith))
 
   pub event-kept : Kept b s (eventState b z e)
   event-kept =
@@ -92,22 +92,22 @@ module _ (b s z : List ℕ) (ok : stateRefusal b z ≡ 0) (h : Kept b s z) where
   status-at (suc (suc zero)) l = refl
   status-at (suc (suc (suc x))) l = absurd (omega arith)
 
-  group-byte : (n : ℕ) → n < nodeCount b → isKind b n 0 ≡ false → byteOf z n ≡ 0
+  group-byte : (n : ℕ) → n < nodeCount b → isKind b n 0 ≡ false → nodeByte z n ≡ 0
   unfolding malformed badByte
   group-byte n l y =
       let w = or-none (someBelow 64 (badFlag b z)) (someBelow (nodeCount b) (badByte b z)) (state-well b z ok .1) in
-      eqb-true (byteOf z n) 0 (not-false _ (rw y at (none-at (nodeCount b) (badByte b z) (w .1) n l)))
+      eqb-true (nodeByte z n) 0 (not-false _ (rw y at (none-at (nodeCount b) (badByte b z) (w .1) n l)))
 
-  status-byte : (n : ℕ) → n < nodeCount b → statusByte (statusIn b z n) ≡ byteOf z n
+  status-byte : (n : ℕ) → n < nodeCount b → statusByte (statusIn b z n) ≡ nodeByte z n
   unfolding statusIn
   status-byte n l =
       ⊎-elim
-      (λ (y : isKind b n 0 ≡ true). rw y (status-at (byteOf z n) (byte-small b z ok n l (kind-is b n 0 y .1))))
+      (λ (y : isKind b n 0 ≡ true). rw y (status-at (nodeByte z n) (byte-small b z ok n l (kind-is b n 0 y .1))))
       (λ (y : isKind b n 0 ≡ false). rw (y, group-byte n l y))
       (either (isKind b n 0))
 
   shown-at : (k : ℕ) → k < 8 + nodeCount b → shownByte (worldOf b z) k ≡ getD z k 0
-  unfolding shownByte worldOf byteOf
+  unfolding shownByte worldOf nodeByte
   shown-at k l =
       by-cases (decLt k 8)
       (λ (m : k < 8). rw (lt-ltb k 8 m) (flag-byte z k m (h .small k m)))

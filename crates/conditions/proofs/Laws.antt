@@ -24,7 +24,7 @@ use Rattle.plan.proofs.Meaning.{is, has, sign-is, sign-has, kind-is}
 use Rattle.runs.specs.Plan.{Place, placeNumber, signNumber}
 use Rattle.runs.specs.Tests.{sameB}
 use Rattle.runs.proofs.Reflect.{clash}
-use Rattle.state.specs.State.{byteOf}
+use Rattle.state.specs.State.{nodeByte}
 use Rattle.conditions.specs.Conditions.{isOf, setAt, literals, made, brokenAt}
 
 pub flag-small : (v : ℕ) → flagOf v < 64
@@ -153,7 +153,7 @@ on-task b e i l = let c = clean b e in kind-is b (condNode b i) 0 (condition-fit
 -- the test of an incondition, by what the function has at hand
 pub broken-turn : (b s clear set : List ℕ) (t i node f : ℕ) (sign kept o d : Bool) → node ≡ condNode b i → o ≡ isOf b 1 node i → f ≡ flagOf (condValue b i) → sign ≡ setAt b i
     → kept ≡ flagIn (cond sign set clear) f → d ≡ not (sameB sign kept) → (o && not (eqb node t) && eqb (getD s (8 + node) 0) 1 && d) ≡ brokenAt b s clear set t i
-unfolding brokenAt byteOf
+unfolding brokenAt nodeByte
 broken-turn b s clear set t i node f sign kept o d en eo ef es ek ed = rw (ed, ek, eo, en, ef, es)
 
 pub kept-set : (clear set : List ℕ) (f : ℕ) (sign : Bool) → sign ≡ true → flagIn set f ≡ flagIn (cond sign set clear) f

@@ -23,7 +23,7 @@ use Rattle.runs.specs.Tests.{sameB}
 use Rattle.runs.specs.Model.Monitor.{preUnmetB, incBrokenB}
 use Rattle.runs.proofs.Calls.Reflect.{r-pre-unmet, r-inc-broken}
 use Rattle.runs.proofs.Reflect.{true-T, T-true, same-test}
-use Rattle.state.specs.State.{byteOf, flagShown, statusIn, stateRefusal}
+use Rattle.state.specs.State.{nodeByte, flagShown, statusIn, stateRefusal}
 use Rattle.state.proofs.Passed.{has-room, well-formed, byte-running}
 use Rattle.conditions.specs.Conditions.{isOf, setAt, made, unmetAt, brokenAt}
 use Rattle.conditions.proofs.Laws.{flag-small, of-is, is-of, sign-at, found, made-flag, on-task}
@@ -103,8 +103,8 @@ module _ (b s : List ℕ) (ok : stateRefusal b s ≡ 0) (t : ℕ) where
         let i = w .0 in
         let f = flagOf (condValue b i) in
         let v = setAt b i in
-        let x3 = and-both (isOf b 1 (condNode b i) i && not (eqb (condNode b i) t) && eqb (byteOf s (condNode b i)) 1) (not (sameB v (flagIn (cond v (after true) (after false)) f))) (w .2) in
-        let x2 = and-both (isOf b 1 (condNode b i) i && not (eqb (condNode b i) t)) (eqb (byteOf s (condNode b i)) 1) (x3 .0) in
+        let x3 = and-both (isOf b 1 (condNode b i) i && not (eqb (condNode b i) t) && eqb (nodeByte s (condNode b i)) 1) (not (sameB v (flagIn (cond v (after true) (after false)) f))) (w .2) in
+        let x2 = and-both (isOf b 1 (condNode b i) i && not (eqb (condNode b i) t)) (eqb (nodeByte s (condNode b i)) 1) (x3 .0) in
         let x1 = and-both (isOf b 1 (condNode b i) i) (not (eqb (condNode b i) t)) (x2 .0) in
         let n = on-task b accepted i (w .1) in
         record {
@@ -128,10 +128,10 @@ module _ (b s : List ℕ) (ok : stateRefusal b s ≡ 0) (t : ℕ) where
         let n = on-task b accepted i (w .below) in
         true-T _
         (some-yes (condCount b) test i (w .below)
-        (and-of (isOf b 1 (condNode b i) i && not (eqb (condNode b i) t) && eqb (byteOf s (condNode b i)) 1) (not (sameB v (flagIn (cond v (after true) (after false)) f)))
-        (and-of (isOf b 1 (condNode b i) i && not (eqb (condNode b i) t)) (eqb (byteOf s (condNode b i)) 1)
+        (and-of (isOf b 1 (condNode b i) i && not (eqb (condNode b i) t) && eqb (nodeByte s (condNode b i)) 1) (not (sameB v (flagIn (cond v (after true) (after false)) f)))
+        (and-of (isOf b 1 (condNode b i) i && not (eqb (condNode b i) t)) (eqb (nodeByte s (condNode b i)) 1)
         (and-of (isOf b 1 (condNode b i) i) (not (eqb (condNode b i) t)) (is-of b 1 (condNode b i) i refl (d .1)) (rw (ne-eqb (condNode b i) t (λ z. x .another (of ∙ sym z ∙ d .0)))))
-        (eq-eqb (byteOf s (condNode b i)) 1 (byte-running b s ok (condNode b i) (n .0) (n .1) .1 (ap (statusIn b s) (d .0) ∙ x .runs))))
+        (eq-eqb (nodeByte s (condNode b i)) 1 (byte-running b s ok (condNode b i) (n .0) (n .1) .1 (ap (statusIn b s) (d .0) ∙ x .runs))))
         (differs v (flagIn (cond v (after true) (after false)) f)
         (after-flag v f (flag-small (condValue b i)) ∙ ap (λ (z : ℕ). Option·getD (asserts (planOf b) e z) v) (w .flag) ∙ ap (λ (o : Option Bool). Option·getD o v) (x .breaks) ∙ ap not (sym (w .sign))))))
 

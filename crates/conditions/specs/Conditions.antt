@@ -7,7 +7,7 @@ use Rattle.codes.specs.Values.{flagOf, signOf, placeOf}
 use Rattle.flags.specs.Flags.{flagIn, withFlag}
 use Rattle.format.specs.Format.{condCount, condNode, condValue}
 use Rattle.runs.specs.Tests.{sameB}
-use Rattle.state.specs.State.{byteOf}
+use Rattle.state.specs.State.{nodeByte}
 
 -- condition i is of task t, at place q
 unfoldable pub isOf : List ℕ → ℕ → ℕ → ℕ → Bool
@@ -35,5 +35,5 @@ unmetAt b bytes t i = isOf b 0 t i && not (sameB (setAt b i) (flagIn bytes (flag
 -- after which flags that were all clear are `clear` and flags that were all set are `set`
 unfoldable pub brokenAt : List ℕ → List ℕ → List ℕ → List ℕ → ℕ → ℕ → Bool
 brokenAt b s clear set t i =
-    isOf b 1 (condNode b i) i && not (eqb (condNode b i) t) && eqb (byteOf s (condNode b i)) 1
+    isOf b 1 (condNode b i) i && not (eqb (condNode b i) t) && eqb (nodeByte s (condNode b i)) 1
     && not (sameB (setAt b i) (flagIn (cond (setAt b i) set clear) (flagOf (condValue b i))))

@@ -21,6 +21,7 @@ use Rattle.runs.proofs.Plan.Reflect.{r-under}
 use Rattle.runs.proofs.Plan.Trees.{under-le, under-trans}
 use Rattle.runs.proofs.Reflect.{true-T, T-true}
 use Rattle.counts.specs.Count.{num}
+use Rattle.zeros.specs.Zeros.{Zeros}
 
 -- a is n, or above its parent
 pub up-or-here : (b : List ℕ) {a n : ℕ} → Under (planOf b) a n → (a ≡ n) ⊎ Under (planOf b) a (parentOf b n)
@@ -45,13 +46,13 @@ abbrev pub Marked : List ℕ → ℕ → ℕ → List ℕ → Type 0
 Marked b t n m = (length m ≡ 128) × ((a : ℕ) → a < 128 → Mark b t n m a)
 
 module _ (b : List ℕ) (t : ℕ) where
-  pub first-mark : (m : List ℕ) → length m ≡ 128 → ((a : ℕ) → getD m a 0 ≡ 0) → t < 128 → Marked b t t (set m t 1)
-  first-mark m l h k = (
-    length-set m t 1 ∙ l,
+  pub first-mark : (m : List ℕ) → Zeros 128 m → t < 128 → Marked b t t (set m t 1)
+  first-mark m z k = (
+    length-set m t 1 ∙ z .long,
     λ a q.
         by-cases (ℕ-discrete a t)
-        (λ (e : a ≡ t). inl (rw e (getD-set-same m t 1 0 (omega arith)), rw e itself))
-        (λ e. inr (getD-set-other m t a 1 0 e ∙ h a, λ u. (u, e))),
+        (λ (e : a ≡ t). inl (rw e (getD-set-same m t 1 0 (omega (arith, z .long))), rw e itself))
+        (λ e. inr (getD-set-other m t a 1 0 e ∙ z .zero a q, λ u. (u, e))),
   )
 
   pub next-mark : (n g : ℕ) (m : List ℕ) → g ≡ parentOf b n → g < 128 → Under (planOf b) g t → Marked b t n m → Marked b t g (set m g 1)

@@ -4,10 +4,10 @@ use format::fields::is_kind;
 use format::fields::later;
 use format::fields::orders;
 use format::fields::parent;
-use progress::blank;
 use progress::is_begun;
 use progress::is_complete;
 use rules::tests::wide;
+use zeros::no_nodes;
 ghost use mathlib.Core.Path.{_≡_};
 ghost use Prim.Native.Nat.{ℕ, _<_};
 ghost use lib.ListN.{length, getD};
@@ -59,7 +59,7 @@ pub fn path(plan: &[u8], task: usize) -> [u8; 128]
     requires { ⌜ (task < nodeCount (now plan)) × (refusal (now plan) ≡ 0) ⌝ }
     ensures { λ r. ⌜ (length r ≡ 128) × ((a : ℕ) → a < 128 → getD r a 0 ≡ num (underB (planOf (now (plan .entry))) a task)) ⌝ }
 {
-    let mut marks = blank();
+    let mut marks = no_nodes();
     let mut n = task;
     marks[n] = 1;
     while 0 < n {

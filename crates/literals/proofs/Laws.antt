@@ -15,7 +15,7 @@ use Rattle.runs.specs.Verdict.{Fails}
 use Rattle.words.specs.Columns as columns
 use Rattle.words.specs.Columns.{Right, wordAt}
 use Rattle.runs.proofs.Plan.Numbers.{sign-small}
-use Rattle.literals.specs.Words.{wordOf, markAt, firstWords, MarkWords, StartWord}
+use Rattle.literals.specs.Words.{wordIndex, markAt, firstWords, MarkWords, StartWord}
 
 pub mark-small : (m : Mark) → byteOf m < 8
 mark-small may-pre = omega arith
@@ -52,14 +52,14 @@ byte-mark (suc (suc (suc (suc (suc (suc (suc zero))))))) l = refl
 byte-mark (suc (suc (suc (suc (suc (suc (suc (suc k)))))))) l = absurd (omega arith)
 
 -- word k is for sign k / 8 and mark k % 8
-module _ {k : ℕ} (v : Bool) (m : Mark) (e : k ≡ wordOf v m) where
+module _ {k : ℕ} (v : Bool) (m : Mark) (e : k ≡ wordIndex v m) where
   pub sign-is : k / 8 ≡ signNumber v
   sign-is = omega (arith, e, mark-small m)
 
   pub mark-is : k % 8 ≡ byteOf m
   mark-is = omega (arith, e, mark-small m)
 
-pub word-small : (v : Bool) (m : Mark) → wordOf v m < 16
+pub word-small : (v : Bool) (m : Mark) → wordIndex v m < 16
 word-small v m = omega (arith, sign-small v, mark-small m)
 
 pub first-small : (k : ℕ) → k < 8 → getD firstWords k 0 < 20
@@ -112,7 +112,7 @@ module _ {p : Plan} {F : ℕ → Bool} {words : List ℕ} {start : ℕ} (w : Mar
       from false (inr x) = inr (inl (x .1, x .0))
       from true (inr x) = inr (inr (x .1, (clear-start (F f)) .1 (x .0)))
 
-  word-says : (v : Bool) (q : Mark) {i : ℕ} → i ≡ wordOf v q → (f : ℕ) → f < 64 → Says (getD words i 0) f (Marked p 0 f v q)
+  word-says : (v : Bool) (q : Mark) {i : ℕ} → i ≡ wordIndex v q → (f : ℕ) → f < 64 → Says (getD words i 0) f (Marked p 0 f v q)
   word-says v q e f l = rw e (w .says v q f l)
 
   pub failing-says : {i j marked clear set r : ℕ} → i ≡ byteOf m → j ≡ byteOf k → marked ≡ bitOr (getD words i 0) (getD words (i + 8) 0)

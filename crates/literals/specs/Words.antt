@@ -11,8 +11,8 @@ use Rattle.runs.specs.Verdict.{Fails}
 use Rattle.words.specs.Columns.{Right}
 
 -- the word of a sign and a mark
-abbrev pub wordOf : Bool → Mark → ℕ
-wordOf v m = byteOf m + 8 * signNumber v
+abbrev pub wordIndex : Bool → Mark → ℕ
+wordIndex v m = byteOf m + 8 * signNumber v
 
 -- the mark of a number, back from `byteOf`
 abbrev pub markAt : ℕ → Mark
@@ -31,7 +31,7 @@ firstWords = 5 ∷ 0 ∷ 7 ∷ 0 ∷ 9 ∷ 17 ∷ 15 ∷ 19 ∷ []
 
 -- sixteen words say the marks of n
 pub record MarkWords (p : Plan) (n : ℕ) (words : List ℕ) : Type 0 where
-  pub says : (v : Bool) (m : Mark) (f : ℕ) → f < 64 → Says (getD words (wordOf v m) 0) f (Marked p n f v m)
+  pub says : (v : Bool) (m : Mark) (f : ℕ) → f < 64 → Says (getD words (wordIndex v m) 0) f (Marked p n f v m)
 
 -- a word says which flags are set at the start
 pub record StartWord (F : ℕ → Bool) (w : ℕ) : Type 0 where
@@ -39,7 +39,7 @@ pub record StartWord (F : ℕ → Bool) (w : ℕ) : Type 0 where
 
 -- for every plan in which the row of n is right: word k of the sixteen; all of them
 abbrev pub WordIs : List ℕ → ℕ → ℕ → ℕ → Type 0
-WordIs rows n k r = (p : Plan) → WellFormed p → Node p n → Right p rows n → (v : Bool) (m : Mark) → k ≡ wordOf v m → (f : ℕ) → f < 64
+WordIs rows n k r = (p : Plan) → WellFormed p → Node p n → Right p rows n → (v : Bool) (m : Mark) → k ≡ wordIndex v m → (f : ℕ) → f < 64
     → Says r f (Marked p n f v m)
 
 abbrev pub WordsAre : List ℕ → ℕ → List ℕ → Type 0

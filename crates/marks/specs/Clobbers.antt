@@ -10,7 +10,7 @@ use Rattle.words.specs.Columns.{Column, avoid, quiet, covered, may-pre, may-pos
 use Rattle.groups.specs.Groups.{Within}
 use Rattle.pairs.specs.declared.Literals.{Literals}
 use Rattle.passing.specs.Passing.{SomePair, OfPlans}
-use Rattle.pairs.specs.Pairs.{Pair, wordOf}
+use Rattle.pairs.specs.Pairs.{Pair, signWord}
 use Rattle.mustpairs.specs.MustPairs.{MustPair}
 
 -- for every plan that the tables represent: the row of the all-of group n
@@ -41,9 +41,9 @@ clobberOf may must (may-post v) = 0
 clobberOf may must (may-inc v) = 0
 clobberOf may must (requires v) = 0
 clobberOf may must (asserts v) = 0
-clobberOf may must (may-clobber v) = wordOf may v
+clobberOf may must (may-clobber v) = signWord may v
 clobberOf may must (must-inc v) = 0
-clobberOf may must (must-clobber v) = wordOf must v
+clobberOf may must (must-clobber v) = signWord must v
 
 pub record ClobberWords (may must : Literals) (r : List ℕ) : Type 0 where
   pub is : (k : Column) → getD r (indexOf k) 0 ≡ clobberOf may must k

@@ -21,10 +21,10 @@ use Rattle.words.proofs.Turns.{Turn, turn-at, position, next-turn, last-turn}
 use Rattle.passing.specs.Passing.{Pairing, OfPlans}
 use Rattle.passing.proofs.Laws.{kid}
 use Rattle.pairs.specs.declared.Literals.{Literals}
-use Rattle.pairs.specs.Pairs.{Pair, wordOf, PairWords, FirstPartner}
+use Rattle.pairs.specs.Pairs.{Pair, signWord, PairWords, FirstPartner}
 use Rattle.maypairs.specs.Search.{NoClobber, Unclobbered, Search}
 
-word-zero : (r : Literals) → bitOr (r .clear) (r .set) ≡ 0 → (v : Bool) → wordOf r v ≡ 0
+word-zero : (r : Literals) → bitOr (r .clear) (r .set) ≡ 0 → (v : Bool) → signWord r v ≡ 0
 word-zero r e false = (or-zero (r .clear) (r .set) e) .0
 word-zero r e true = (or-zero (r .clear) (r .set) e) .1
 
@@ -96,7 +96,7 @@ module _ {from kids order rows : List ℕ} {size n : ℕ} {wanted : Literals} wh
     ended = λ y. e;
   }
     where
-      zero : (v : Bool) → wordOf r v ≡ 0
+      zero : (v : Bool) → signWord r v ≡ 0
       zero false = z .0
       zero true = z .1
 

@@ -11,12 +11,12 @@ use Rattle.runs.specs.Plan.{Plan, Child}
 use Rattle.words.specs.Segments.{Every}
 use Rattle.passing.specs.Passing.{OfPlans, SomePair}
 use Rattle.pairs.specs.declared.Literals.{Literals}
-use Rattle.pairs.specs.Pairs.{Pair, wordOf}
+use Rattle.pairs.specs.Pairs.{Pair, signWord}
 use Rattle.maypairs.specs.declared.Found.{Found}
 
 -- the pair c, d clobbers no wanted literal; no pair of c does
 abbrev pub NoClobber : Plan → ℕ → Literals → ℕ → ℕ → Type 0
-NoClobber p n wanted c d = (v : Bool) (f : ℕ) → f < 64 → T (bit (wordOf wanted v) f) → ¬ Pair p n f v c d
+NoClobber p n wanted c d = (v : Bool) (f : ℕ) → f < 64 → T (bit (signWord wanted v) f) → ¬ Pair p n f v c d
 
 abbrev pub Unclobbered : Plan → ℕ → Literals → ℕ → Type 0
 Unclobbered p n wanted c = (d : ℕ) → Child p n d → NoClobber p n wanted c d
@@ -24,8 +24,8 @@ Unclobbered p n wanted c = (d : ℕ) → Child p n d → NoClobber p n wanted c 
 -- What a search from a position on answers: wanted literals that some pair clobbers, and where it stands; no child passed clobbers a wanted literal, and with
 -- no literal it has passed all.
 pub record Search (from kids order rows : List ℕ) (size n : ℕ) (wanted : Literals) (first : ℕ) (r : Found) : Type 0 where
-  pub among : (v : Bool) (f : ℕ) → f < 64 → T (bit (wordOf (r .literals) v) f) → T (bit (wordOf wanted v) f)
-  pub sound : OfPlans from kids order rows size n (λ p. (v : Bool) (f : ℕ) → f < 64 → T (bit (wordOf (r .literals) v) f) → SomePair p n (Pair p n f v))
+  pub among : (v : Bool) (f : ℕ) → f < 64 → T (bit (signWord (r .literals) v) f) → T (bit (signWord wanted v) f)
+  pub sound : OfPlans from kids order rows size n (λ p. (v : Bool) (f : ℕ) → f < 64 → T (bit (signWord (r .literals) v) f) → SomePair p n (Pair p n f v))
   pub low : first ≤ r .at
   pub high : r .at ≤ getD from (n + 1) 0
   pub passed : OfPlans from kids order rows size n (λ p. Every kids first (r .at) (Unclobbered p n wanted))
@@ -34,4 +34,4 @@ pub record Search (from kids order rows : List ℕ) (size n : ℕ) (wanted : Lit
 -- the wanted literals that some pair clobbers
 pub record AllPairs (from kids order rows : List ℕ) (size n : ℕ) (wanted r : Literals) : Type 0 where
   pub says : OfPlans from kids order rows size n (λ p. (v : Bool) (f : ℕ) → f < 64
-      → Says (wordOf r v) f (T (bit (wordOf wanted v) f) × SomePair p n (Pair p n f v)))
+      → Says (signWord r v) f (T (bit (signWord wanted v) f) × SomePair p n (Pair p n f v)))

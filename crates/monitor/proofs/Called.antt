@@ -12,7 +12,7 @@ use Rattle.state.specs.State.{stateRefusal, worldOf}
 use Rattle.state.proofs.Passed.{well-formed}
 use Rattle.refusals.specs.declared.Move.{Move}
 use Rattle.refusals.specs.declared.Move.the-variants.{Start, Finish}
-use Rattle.refusals.specs.Events.{eventOf, placeOf, eventRefusal}
+use Rattle.refusals.specs.Events.{eventOf, eventPlace, eventRefusal}
 use Rattle.refusals.proofs.Chain.{node-of, place-is}
 use Rattle.monitor.specs.Events.{withEvent, eventReturn, afterEvent, eventState, Called}
 use Rattle.monitor.proofs.Equations.{refused-16, refused-22, accepted}
@@ -40,7 +40,7 @@ status-of Start t = refl
 status-of Finish t = refl
 
 pub called-0 : (b s : List ℕ) (m : Move) (t : ℕ) → stateRefusal b s ≡ 0 → eventRefusal b s (eventOf m t) ≡ 0
-    → (q : ℕ) → q ≡ placeNumber (placeOf (eventOf m 0)) → (x : ℕ) → x ≡ statusByte (statusOf (eventOf m 0)) → (s′ : List ℕ) → s′ ≡ withEvent b q t x s → Called b s (eventOf m t) 0 s′
+    → (q : ℕ) → q ≡ placeNumber (eventPlace (eventOf m 0)) → (x : ℕ) → x ≡ statusByte (statusOf (eventOf m 0)) → (s′ : List ℕ) → s′ ≡ withEvent b q t x s → Called b s (eventOf m t) 0 s′
 called-0 b s m t ok z q eq x ex s′ h =
     let w = accepted b s (eventOf m t) ok z in
     let y : withEvent b q t x s ≡ afterEvent b s (eventOf m t) = rw (eq, ex, place-is m t, status-of m t, node-of m t) in

@@ -22,12 +22,12 @@ use Rattle.runs.specs.Plan.{Place, placeNumber}
 use Rattle.runs.specs.Execution.{Status, waiting, running, done, Event, nodeOf, statusOf, moved, asserts}
 use Rattle.runs.specs.Calls.{one, statusByte, no-task, wrong-status, branch-begun, order-open, pre-unmet, inc-broken, Refusal, World}
 use Rattle.runs.specs.Model.Monitor.{returned, refusalOf, step, code, settle}
-use Rattle.state.specs.State.{byteOf, badFlag, badByte, malformed, stateRefusal, statusAt, statusIn, flagShown, worldOf}
+use Rattle.state.specs.State.{nodeByte, badFlag, badByte, malformed, stateRefusal, statusAt, statusIn, flagShown, worldOf}
 use Rattle.state.proofs.Refused.{room-long, state-good, state-well}
 use Rattle.state.proofs.Passed.{has-room}
 use Rattle.conditions.specs.Conditions.{made}
 use Rattle.conditions.proofs.Laws.{length-literals, made-flag}
-use Rattle.refusals.specs.Events.{placeOf, eventRefusal}
+use Rattle.refusals.specs.Events.{eventPlace, eventRefusal}
 use Rattle.refusals.proofs.Chain.{answer-task, event-does}
 use Rattle.monitor.specs.Events.{withEvent, afterEvent, eventState}
 use Rattle.monitor.proofs.Equations.{refused-22, accepted}
@@ -53,12 +53,12 @@ module _ (b s : List ℕ) (ok : stateRefusal b s ≡ 0) (k : Place) (t x : ℕ) 
   unfolding withEvent
   next-length = length-set (flags ++ drop 8 s) (8 + t) x ∙ joined-length
 
-  byte-own : byteOf next t ≡ x
-  unfolding withEvent byteOf
+  byte-own : nodeByte next t ≡ x
+  unfolding withEvent nodeByte
   byte-own = getD-set-same (flags ++ drop 8 s) (8 + t) x 0 (omega (arith, joined-length, has-room b s ok .room, kind-is b t 0 task .0))
 
-  pub byte-other : (n : ℕ) → (n ≡ t → ⊥) → byteOf next n ≡ byteOf s n
-  unfolding withEvent byteOf
+  pub byte-other : (n : ℕ) → (n ≡ t → ⊥) → nodeByte next n ≡ nodeByte s n
+  unfolding withEvent nodeByte
   byte-other n h =
       getD-set-other (flags ++ drop 8 s) (8 + t) (8 + n) x 0 (λ e. h (omega arith))
       ∙ ap (λ (m : ℕ). getD (flags ++ drop 8 s) (m + n) 0) (sym flags-eight)
@@ -146,8 +146,8 @@ module _ (b s : List ℕ) (ok : stateRefusal b s ≡ 0) (e : Event) where
   same : eventRefusal b s e ≡ 0 → isKind b (nodeOf e) 0 ≡ true → worldOf b (afterEvent b s e) ≡ step (planOf b) (worldOf b s) (one e)
   unfolding returned step worldOf
   same z y =
-      let fs : statusIn b (afterEvent b s e) ≡ moved (statusIn b s) e = fun-ext (λ n. status-next b s ok (placeOf e) (nodeOf e) (statusByte (statusOf e)) y n ∙ ap (λ (a : Status). cond (eqb n (nodeOf e)) a (statusIn b s n)) (status-byte (statusOf e) .0)) in
-      let ff : flagShown (afterEvent b s e) ≡ (λ f. Option·getD (asserts (planOf b) e f) (flagShown s f)) = fun-ext (λ f. shown-next b s ok (placeOf e) (nodeOf e) (statusByte (statusOf e)) y f ∙ ap (λ (o : Option Bool). Option·getD o (flagShown s f)) (sym (event-does b s ok e f))) in
+      let fs : statusIn b (afterEvent b s e) ≡ moved (statusIn b s) e = fun-ext (λ n. status-next b s ok (eventPlace e) (nodeOf e) (statusByte (statusOf e)) y n ∙ ap (λ (a : Status). cond (eqb n (nodeOf e)) a (statusIn b s n)) (status-byte (statusOf e) .0)) in
+      let ff : flagShown (afterEvent b s e) ≡ (λ f. Option·getD (asserts (planOf b) e f) (flagShown s f)) = fun-ext (λ f. shown-next b s ok (eventPlace e) (nodeOf e) (statusByte (statusOf e)) y f ∙ ap (λ (o : Option Bool). Option·getD o (flagShown s f)) (sym (event-does b s ok e f))) in
       let n : refusalOf (planOf b) (worldOf b s) (one e) ≡ none = code-none (refusalOf (planOf b) (worldOf b s) (one e)) z in
       rw n (cc (fs, ff))
 
@@ -155,7 +155,7 @@ module _ (b s : List ℕ) (ok : stateRefusal b s ≡ 0) (e : Event) where
   moves z =
       let y = answer-task b s ok (nodeOf e) e refl z in
       let q = sym (accepted b s e ok z .1) in
-      record { well-formed = ap (stateRefusal b) q ∙ still-well b s ok (placeOf e) (nodeOf e) (statusByte (statusOf e)) y (status-byte (statusOf e) .1); shows = ap (worldOf b) q ∙ same z y }
+      record { well-formed = ap (stateRefusal b) q ∙ still-well b s ok (eventPlace e) (nodeOf e) (statusByte (statusOf e)) y (status-byte (statusOf e) .1); shows = ap (worldOf b) q ∙ same z y }
 
   refused : (eventRefusal b s e ≡ 0 → ⊥) → Stepped b s e
   unfolding step returned

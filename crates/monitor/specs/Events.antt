@@ -12,7 +12,7 @@ use Rattle.runs.specs.Calls.{one, statusByte, Answered}
 use Rattle.answers.specs.Answers.{first}
 use Rattle.state.specs.State.{stateRefusal, worldOf}
 use Rattle.conditions.specs.Conditions.{made}
-use Rattle.refusals.specs.Events.{placeOf, eventRefusal}
+use Rattle.refusals.specs.Events.{eventPlace, eventRefusal}
 
 -- 1 to 16, then 17 to 22
 unfoldable pub eventReturn : List ℕ → List ℕ → Event → ℕ
@@ -24,7 +24,7 @@ withEvent b q t x s = set (made b q t (take 8 s) ++ drop 8 s) (8 + t) x
 
 -- the state after an event that happens
 abbrev pub afterEvent : List ℕ → List ℕ → Event → List ℕ
-afterEvent b s e = withEvent b (placeNumber (placeOf e)) (nodeOf e) (statusByte (statusOf e)) s
+afterEvent b s e = withEvent b (placeNumber (eventPlace e)) (nodeOf e) (statusByte (statusOf e)) s
 
 -- an accepted event happens; a refused one changes nothing
 unfoldable pub eventState : List ℕ → List ℕ → Event → List ℕ

@@ -20,7 +20,7 @@ use Rattle.siblings.specs.Siblings.{Apart}
 use Rattle.siblings.proofs.Sibling.{apart-is}
 use Rattle.passing.specs.Passing.{Between, PassingWord, Pairing, SomePair}
 use Rattle.pairs.specs.declared.Literals.{Literals}
-use Rattle.pairs.specs.Pairs.{Pair, PairWord, wordOf, PairWords, NoneRequired}
+use Rattle.pairs.specs.Pairs.{Pair, PairWord, signWord, PairWords, NoneRequired}
 
 -- which of the two rules a pair meets, by its order; W is what is wanted
 module _ {p : Plan} {n c d f : ℕ} {v : Bool} {W : Type 0} where
@@ -98,12 +98,12 @@ pub pair-words : {from kids order rows : List ℕ} {size n c d : ℕ} {wanted r 
     → PairWord from kids order rows size n 1 (wanted .set) c d (r .set) → PairWords from kids order rows size n wanted c d r
 pair-words {from} {kids} {order} {rows} {size} {n} {c} {d} {wanted} {r} a b = record { among = among; says = says }
   where
-    among : (v : Bool) (f : ℕ) → f < 64 → T (bit (wordOf r v) f) → T (bit (wordOf wanted v) f)
+    among : (v : Bool) (f : ℕ) → f < 64 → T (bit (signWord r v) f) → T (bit (signWord wanted v) f)
     among false = a .among
     among true = b .among
 
     says : (p : Plan) → Pairing from kids order rows size n p → Child p n c → Child p n d → (v : Bool) (f : ℕ) → f < 64
-        → Says (wordOf r v) f (T (bit (wordOf wanted v) f) × Pair p n f v c d)
+        → Says (signWord r v) f (T (bit (signWord wanted v) f) × Pair p n f v c d)
     says p g hc hd false f l = a .says p g hc hd false refl f l
     says p g hc hd true f l = b .says p g hc hd true refl f l
 
@@ -136,6 +136,6 @@ none-required rows wanted c a b x y ea eb ex ey e = record { none = λ v f l. at
     both : (bitAnd (wanted .clear) (bitOr a b) ≡ 0) × (bitAnd (wanted .set) (bitOr x y) ≡ 0)
     both = or-zero (bitAnd (wanted .clear) (bitOr a b)) (bitAnd (wanted .set) (bitOr x y)) e
 
-    at : (v : Bool) (f : ℕ) → T (bit (wordOf wanted v) f) → ¬ (T (bit (wordAt rows c (indexOf (requires v))) f) ⊎ T (bit (wordAt rows c (indexOf (may-pre v))) f))
+    at : (v : Bool) (f : ℕ) → T (bit (signWord wanted v) f) → ¬ (T (bit (wordAt rows c (indexOf (requires v))) f) ⊎ T (bit (wordAt rows c (indexOf (may-pre v))) f))
     at false f = rw (ea, eb) at (none (wanted .clear) a b (both .0) f)
     at true f = rw (ex, ey) at (none (wanted .set) x y (both .1) f)

@@ -23,19 +23,19 @@ pub record PairWord (from kids order rows : List ℕ) (size n s wanted c d r : �
   pub says : OfPlans from kids order rows size n (λ p. Child p n c → Child p n d → SaysOf s r (λ f v. T (bit wanted f) × Pair p n f v c d))
 
 -- the word of one sign
-abbrev pub wordOf : Literals → Bool → ℕ
-wordOf w false = w .clear
-wordOf w true = w .set
+abbrev pub signWord : Literals → Bool → ℕ
+signWord w false = w .clear
+signWord w true = w .set
 
 -- the wanted literals that the pair c, d of children clobbers
 pub record PairWords (from kids order rows : List ℕ) (size n : ℕ) (wanted : Literals) (c d : ℕ) (r : Literals) : Type 0 where
-  pub among : (v : Bool) (f : ℕ) → f < 64 → T (bit (wordOf r v) f) → T (bit (wordOf wanted v) f)
+  pub among : (v : Bool) (f : ℕ) → f < 64 → T (bit (signWord r v) f) → T (bit (signWord wanted v) f)
   pub says : OfPlans from kids order rows size n (λ p. Child p n c → Child p n d → (v : Bool) (f : ℕ) → f < 64
-      → Says (wordOf r v) f (T (bit (wordOf wanted v) f) × Pair p n f v c d))
+      → Says (signWord r v) f (T (bit (signWord wanted v) f) × Pair p n f v c d))
 
 -- no wanted literal is one that c requires, or that may be its external precondition
 pub record NoneRequired (rows : List ℕ) (wanted : Literals) (c : ℕ) : Type 0 where
-  pub none : (v : Bool) (f : ℕ) → f < 64 → T (bit (wordOf wanted v) f)
+  pub none : (v : Bool) (f : ℕ) → f < 64 → T (bit (signWord wanted v) f)
       → ¬ (T (bit (wordAt rows c (indexOf (requires v))) f) ⊎ T (bit (wordAt rows c (indexOf (may-pre v))) f))
 
 -- where the pairs with c begin: at the start, or at the end if none is required

@@ -14,8 +14,9 @@ use Rattle.codes.specs.Values.{flagOf, signOf, placeOf, valueBad}
 use Rattle.format.specs.Format.{nodeCount, condCount, orderCount, flagCount, parentOf, kindOf, minutesOf, condNode, condValue, earlierOf, laterOf, isKind, isGroup}
 use Rattle.rules.specs.Rules.{refusal, badEntry, cause6, childless, cause8, bothSigns, cause11, noPost, postOf, cause12, isChild, badPair, badOrder, cause13}
 use Rattle.rules.specs.Search.{someBelow}
-use Rattle.rules.proofs.Laws.{or-none, or-split, and-both, and-three, and-of, none-at, found-at, some-yes, not-passed, true-T, T-true}
+use Rattle.rules.proofs.Laws.{or-none, or-split, and-both, and-three, and-of, none-at, found-at, some-yes, not-passed}
 use Rattle.runs.specs.Plan.{task, all-of, Place, inc, post, Accepted, WellFormed, kindNumber, placeNumber, signNumber}
+use Rattle.runs.proofs.Reflect.{true-T, T-true}
 use Rattle.runs.proofs.Plan.Accepted.{accepted-well-formed, accepted-rank}
 use Rattle.plan.specs.Meaning.{kindAt, conditionIs, hasCondition, signIn, orderIs, hasOrder, planOf, ConditionPair, OrderPair, Means}
 use Rattle.rules.proofs.Causes.{condition-fits, parent-group, root-parent, both-signs-of, post-of}

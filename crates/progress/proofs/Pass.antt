@@ -21,6 +21,7 @@ use Rattle.runs.specs.Model.Monitor.{completeB, begunB}
 use Rattle.state.specs.State.{stateRefusal, statusIn}
 use Rattle.state.proofs.Passed.{has-room}
 use Rattle.counts.specs.Count.{num, countBelow}
+use Rattle.zeros.specs.Zeros.{Zeros}
 use Rattle.progress.specs.Progress.{countedAt, countedChild, childrenCounted}
 use Rattle.progress.specs.declared.Tally.{Tally}
 use Rattle.progress.specs.declared.Tally.the-variants.{Begun, Ends}
@@ -34,9 +35,9 @@ part k b s m g = countBelow m (λ i. countedChild k b s g (nodeCount b - 1 - i))
 abbrev pub Holds : Tally → List ℕ → List ℕ → ℕ → List ℕ → Type 0
 Holds k b s m t = (length t ≡ 128) × ((g : ℕ) → g < 128 → getD t g 0 ≡ part k b s m g)
 
-pub none-yet : (k : Tally) (b s t : List ℕ) → length t ≡ 128 → ((g : ℕ) → getD t g 0 ≡ 0) → Holds k b s 0 t
+pub none-yet : (k : Tally) (b s t : List ℕ) → Zeros 128 t → Holds k b s 0 t
 unfolding part countBelow
-none-yet k b s t l h = (l, λ g m. h g)
+none-yet k b s t z = (z .long, z .zero)
 
 pub part-le : (k : Tally) (b s : List ℕ) (m g : ℕ) → part k b s m g ≤ m
 unfolding part

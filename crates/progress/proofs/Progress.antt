@@ -22,7 +22,7 @@ use Rattle.runs.proofs.Execution.Completeness.{picks-any, complete-task, comple
 use Rattle.runs.proofs.Execution.Final.{under-task}
 use Rattle.runs.proofs.Reflect.{Reflects, r-map, r-eq, r-negate, true-T, T-true, same-test}
 use Rattle.runs.proofs.Calls.Reflect.{r-complete, r-begun}
-use Rattle.state.specs.State.{byteOf, stateRefusal, statusIn}
+use Rattle.state.specs.State.{nodeByte, stateRefusal, statusIn}
 use Rattle.state.proofs.Passed.{has-room, well-formed, byte-done, byte-waiting}
 use Rattle.progress.specs.Progress.{countedAt, countedChild, childrenCounted}
 use Rattle.progress.specs.declared.Tally.{Tally}
@@ -74,11 +74,11 @@ module _ (b s : List ℕ) (ok : stateRefusal b s ≡ 0) (n : ℕ) (l : n < nodeC
   unfolding negate
   nonzero x = r-negate (eqb x 0) (r-eq x 0)
 
-  pub task-complete : kindOf b n ≡ 0 → eqb (byteOf s n) 2 ≡ completeB (planOf b) (statusIn b s) n
+  pub task-complete : kindOf b n ≡ 0 → eqb (nodeByte s n) 2 ≡ completeB (planOf b) (statusIn b s) n
   task-complete k =
       let kn = plan-kind b n ∙ kind-task (kindOf b n) k in
       let d = byte-done b s ok n l k in
-      by-complete _ (r-map (λ e. task-done kn (d .0 e), λ x. d .1 (complete-task (planOf b) kn x)) (r-eq (byteOf s n) 2))
+      by-complete _ (r-map (λ e. task-done kn (d .0 e), λ x. d .1 (complete-task (planOf b) kn x)) (r-eq (nodeByte s n) 2))
 
   pub all-complete : kindOf b n ≡ 1 → eqb (childrenCounted Ends b s n) 0 ≡ completeB (planOf b) (statusIn b s) n
   unfolding countedAt sameB
@@ -105,7 +105,7 @@ module _ (b s : List ℕ) (ok : stateRefusal b s ≡ 0) (n : ℕ) (l : n < nodeC
       through : isKind b n 2 ≡ true → PickDone (planOf b) (statusIn b s) n → childrenCounted Ends b s n ≢ 0
       through any (branch-done c h x) = child-counted Ends c h (rw any (T-true _ (completes c h .from x)))
 
-  pub task-begun : kindOf b n ≡ 0 → not (eqb (byteOf s n) 0) ≡ begunB (planOf b) (statusIn b s) n
+  pub task-begun : kindOf b n ≡ 0 → not (eqb (nodeByte s n) 0) ≡ begunB (planOf b) (statusIn b s) n
   task-begun k =
       let kn = plan-kind b n ∙ kind-task (kindOf b n) k in
       let d = byte-waiting b s ok n l k in
@@ -113,7 +113,7 @@ module _ (b s : List ℕ) (ok : stateRefusal b s ≡ 0) (n : ℕ) (l : n < nodeC
       (r-map (
         λ z. record { who = n; is-task = kn; beneath = itself; begun = λ q. z (d .1 q) },
         λ x z. x .begun (ap (statusIn b s) (sym (under-task (planOf b) (well-formed b s ok) kn (x .beneath))) ∙ d .0 z),
-      ) (nonzero (byteOf s n)))
+      ) (nonzero (nodeByte s n)))
 
   pub group-begun : (kindOf b n ≡ 0 → ⊥) → not (eqb (childrenCounted tallies.Begun b s n) 0) ≡ begunB (planOf b) (statusIn b s) n
   unfolding countedAt

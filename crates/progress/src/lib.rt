@@ -3,8 +3,9 @@ use format::fields::is_kind;
 use format::fields::nodes;
 use format::fields::parent;
 use rules::tests::wide;
+use zeros::no_nodes;
 ghost use mathlib.Core.Path.{_≡_};
-ghost use Prim.Native.Nat.{ℕ, _<_};
+ghost use Prim.Native.Nat.{_<_};
 ghost use lib.ListN.{length, getD};
 ghost use Rattle.format.specs.Format.{nodeCount};
 ghost use Rattle.plan.specs.Meaning.{planOf};
@@ -66,20 +67,13 @@ fn is_counted(
     }
 }
 
-// A zero for each node.
-pub fn blank() -> [u8; 128]
-    ensures { λ r. ⌜ (length r ≡ 128) × ((k : ℕ) → getD r k 0 ≡ 0) ⌝ }
-{
-    [0u8; 128]
-}
-
 // The number of counted children of each node.
 pub fn children(plan: &[u8], state: &[u8], tally: Tally) -> [u8; 128]
     requires { ⌜ stateRefusal (now plan) (now state) ≡ 0 ⌝ }
     ensures { λ r. ⌜ (length r ≡ 128) × Counted tally (now (plan .entry)) (now (state .entry)) r ⌝ }
 {
     let n = nodes(plan);
-    let mut table = blank();
+    let mut table = no_nodes();
     let mut m = 0;
     while m + 1 < n {
         let c = n - 1 - m;

@@ -25,13 +25,13 @@ use Rattle.runs.proofs.Reflect.{r-eq, r-map, clash, true-T, T-true, same-test}
 use Rattle.runs.proofs.Calls.Reflect.{r-task, r-status}
 use Rattle.answers.specs.Answers.{first}
 use Rattle.answers.proofs.First.{first-none, first-some}
-use Rattle.state.specs.State.{byteOf, stateRefusal, statusIn, flagShown, worldOf}
+use Rattle.state.specs.State.{nodeByte, stateRefusal, statusIn, flagShown, worldOf}
 use Rattle.state.proofs.Passed.{has-room, well-formed, byte-waiting, byte-running, byte-done}
 use Rattle.conditions.specs.Conditions.{made, brokenAt}
 use Rattle.conditions.proofs.Refusals.{broken-is}
 use Rattle.refusals.specs.declared.Move.{Move}
 use Rattle.refusals.specs.declared.Move.the-variants.{Start, Finish}
-use Rattle.refusals.specs.Events.{eventOf, placeOf, eventRefusal}
+use Rattle.refusals.specs.Events.{eventOf, eventPlace, eventRefusal}
 use Rattle.refusals.specs.Parts.{treeRefusal, beginRefusal}
 
 -- ---- moves
@@ -40,7 +40,7 @@ pub asks-of : (m : Move) (t : ℕ) → asks (eventOf m 0) ≡ asks (eventOf m t)
 asks-of Start t = refl
 asks-of Finish t = refl
 
-pub place-is : (m : Move) (t : ℕ) → placeOf (eventOf m 0) ≡ placeOf (eventOf m t)
+pub place-is : (m : Move) (t : ℕ) → eventPlace (eventOf m 0) ≡ eventPlace (eventOf m t)
 place-is Start t = refl
 place-is Finish t = refl
 
@@ -80,7 +80,7 @@ module _ (b s : List ℕ) (ok : stateRefusal b s ≡ 0) where
         from = λ x. let l = node-is b t (x .node) in true-T (isKind b t 0) (kind-of b t 0 l (none-kind (kindOf b t) (kind-limit b (has-room b s ok .plan) t l) (sym (plan-kind b t) ∙ x .is-task)));
       }) (r-task (planOf b) (well-formed b s ok) t)
 
-  byte-status : (t : ℕ) → t < nodeCount b → kindOf b t ≡ 0 → (a : Status) → (byteOf s t ≡ statusByte a) ↔ (statusIn b s t ≡ a)
+  byte-status : (t : ℕ) → t < nodeCount b → kindOf b t ≡ 0 → (a : Status) → (nodeByte s t ≡ statusByte a) ↔ (statusIn b s t ≡ a)
   byte-status t l k waiting = byte-waiting b s ok t l k
   byte-status t l k running = byte-running b s ok t l k
   byte-status t l k done = byte-done b s ok t l k
@@ -106,18 +106,18 @@ module _ (b s : List ℕ) (ok : stateRefusal b s ≡ 0) where
     answer-17 y = sym (chain ∙ rw y)
 
     module _ (y : isKind b t 0 ≡ true) where
-      status-is : eqb (byteOf s t) (statusByte (asks e)) ≡ statusB (statusIn b s t) (asks e)
-      status-is = let w = kind-is b t 0 y in same-test _ _ (r-map (byte-status t (w .0) (w .1) (asks e)) (r-eq (byteOf s t) (statusByte (asks e)))) (r-status (statusIn b s t) (asks e))
+      status-is : eqb (nodeByte s t) (statusByte (asks e)) ≡ statusB (statusIn b s t) (asks e)
+      status-is = let w = kind-is b t 0 y in same-test _ _ (r-map (byte-status t (w .0) (w .1) (asks e)) (r-eq (nodeByte s t) (statusByte (asks e)))) (r-status (statusIn b s t) (asks e))
 
-      chain-18 : answer ≡ cond (not (eqb (byteOf s t) (statusByte (asks e)))) 18 (first (beginRefusal b s e) (broken e))
+      chain-18 : answer ≡ cond (not (eqb (nodeByte s t) (statusByte (asks e)))) 18 (first (beginRefusal b s e) (broken e))
       chain-18 = chain ∙ rw (y, status-is)
 
-      pub answer-18 : (byteOf s t ≡ statusByte (asks e) → ⊥) → 18 ≡ answer
-      answer-18 n = sym (chain-18 ∙ rw (ne-eqb (byteOf s t) (statusByte (asks e)) n))
+      pub answer-18 : (nodeByte s t ≡ statusByte (asks e) → ⊥) → 18 ≡ answer
+      answer-18 n = sym (chain-18 ∙ rw (ne-eqb (nodeByte s t) (statusByte (asks e)) n))
 
-      module _ (h : byteOf s t ≡ statusByte (asks e)) where
+      module _ (h : nodeByte s t ≡ statusByte (asks e)) where
         rest : first (beginRefusal b s e) (broken e) ≡ answer
-        rest = sym (chain-18 ∙ rw (eq-eqb (byteOf s t) (statusByte (asks e)) h))
+        rest = sym (chain-18 ∙ rw (eq-eqb (nodeByte s t) (statusByte (asks e)) h))
 
         pub answer-begin : (r : ℕ) → r ≡ beginRefusal b s e → (r ≡ 0 → ⊥) → r ≡ answer
         answer-begin r q n = q ∙ first-some (beginRefusal b s e) (broken e) (λ z. n (q ∙ z)) ∙ rest
@@ -133,17 +133,17 @@ module _ (b s : List ℕ) (ok : stateRefusal b s ≡ 0) where
         (either (isKind b t 0))
 
   -- what an event asserts
-  pub event-does : (e : Event) (f : ℕ) → asserts (planOf b) e f ≡ signIn b (placeOf e) (nodeOf e) f
+  pub event-does : (e : Event) (f : ℕ) → asserts (planOf b) e f ≡ signIn b (eventPlace e) (nodeOf e) f
   unfolding planOf
   event-does (start t) f = refl
   event-does (finish t) f = refl
 
   -- the test of 22, by what the function has at hand
-  pub broken-by : (t : ℕ) (e : Event) → nodeOf e ≡ t → (q : ℕ) → q ≡ placeNumber (placeOf e) → (r : Bool)
+  pub broken-by : (t : ℕ) (e : Event) → nodeOf e ≡ t → (q : ℕ) → q ≡ placeNumber (eventPlace e) → (r : Bool)
       → r ≡ someBelow (condCount b) (brokenAt b s (made b q t (replicate 8 (allByte false))) (made b q t (replicate 8 (allByte true))) t) → r ≡ incBrokenB (planOf b) (statusIn b s) e
   broken-by t e of q k r h =
-      let g : (f : ℕ) → asserts (planOf b) e f ≡ signIn b (placeOf e) t f = λ f. event-does e f ∙ ap (λ (n : ℕ). signIn b (placeOf e) n f) of in
-      h ∙ ap (λ (q : ℕ). someBelow (condCount b) (brokenAt b s (made b q t (replicate 8 (allByte false))) (made b q t (replicate 8 (allByte true))) t)) k ∙ broken-is b s ok t (placeOf e) e of g
+      let g : (f : ℕ) → asserts (planOf b) e f ≡ signIn b (eventPlace e) t f = λ f. event-does e f ∙ ap (λ (n : ℕ). signIn b (eventPlace e) n f) of in
+      h ∙ ap (λ (q : ℕ). someBelow (condCount b) (brokenAt b s (made b q t (replicate 8 (allByte false))) (made b q t (replicate 8 (allByte true))) t)) k ∙ broken-is b s ok t (eventPlace e) e of g
 
 -- ---- the parts
 module _ (b s : List ℕ) (t : ℕ) where

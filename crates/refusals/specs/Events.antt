@@ -16,9 +16,9 @@ eventOf Start t = start t
 eventOf Finish t = finish t
 
 -- the place of the literals that an event makes true
-abbrev pub placeOf : Event → Place
-placeOf (start t) = inc
-placeOf (finish t) = post
+abbrev pub eventPlace : Event → Place
+eventPlace (start t) = inc
+eventPlace (finish t) = post
 
 -- the first of 17 to 22 that applies, or 0
 abbrev pub eventRefusal : List ℕ → List ℕ → Event → ℕ

@@ -15,7 +15,7 @@ ghost use Rattle.runs.specs.Plan.{placeNumber};
 ghost use Rattle.runs.specs.Execution as execution;
 ghost use Rattle.runs.specs.Calls.{asks, statusByte};
 ghost use Rattle.state.specs.State.{stateRefusal};
-ghost use Rattle.refusals.specs.Events.{eventOf, placeOf, eventRefusal};
+ghost use Rattle.refusals.specs.Events.{eventOf, eventPlace, eventRefusal};
 ghost use Rattle.refusals.specs.Parts.{treeRefusal, beginRefusal};
 
 // How a call moves its task on.
@@ -26,7 +26,7 @@ pub enum Move {
 
 // The place of the literals that a move makes true: inconditions, postconditions.
 pub fn place_of(m: Move) -> u16
-    ensures { λ r. ⌜ r ≡ placeNumber (placeOf (eventOf m 0)) ⌝ }
+    ensures { λ r. ⌜ r ≡ placeNumber (eventPlace (eventOf m 0)) ⌝ }
 {
     match m {
         Move::Start => 1u16,

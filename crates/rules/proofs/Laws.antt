@@ -8,7 +8,6 @@ use native.Mathlib.Numerals.{add-one}
 use native.Mathlib.Omega.{arith}
 use mathlib.Core.List.{List}
 use lib.ListN.{length}
-use lib.Dec.{T}
 use Rattle.format.specs.Format.{Whole}
 use Rattle.rules.specs.Search.{someBelow}
 
@@ -48,14 +47,6 @@ same false false f g = refl
 pub not-passed : (a : Bool) → (a ≡ true → ⊥) → a ≡ false
 not-passed true f = absurd (f refl)
 not-passed false f = refl
-
-pub true-T : (a : Bool) → a ≡ true → T a
-true-T true e = tt
-true-T false e = absurd (false≢true e)
-
-pub T-true : (a : Bool) → T a → a ≡ true
-T-true true t = refl
-T-true false t = absurd t
 
 -- a whole plan has its head
 pub whole-head : {b : List ℕ} → Whole b → 16 ≤ length b

@@ -13,7 +13,7 @@ use Rattle.plan.proofs.Meaning.{means-well-formed, kind-of}
 use Rattle.runs.specs.Plan.{WellFormed}
 use Rattle.runs.specs.Execution.{waiting, running, done}
 use Rattle.runs.proofs.Reflect.{clash}
-use Rattle.state.specs.State.{byteOf, badFlag, badByte, malformed, stateRefusal, statusAt, statusIn}
+use Rattle.state.specs.State.{nodeByte, badFlag, badByte, malformed, stateRefusal, statusAt, statusIn}
 use Rattle.state.proofs.Refused.{Roomy, roomy, state-well}
 
 status-done : (x : ℕ) → x ≤ 2 → (x ≡ 2) ↔ (statusAt x ≡ done)
@@ -45,22 +45,22 @@ module _ (b s : List ℕ) (ok : stateRefusal b s ≡ 0) where
   well-formed = means-well-formed b (has-room .accepted)
 
   -- a task's byte
-  pub byte-small : (n : ℕ) → n < nodeCount b → kindOf b n ≡ 0 → byteOf s n ≤ 2
+  pub byte-small : (n : ℕ) → n < nodeCount b → kindOf b n ≡ 0 → nodeByte s n ≤ 2
   unfolding malformed badByte
   byte-small n l k =
       let w = or-none (someBelow 64 (badFlag b s)) (someBelow (nodeCount b) (badByte b s)) (state-well b s ok .1) in
-      ltb-false 2 (byteOf s n) (rw (kind-of b n 0 l k) at (none-at (nodeCount b) (badByte b s) (w .1) n l))
+      ltb-false 2 (nodeByte s n) (rw (kind-of b n 0 l k) at (none-at (nodeCount b) (badByte b s) (w .1) n l))
 
-  task-status : (n : ℕ) → n < nodeCount b → kindOf b n ≡ 0 → statusIn b s n ≡ statusAt (byteOf s n)
+  task-status : (n : ℕ) → n < nodeCount b → kindOf b n ≡ 0 → statusIn b s n ≡ statusAt (nodeByte s n)
   unfolding statusIn
   task-status n l k = rw (kind-of b n 0 l k)
 
   module _ (n : ℕ) (l : n < nodeCount b) (k : kindOf b n ≡ 0) where
-    pub byte-done : (byteOf s n ≡ 2) ↔ (statusIn b s n ≡ done)
-    byte-done = rw (task-status n l k) (status-done (byteOf s n) (byte-small n l k))
+    pub byte-done : (nodeByte s n ≡ 2) ↔ (statusIn b s n ≡ done)
+    byte-done = rw (task-status n l k) (status-done (nodeByte s n) (byte-small n l k))
 
-    pub byte-running : (byteOf s n ≡ 1) ↔ (statusIn b s n ≡ running)
-    byte-running = rw (task-status n l k) (status-running (byteOf s n) (byte-small n l k))
+    pub byte-running : (nodeByte s n ≡ 1) ↔ (statusIn b s n ≡ running)
+    byte-running = rw (task-status n l k) (status-running (nodeByte s n) (byte-small n l k))
 
-    pub byte-waiting : (byteOf s n ≡ 0) ↔ (statusIn b s n ≡ waiting)
-    byte-waiting = rw (task-status n l k) (status-waiting (byteOf s n) (byte-small n l k))
+    pub byte-waiting : (nodeByte s n ≡ 0) ↔ (statusIn b s n ≡ waiting)
+    byte-waiting = rw (task-status n l k) (status-waiting (nodeByte s n) (byte-small n l k))

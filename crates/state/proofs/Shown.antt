@@ -19,7 +19,7 @@ use Rattle.plan.proofs.Accepted.{start-below}
 use Rattle.plan.proofs.Meaning.{kind-is}
 use Rattle.runs.specs.Execution.{waiting}
 use Rattle.runs.specs.Calls as calls
-use Rattle.state.specs.State.{byteOf, badFlag, badByte, malformed, roomRefusal, stateRefusal, statusAt, statusIn, flagShown, worldOf}
+use Rattle.state.specs.State.{nodeByte, badFlag, badByte, malformed, roomRefusal, stateRefusal, statusAt, statusIn, flagShown, worldOf}
 use Rattle.state.specs.Fresh.{freshByte, freshState}
 use Rattle.state.proofs.Refused.{Roomy, roomy, room-long, state-good}
 
@@ -32,8 +32,8 @@ module _ (b s : List ℕ) (r : Roomy b s) where
   fresh-flag f l =
       rw (at-overlay (freshByte b) s (8 + nodeCount b) (f / 8) (r .room) (omega arith), lt-ltb (f / 8) 8 (omega arith))
 
-  fresh-node : (n : ℕ) → n < nodeCount b → byteOf written n ≡ 0
-  unfolding written byteOf freshByte
+  fresh-node : (n : ℕ) → n < nodeCount b → nodeByte written n ≡ 0
+  unfolding written nodeByte freshByte
   fresh-node n l = at-overlay (freshByte b) s (8 + nodeCount b) (8 + n) (r .room) (omega arith) ∙ rw (le-ltb (8 + n) 8 (omega arith))
 
   start-past : (f : ℕ) → flagCount b ≤ f → f < 64 → startFlag b f ≡ false
@@ -44,7 +44,7 @@ module _ (b s : List ℕ) (r : Roomy b s) where
   well-formed =
       rw (
         none-all 64 (λ f. leb (flagCount b) f && flagIn written f) (λ f l. by-cases (decLt f (flagCount b)) (λ (h : f < flagCount b). rw (lt-leb (flagCount b) f h)) (λ h. rw (fresh-flag f l, start-past f (omega arith) l) (and-false (leb (flagCount b) f)))),
-        none-all (nodeCount b) (λ n. cond (isKind b n 0) (ltb 2 (byteOf written n)) (not (eqb (byteOf written n) 0))) (λ n l. rw (fresh-node n l) (alike (isKind b n 0))),
+        none-all (nodeCount b) (λ n. cond (isKind b n 0) (ltb 2 (nodeByte written n)) (not (eqb (nodeByte written n) 0))) (λ n l. rw (fresh-node n l) (alike (isKind b n 0))),
       )
     where
       alike : (x : Bool) → cond x false false ≡ false

@@ -13,8 +13,8 @@ use Rattle.runs.specs.Execution.{Status, waiting, running, done}
 use Rattle.runs.specs.Calls.{World}
 
 -- the byte of node n
-unfoldable pub byteOf : List ℕ → ℕ → ℕ
-byteOf s n = getD s (8 + n) 0
+unfoldable pub nodeByte : List ℕ → ℕ → ℕ
+nodeByte s n = getD s (8 + n) 0
 
 -- 15: under 8 + N bytes
 unfoldable pub tooShort : List ℕ → List ℕ → Bool
@@ -25,7 +25,7 @@ unfoldable pub badFlag : List ℕ → List ℕ → ℕ → Bool
 badFlag b s f = leb (flagCount b) f && flagIn s f
 
 unfoldable pub badByte : List ℕ → List ℕ → ℕ → Bool
-badByte b s n = cond (isKind b n 0) (ltb 2 (byteOf s n)) (not (eqb (byteOf s n) 0))
+badByte b s n = cond (isKind b n 0) (ltb 2 (nodeByte s n)) (not (eqb (nodeByte s n) 0))
 
 unfoldable pub malformed : List ℕ → List ℕ → Bool
 malformed b s = someBelow 64 (badFlag b s) || someBelow (nodeCount b) (badByte b s)
@@ -44,7 +44,7 @@ statusAt x = cond (eqb x 0) waiting (cond (eqb x 1) running done)
 
 -- The states that a state's bytes show: a number that is no task of the plan waits, a flag from 64 on is clear.
 unfoldable pub statusIn : List ℕ → List ℕ → ℕ → Status
-statusIn b s n = cond (isKind b n 0) (statusAt (byteOf s n)) waiting
+statusIn b s n = cond (isKind b n 0) (statusAt (nodeByte s n)) waiting
 
 unfoldable pub flagShown : List ℕ → ℕ → Bool
 flagShown s f = cond (ltb f 64) (flagIn s f) false

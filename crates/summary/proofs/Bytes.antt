@@ -22,7 +22,7 @@ use Rattle.runs.specs.Summary.{Mark, byteOf, Marked}
 use Rattle.runs.specs.Model.Marks.{markedB}
 use Rattle.runs.proofs.Reflect.{Reflects}
 use Rattle.runs.proofs.Summary.Exact.{marks-exact}
-use Rattle.literals.specs.Words.{wordOf, markAt, MarkWords}
+use Rattle.literals.specs.Words.{wordIndex, markAt, MarkWords}
 use Rattle.literals.proofs.Laws.{mark-small, mark-byte, byte-mark}
 use Rattle.rows.proofs.Nodes.{node-of}
 use Rattle.summary.specs.Summary.{summaryRefusal, summaryByte, summaryLeft, Tells, Summarised}
@@ -59,7 +59,7 @@ module _ (b : List ℕ) (ok : refusal b ≡ 0) (n : ℕ) (l : n < nodeCount b) w
   byte-is {words} w i k =
       let v = eqb (i / 8 % 2) 1 in
       let m = markAt (i % 8) in
-      let at : i % 16 ≡ wordOf v m = omega (arith, sign-of (i / 8 % 2) (omega arith), byte-mark (i % 8) (omega arith)) in
+      let at : i % 16 ≡ wordIndex v m = omega (arith, sign-of (i / 8 % 2) (omega arith), byte-mark (i % 8) (omega arith)) in
       let on : i / 16 ≡ i / 8 / 2 = omega arith in
       rw (at, on) (digit-is (markedB (planOf b) n (i / 8 / 2) v m) (w .says v m (i / 8 / 2) (omega arith)) (exact (i / 8 / 2) v m))
 

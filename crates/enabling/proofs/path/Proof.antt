@@ -30,7 +30,7 @@ lower : (c : tie.After-wide Inv-loop μ-loop) → c .wide .result < c .before .b
 lower c = parent-lower _ (start c .pre .1) (c .before .before .before .loop .n) (c .wide .result) (omega arith) (c .before .before .before .loop .inv .1 .0) (parent-is c)
 
 loop-holds : tie.Need-loop-holds Inv-loop μ-loop
-loop-holds c = (itself, (c .before .before .pre .0, first-mark _ _ (c .blank .result) (c .blank .ensures .0) (c .blank .ensures .1) (task-small (c .before .before))))
+loop-holds c = (itself, (c .before .before .pre .0, first-mark _ _ (c .no-nodes .result) (c .no-nodes .ensures) (task-small (c .before .before))))
 
 parent-requires : tie.Need-parent-requires Inv-loop μ-loop
 parent-requires c κs = (c .before .loop .inv .1 .0, clean _ (c .before .before .before .before .pre .1) .fits)

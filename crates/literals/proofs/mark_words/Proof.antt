@@ -5,7 +5,7 @@ use lib.ListN.{length, getD, length-set}
 use native.Mathlib.Omega.{arith}
 use borrow.Author.Needs.{needs}
 use Rattle.words.proofs.Rows.{filled}
-use Rattle.literals.specs.Words.{WordIs, wordOf}
+use Rattle.literals.specs.Words.{WordIs, wordIndex}
 use Rattle.literals.proofs.Laws.{word-small}
 use Rattle.literals.proofs.mark_words.Statement.{statement}
 use Rattle.literals.proofs.mark_words.Tie as tie
@@ -31,7 +31,7 @@ loop-again c =
     )
 
 returns : tie.Need-returns Inv-loop μ-loop
-returns c = λ p w n r. record { says = λ v m f l. c .before .loop .inv .1 .1 (wordOf v m) (omega (arith, word-small v m)) p w n r v m refl f l }
+returns c = λ p w n r. record { says = λ v m f l. c .before .loop .inv .1 .1 (wordIndex v m) (omega (arith, word-small v m)) p w n r v m refl f l }
 
 pub mark-words-spec : {M : Type 1} → statement M
 mark-words-spec =

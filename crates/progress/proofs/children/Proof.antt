@@ -37,7 +37,7 @@ parent-below c =
     parent-small (s .args .tally) _ _ (s .pre) (l .loop .m) _ (c .wide .result) (omega arith) (place c) (parent-is c)
 
 loop-holds : tie.Need-loop-holds Inv-loop μ-loop
-loop-holds c = (omega (arith, plan-clean (c .before .before .before .before) .fits .limits .some-node), none-yet _ _ _ (c .blank .result) (c .blank .ensures .0) (c .blank .ensures .1))
+loop-holds c = (omega (arith, plan-clean (c .before .before .before .before) .fits .limits .some-node), none-yet _ _ _ (c .no-nodes .result) (c .no-nodes .ensures))
 
 parent-requires : tie.Need-parent-requires Inv-loop μ-loop
 parent-requires c κs = (omega arith, plan-clean (c .before .before .before .before .before .before) .fits)

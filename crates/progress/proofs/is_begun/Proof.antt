@@ -8,7 +8,7 @@ use Rattle.format.specs.Format.{kindOf}
 use Rattle.plan.proofs.Accepted.{Clean}
 use Rattle.plan.proofs.Meaning.{kind-is}
 use Rattle.plan.proofs.Nodes.{other-kind}
-use Rattle.state.specs.State.{byteOf}
+use Rattle.state.specs.State.{nodeByte}
 use Rattle.state.proofs.Passed.{has-room}
 use Rattle.progress.proofs.Progress.{task-begun, group-begun}
 use native.Mathlib.Omega.{arith}
@@ -34,7 +34,7 @@ shared-slice-read-result : tie.Need-shared-slice-read-result
 shared-slice-read-result c = let s = c .before .before .before .before .before in omega (arith, s .pre .0, has-room _ _ (s .pre .1 .0) .room)
 
 returns : tie.Need-returns
-unfolding byteOf
+unfolding nodeByte
 returns c = let s = c .before .before .before .before .before in task-begun (now (s .args .plan)) (now (s .args .state)) (s .pre .1 .0) (s .args .n) (s .pre .0) (is-task (c .before))
 
 returns-2 : tie.Need-returns-2

@@ -11,7 +11,7 @@ use Rattle.runs.specs.Calls.{asks, statusByte}
 use Rattle.runs.specs.Plan.{Place, placeNumber}
 use Rattle.runs.specs.Execution.{Status}
 use Rattle.runs.specs.Model.Monitor.{incBrokenB}
-use Rattle.state.specs.State.{byteOf, statusIn}
+use Rattle.state.specs.State.{nodeByte, statusIn}
 use Rattle.state.proofs.Passed.{has-room}
 use Rattle.refusals.specs.Events.{eventOf}
 use Rattle.refusals.specs.Parts.{beginRefusal}
@@ -29,8 +29,8 @@ task-below c = kind-is _ _ 0 (is-task c) .0
 asked-is : (c : tie.After-asked) → c .asked .result ≡ statusByte (asks (eventOf (c .before .before .before .before .before .before .args .m) (c .before .before .before .before .before .before .args .task)))
 asked-is c = c .asked .ensures ∙ ap (λ (a : Status). statusByte a) (asks-of (c .before .before .before .before .before .before .args .m) (c .before .before .before .before .before .before .args .task))
 
-as-asked : (c : tie.Else2) → byteOf (now (c .before .before .before .before .before .before .before .args .state)) (c .before .before .before .before .before .before .before .args .task) ≡ statusByte (asks (eventOf (c .before .before .before .before .before .before .before .args .m) (c .before .before .before .before .before .before .before .args .task)))
-unfolding byteOf
+as-asked : (c : tie.Else2) → nodeByte (now (c .before .before .before .before .before .before .before .args .state)) (c .before .before .before .before .before .before .before .args .task) ≡ statusByte (asks (eventOf (c .before .before .before .before .before .before .before .args .m) (c .before .before .before .before .before .before .before .args .task)))
+unfolding nodeByte
 as-asked c = c .if2 .left ∙ asked-is (c .before)
 
 begun : (c : tie.Else3) → beginRefusal (now (c .before .before .before .before .before .before .before .before .before .args .plan)) (now (c .before .before .before .before .before .before .before .before .before .args .state)) (eventOf (c .before .before .before .before .before .before .before .before .before .args .m) (c .before .before .before .before .before .before .before .before .before .args .task)) ≡ 0
@@ -51,7 +51,7 @@ shared-slice-read-if2 : tie.Need-shared-slice-read-if2
 shared-slice-read-if2 c = omega (arith, task-below (c .before), has-room _ _ (c .before .before .before .before .before .pre) .room)
 
 returns-2 : tie.Need-returns-2
-unfolding byteOf
+unfolding nodeByte
 returns-2 c = let s = c .before .before .before .before .before .before .before in answer-18 _ _ (s .pre) (s .args .task) _ (node-of (s .args .m) (s .args .task)) (is-task (c .before .before .before)) (λ z. c .if2 .taken (z ∙ sym (asked-is (c .before))))
 
 begin-refused-requires : tie.Need-begin-refused-requires

@@ -1,16 +1,16 @@
 -- `state::byte_bad` meets its contract. Assumes nothing.
 use mathlib.Core.Path.{sym, _∙_}
-use Rattle.state.specs.State.{byteOf, badByte}
+use Rattle.state.specs.State.{nodeByte, badByte}
 use borrow.Author.Needs.{needs}
 use Rattle.state.proofs.byte_bad.Statement.{statement}
 use Rattle.state.proofs.byte_bad.Tie as tie
 
 returns : tie.Need-returns
-unfolding badByte byteOf
+unfolding badByte nodeByte
 returns c = simp (sym (c .before .is-kind .ensures) ∙ c .if1 .taken)
 
 returns-2 : tie.Need-returns-2
-unfolding badByte byteOf
+unfolding badByte nodeByte
 returns-2 c = simp (sym (c .before .is-kind .ensures) ∙ c .if1 .left)
 
 pub byte-bad-spec : {M : Type 1} → statement M
