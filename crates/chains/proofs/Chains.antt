@@ -1,4 +1,4 @@
--- Chains through the orders from the i-th on. Those from i on are those from i + 1 on and, from its earlier node, what begins with order i. Assumes nothing.
+-- Chains through the first i orders. Those through the first i + 1 are those through the first i and, to its later node, what ends with order i. Assumes nothing.
 use mathlib.Core.Path.{_≡_, refl, sym}
 use mathlib.Core.Logic.{_⊎_, inl, inr, ⊎-elim, by-cases}
 use mathlib.Core.List.{List}
@@ -14,18 +14,18 @@ use Rattle.plan.proofs.Accepted.{Clean}
 use Rattle.rules.proofs.Rising.{first-rises}
 use Rattle.plan.proofs.Meaning.{siblings, child-is, means}
 use Rattle.runs.specs.Plan.{Before, direct, chain}
+use Rattle.runs.proofs.Plan.Chains.{before-trans}
 
--- (x, y) is an order with an index of at least i
-pub record OrderFrom (b : List ℕ) (i x y : ℕ) : Type 0 where
+-- (x, y) is one of the first i orders
+pub record OrderTo (b : List ℕ) (i x y : ℕ) : Type 0 where
   pub at : ℕ
-  pub low : i ≤ at
-  pub below : at < orderCount b
+  pub below : at < i
   pub earlier : earlierOf b at ≡ x
   pub later : laterOf b at ≡ y
 
-pub data ChainFrom (b : List ℕ) (i : ℕ) : ℕ → ℕ → Type 0 where
-  one : {x y : ℕ} → OrderFrom b i x y → ChainFrom b i x y
-  more : {x y z : ℕ} → OrderFrom b i x y → ChainFrom b i y z → ChainFrom b i x z
+pub data ChainTo (b : List ℕ) (i : ℕ) : ℕ → ℕ → Type 0 where
+  one : {x y : ℕ} → OrderTo b i x y → ChainTo b i x y
+  more : {x y z : ℕ} → ChainTo b i x y → OrderTo b i y z → ChainTo b i x z
 
 -- what rules 13 and 14 leave
 pub record Sorted (b : List ℕ) : Type 0 where
@@ -46,68 +46,74 @@ sorted b c =
       small = λ j l. w j l .1;
     }
 
--- no order is left
-pub chain-none : (b : List ℕ) {x y : ℕ} → ChainFrom b (orderCount b) x y → ⊥
-chain-none b (one o) = omega (arith, o .low, o .below)
-chain-none b (more o q) = omega (arith, o .low, o .below)
+-- there is no order yet
+pub chain-none : (b : List ℕ) {x y : ℕ} → ChainTo b 0 x y → ⊥
+chain-none b (one o) = omega (arith, o .below)
+chain-none b (more q o) = omega (arith, o .below)
 
 module _ (b : List ℕ) (i : ℕ) where
-  order-weaken : {x y : ℕ} → OrderFrom b (i + 1) x y → OrderFrom b i x y
-  order-weaken o = record { at = o .at; low = omega (arith, o .low); below = o .below; earlier = o .earlier; later = o .later }
+  order-weaken : {x y : ℕ} → OrderTo b i x y → OrderTo b (i + 1) x y
+  order-weaken o = record { at = o .at; below = omega (arith, o .below); earlier = o .earlier; later = o .later }
 
-  pub chain-weaken : {x y : ℕ} → ChainFrom b (i + 1) x y → ChainFrom b i x y
+  pub chain-weaken : {x y : ℕ} → ChainTo b i x y → ChainTo b (i + 1) x y
   chain-weaken (one o) = one (order-weaken o)
-  chain-weaken (more o q) = more (order-weaken o) (chain-weaken q)
+  chain-weaken (more q o) = more (chain-weaken q) (order-weaken o)
 
-  module _ (s : Sorted b) where
-    order-rises : {x y : ℕ} → OrderFrom b i x y → x < y
-    order-rises o = omega (arith, s .lower (o .at) (o .below), o .earlier, o .later)
+  -- an order before a chain
+  pub chain-cons : {x y z : ℕ} → OrderTo b i x y → ChainTo b i y z → ChainTo b i x z
+  chain-cons o (one p) = more (one o) p
+  chain-cons o (more q p) = more (chain-cons o q) p
 
-    pub chain-rises : {x y : ℕ} → ChainFrom b i x y → x < y
+  module _ (s : Sorted b) (k : i ≤ orderCount b) where
+    order-rises : {x y : ℕ} → OrderTo b i x y → x < y
+    order-rises o = omega (arith, s .lower (o .at) (omega (arith, o .below)), o .earlier, o .later)
+
+    pub chain-rises : {x y : ℕ} → ChainTo b i x y → x < y
     chain-rises (one o) = order-rises o
-    chain-rises (more o q) = omega (arith, order-rises o, chain-rises q)
+    chain-rises (more q o) = omega (arith, order-rises o, chain-rises q)
 
-    order-low : {x y : ℕ} → OrderFrom b i x y → earlierOf b i ≤ x
-    order-low o = omega (arith, s .rises i (o .at) (o .low) (o .below), o .earlier)
+  module _ (s : Sorted b) (l : i < orderCount b) where
+    order-low : {x y : ℕ} → OrderTo b (i + 1) x y → x ≤ earlierOf b i
+    order-low o = omega (arith, s .rises (o .at) i (omega (arith, o .below)) l, o .earlier)
 
-    -- an order is the i-th, or one after it
-    order-split : {x y : ℕ} → OrderFrom b i x y → OrderFrom b (i + 1) x y ⊎ ((x ≡ earlierOf b i) × (y ≡ laterOf b i))
+    -- an order is the i-th, or one before it
+    order-split : {x y : ℕ} → OrderTo b (i + 1) x y → OrderTo b i x y ⊎ ((x ≡ earlierOf b i) × (y ≡ laterOf b i))
     order-split o =
         by-cases (ℕ-discrete i (o .at)) (λ (e : i ≡ o .at). inr (rw e (sym (o .earlier)), rw e (sym (o .later))))
-        (λ n. inl (record { at = o .at; low = omega (arith, o .low); below = o .below; earlier = o .earlier; later = o .later }))
+        (λ n. inl (record { at = o .at; below = omega (arith, o .below); earlier = o .earlier; later = o .later }))
 
-    -- x is the earlier node of order i, and y its later node or after that
-    abbrev pub Begins : ℕ → ℕ → Type 0
-    Begins x y = (x ≡ earlierOf b i) × ((y ≡ laterOf b i) ⊎ ChainFrom b (i + 1) (laterOf b i) y)
+    -- y is the later node of order i, and x its earlier node or before that
+    abbrev pub Ends : ℕ → ℕ → Type 0
+    Ends x y = (y ≡ laterOf b i) × ((x ≡ earlierOf b i) ⊎ ChainTo b i x (earlierOf b i))
 
-    begin : {x y z : ℕ} → (x ≡ earlierOf b i) × (y ≡ laterOf b i) → ChainFrom b (i + 1) y z → Begins x z
-    begin w q = (w .0, inr (rw (w .1) at q))
+    end : {x y z : ℕ} → (y ≡ earlierOf b i) × (z ≡ laterOf b i) → ChainTo b i x y → Ends x z
+    end w q = (w .1, inr (rw (w .0) at q))
 
-    pub chain-split : {x y : ℕ} → ChainFrom b i x y → ChainFrom b (i + 1) x y ⊎ Begins x y
-    chain-split (one o) = ⊎-elim (λ p. inl (one p)) (λ w. inr (w .0, inl (w .1))) (order-split o)
-    chain-split (more o q) =
+    pub chain-split : {x y : ℕ} → ChainTo b (i + 1) x y → ChainTo b i x y ⊎ Ends x y
+    chain-split (one o) = ⊎-elim (λ p. inl (one p)) (λ w. inr (w .1, inl (w .0))) (order-split o)
+    chain-split (more q o) =
         ⊎-elim
-        (λ r. ⊎-elim (λ p. inl (more p r)) (λ w. inr (begin w r)) (order-split o))
-        (λ w. absurd (omega (arith, w .0, order-rises o, order-low o)))
+        (λ r. ⊎-elim (λ p. inl (more r p)) (λ w. inr (end w r)) (order-split o))
+        (λ w. absurd (omega (arith, w .0, s .lower i l, order-low o)))
         (chain-split q)
 
-    pub chain-begins : {x y : ℕ} → i < orderCount b → Begins x y → ChainFrom b i x y
-    chain-begins {x} l w =
-        let o : OrderFrom b i x (laterOf b i) = record { at = i; low = omega arith; below = l; earlier = sym (w .0); later = refl } in
-        ⊎-elim (λ e. rw e (one o)) (λ q. more o (chain-weaken q)) (w .1)
+    pub chain-ends : {x y : ℕ} → Ends x y → ChainTo b (i + 1) x y
+    chain-ends {x} {y} w =
+        let o : OrderTo b (i + 1) (earlierOf b i) y = record { at = i; below = omega arith; earlier = refl; later = sym (w .0) } in
+        ⊎-elim (λ e. rw e (one o)) (λ q. more (chain-weaken q) o) (w .1)
 
 -- chains through all orders are the plan's
 module _ (b : List ℕ) (r : refusal b ≡ 0) where
-  order-of : {x y : ℕ} → OrderFrom b 0 x y → T (planOf b .order x y)
+  order-of : {x y : ℕ} → OrderTo b (orderCount b) x y → T (planOf b .order x y)
   order-of {x} {y} o = means b r .order x y .1 (record { at = o .at; below = o .below; earlier = o .earlier; later = o .later })
 
-  from-order : (x y : ℕ) → T (planOf b .order x y) → OrderFrom b 0 x y
-  from-order x y o = let w = means b r .order x y .0 o in record { at = w .at; low = omega arith; below = w .below; earlier = w .earlier; later = w .later }
+  from-order : (x y : ℕ) → T (planOf b .order x y) → OrderTo b (orderCount b) x y
+  from-order x y o = let w = means b r .order x y .0 o in record { at = w .at; below = w .below; earlier = w .earlier; later = w .later }
 
-  pub chain-before : {x y : ℕ} → ChainFrom b 0 x y → Before (planOf b) x y
+  pub chain-before : {x y : ℕ} → ChainTo b (orderCount b) x y → Before (planOf b) x y
   chain-before (one o) = direct (order-of o)
-  chain-before (more o q) = chain (order-of o) (chain-before q)
+  chain-before (more q o) = before-trans (planOf b) (chain-before q) (direct (order-of o))
 
-  pub before-chain : {x y : ℕ} → Before (planOf b) x y → ChainFrom b 0 x y
+  pub before-chain : {x y : ℕ} → Before (planOf b) x y → ChainTo b (orderCount b) x y
   before-chain (direct {a = x} {b = y} o) = one (from-order x y o)
-  before-chain (chain {a = x} {b = y} o q) = more (from-order x y o) (before-chain q)
+  before-chain (chain {a = x} {b = y} o q) = chain-cons b (orderCount b) (from-order x y o) (before-chain q)

@@ -6,13 +6,13 @@ use Prim.Native.Nat.{ℕ, _<_}
 use lib.ListN.{length}
 use Rattle.words.specs.Tables.{code}
 
--- a is put before the nodes of `To`, and nothing else is changed
-pub record Linked (old new : List ℕ) (a : ℕ) (To : ℕ → Type 0) : Type 0 where
+-- the nodes of `From` are put before c, and nothing else is changed
+pub record Linked (old new : List ℕ) (c : ℕ) (From : ℕ → Type 0) : Type 0 where
   pub long : length new ≡ 16384
-  pub ahead : (c : ℕ) → c < 128 → To c → code new a c ≡ 1
-  pub back : (c : ℕ) → c < 128 → To c → code new c a ≡ 2
-  pub kept : (x y : ℕ) → x < 128 → y < 128 → (x ≡ a → To y → ⊥) → (y ≡ a → To x → ⊥) → code new x y ≡ code old x y
+  pub ahead : (a : ℕ) → a < 128 → From a → code new a c ≡ 1
+  pub back : (a : ℕ) → a < 128 → From a → code new c a ≡ 2
+  pub kept : (x y : ℕ) → x < 128 → y < 128 → (y ≡ c → From x → ⊥) → (x ≡ c → From y → ⊥) → code new x y ≡ code old x y
 
--- c is b, or a higher number that the table has after b
-abbrev pub Reached : List ℕ → ℕ → ℕ → Type 0
-Reached order b c = (c ≡ b) ⊎ ((b < c) × (code order b c ≡ 1))
+-- c is a, or a lower number that the table has before a
+abbrev pub Leading : List ℕ → ℕ → ℕ → Type 0
+Leading order a c = (c ≡ a) ⊎ ((c < a) × (code order c a ≡ 1))

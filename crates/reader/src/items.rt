@@ -11,6 +11,7 @@ use format::fields::kind;
 use format::fields::later;
 use format::fields::minutes;
 use format::fields::nodes;
+use format::fields::orders;
 use format::fields::parent;
 
 pub struct Node {
@@ -64,6 +65,14 @@ fn order_at(plan: &[u8], j: usize) -> Order
         earlier: earlier(plan, j),
         later: later(plan, j),
     }
+}
+
+// The number of items.
+pub fn item_count(plan: &[u8]) -> usize
+    requires { ⌜ Whole (now plan) ⌝ }
+    ensures { λ r. ⌜ r ≡ itemCount (now (plan .entry)) ⌝ }
+{
+    nodes(plan) + conditions(plan) + orders(plan)
 }
 
 pub fn item_at(plan: &[u8], at: usize) -> Item

@@ -1,15 +1,10 @@
-// A reader hands over the nodes, conditions and orders of a plan (01: book) one after another. No call that has a reader has a branch or a loop: `item_at` does the work on the slice and the position.
+// A reader hands over the nodes, conditions and orders of a plan (01: book) one after another: `item_at` does the work on the slice and the position. `tables::fill_items` draws them all.
 ghost use mathlib.Core.Path.{_≡_};
 ghost use Prim.Native.Nat.{_<_};
-ghost use Rattle.format.specs.Format.{nodeCount, condCount, orderCount, Whole};
-ghost use Rattle.reader.specs.Items.{nodeOf, conditionOf, orderOf, itemCount, itemOf, moved};
-use crate::items::Condition;
+ghost use Rattle.format.specs.Format.{Whole};
+ghost use Rattle.reader.specs.Items.{itemCount, itemOf, moved};
 use crate::items::Item;
-use crate::items::Node;
-use crate::items::Order;
 use crate::items::item_at;
-use format::fields::conditions;
-use format::fields::nodes;
 
 pub mod items;
 
@@ -29,50 +24,4 @@ impl<'a> Reader<'a> {
         self.at = at + 1;
         item
     }
-}
-
-// The item at a position, as a reader there hands it over: for every other caller.
-pub fn item(plan: &[u8], at: usize) -> Item
-    requires { ⌜ (at < itemCount (now plan)) × Whole (now plan) ⌝ }
-    ensures { λ r. ⌜ r ≡ itemOf (now (plan .entry)) at ⌝ }
-{
-    let mut reader = Reader { plan, at };
-    reader.next()
-}
-
-pub fn node(plan: &[u8], n: usize) -> Node
-    requires { ⌜ (n < nodeCount (now plan)) × Whole (now plan) ⌝ }
-    ensures { λ r. ⌜ r ≡ nodeOf (now (plan .entry)) n ⌝ }
-{
-    let Item::Node(found) = item(plan, n) else {
-        return Node {
-            parent: 0,
-            kind: 0,
-            minutes: 0,
-        };
-    };
-    found
-}
-
-pub fn condition(plan: &[u8], i: usize) -> Condition
-    requires { ⌜ (i < condCount (now plan)) × Whole (now plan) ⌝ }
-    ensures { λ r. ⌜ r ≡ conditionOf (now (plan .entry)) i ⌝ }
-{
-    let Item::Condition(found) = item(plan, nodes(plan) + i) else {
-        return Condition { node: 0, value: 0 };
-    };
-    found
-}
-
-pub fn order(plan: &[u8], j: usize) -> Order
-    requires { ⌜ (j < orderCount (now plan)) × Whole (now plan) ⌝ }
-    ensures { λ r. ⌜ r ≡ orderOf (now (plan .entry)) j ⌝ }
-{
-    let Item::Order(found) = item(plan, nodes(plan) + conditions(plan) + j) else {
-        return Order {
-            earlier: 0,
-            later: 0,
-        };
-    };
-    found
 }
