@@ -9,16 +9,16 @@ ghost use Rattle.verdict.specs.Verdict.{wordOf};
 ghost use Rattle.text_decimals.specs.Decimals.{Wrote};
 ghost use Rattle.listing.specs.Text.{letters, textOf};
 ghost use Rattle.listing.specs.Listing.{Lists, Prints};
+use base::no_nodes;
+use base::no_times;
+use plan_check::check;
 use text_decimals::write_bytes;
 use text_lines::end_line;
 use text_lines::write_lines;
-use plan_check::check;
 use text_order::rank;
 use verdict::Verdict;
 use verdict::judge;
 use wait_tree::longest_waits;
-use base::no_nodes;
-use base::no_times;
 
 // A refusal up to 15, or the length of the text.
 pub enum Listed {

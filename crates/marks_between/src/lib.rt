@@ -7,10 +7,10 @@ ghost use lib.ListN.{getD};
 ghost use Rattle.base.specs.Bits.{bit};
 ghost use Rattle.marks_row.specs.Tables.{Position, Shaped};
 ghost use Rattle.marks_between.specs.Passing.{StandsBetween, Disturbs, InTheWay, LetsPass, Part, PassingPart, PassingWord};
-use marks_siblings::narrowed;
 use marks_row::neither;
 use marks_row::wide;
 use marks_row::word_at;
+use marks_siblings::narrowed;
 
 // The first word of some columns; a column but the first has a word for each sign, clear and set.
 const AVOID: usize = 0;

@@ -3,10 +3,10 @@ ghost use Prim.Native.Nat.{_≤_, _<_};
 ghost use Rattle.marks_row.specs.Tables.{Shaped};
 ghost use Rattle.marks_group.specs.Groups.{AnyRow, AllRow, JoinedWord, Merged, Unmerged};
 ghost use Rattle.marks_group.specs.Masks.{Masks};
-use marks_siblings::Siblings;
-use marks_siblings::all_siblings;
 use marks_row::wide;
 use marks_row::word_at;
+use marks_siblings::Siblings;
+use marks_siblings::all_siblings;
 
 const ALL: u64 = 18446744073709551615;
 

@@ -7,14 +7,14 @@ ghost use Rattle.plan_format.specs.Format.{nodeCount};
 ghost use Rattle.plan_check.specs.Meaning.{planOf};
 ghost use Rattle.marks_words.specs.Words.{MarkWords};
 ghost use Rattle.marks_of_plan.specs.Rows.{RowsOf};
-use table_orders::no_order;
-use plan_format::fields::nodes;
-use marks_words::mark_words;
-use marks_tree::node_rows;
-use table_all::fill_tables;
 use base::no_conditions;
 use base::no_nodes;
 use base::no_starts;
+use marks_tree::node_rows;
+use marks_words::mark_words;
+use plan_format::fields::nodes;
+use table_all::fill_tables;
+use table_orders::no_order;
 
 fn no_rows() -> [u64; 2688]
     ensures { λ r. ⌜ length r ≡ 2688 ⌝ }

@@ -4,9 +4,9 @@ ghost use lib.ListN.{getD};
 ghost use Rattle.marks_row.specs.Tables.{Position, Shaped};
 ghost use Rattle.marks_pair.specs.Pairs.{PairWord, PairWords, FirstPartner};
 use marks_between::passing;
-use marks_siblings::apart;
 use marks_row::wide;
 use marks_row::word_at;
+use marks_siblings::apart;
 
 // The first word of some columns; there is a word for each sign, clear and set.
 const MAY_PRE: usize = 5;

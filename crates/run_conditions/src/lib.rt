@@ -2,11 +2,11 @@
 use plan_codes::value::flag_of;
 use plan_codes::value::place_of;
 use plan_codes::value::sign_of;
-use run_flags::Flags;
 use plan_format::fields::condition_node;
 use plan_format::fields::condition_value;
 use plan_format::fields::conditions;
 use plan_rules::tests::wide;
+use run_flags::Flags;
 ghost use mathlib.Core.Path.{_≡_};
 ghost use mathlib.Core.Bool.{not, true, false};
 ghost use Prim.Native.Nat.{_+_, _<_};

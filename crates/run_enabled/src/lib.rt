@@ -1,13 +1,13 @@
 // Refusals 19 and 20 of a start: another branch of an any-of group above the task is begun (01: taken); an order's earlier node is not complete.
+use base::no_nodes;
 use plan_format::fields::earlier;
 use plan_format::fields::is_kind;
 use plan_format::fields::later;
 use plan_format::fields::orders;
 use plan_format::fields::parent;
+use plan_rules::tests::wide;
 use run_progress::is_begun;
 use run_progress::is_complete;
-use plan_rules::tests::wide;
-use base::no_nodes;
 ghost use mathlib.Core.Path.{_≡_};
 ghost use Prim.Native.Nat.{ℕ, _<_};
 ghost use lib.ListN.{length, getD};

@@ -1,11 +1,11 @@
 // Which refusal applies to the start or the finish of a task, on a state that passes 1 to 16.
+use plan_format::fields::is_kind;
 use run_conditions::inc_broken;
 use run_conditions::pre_unmet;
 use run_enabled::branch_begun;
 use run_enabled::order_open;
 use run_enabled::path;
 use run_flags::load;
-use plan_format::fields::is_kind;
 use run_progress::Tally;
 use run_progress::children;
 ghost use mathlib.Core.Path.{_≡_};

@@ -1,9 +1,9 @@
 // The bytes of a state (01: record): the checks that every call makes first, and the fresh state.
-use run_flags::load;
+use plan_check::check;
 use plan_format::fields::flags;
 use plan_format::fields::is_kind;
 use plan_format::fields::nodes;
-use plan_check::check;
+use run_flags::load;
 ghost use mathlib.Core.Path.{_≡_};
 ghost use Prim.Native.Nat.{_+_, _<_, _≤_};
 ghost use lib.ListN.{length};

@@ -5,11 +5,11 @@ ghost use Rattle.plan_check.specs.Meaning.{planOf, startOf};
 ghost use Rattle.runs.specs.Model.Verdicts as model;
 ghost use Rattle.marks_words.specs.Words.{StartWord};
 ghost use Rattle.verdict.specs.Verdict.{wordOf, Assessed};
-use plan_format::fields::flags;
-use plan_format::fields::start_flag;
+use marks_of_plan::node_words;
 use marks_words::failing;
 use plan_check::check;
-use marks_of_plan::node_words;
+use plan_format::fields::flags;
+use plan_format::fields::start_flag;
 
 pub enum Verdict {
     Clear,

@@ -8,6 +8,7 @@ ghost use Rattle.base.specs.Zeros.{Zeros};
 ghost use Rattle.wait_lengths.specs.Waits.{lengthOf};
 ghost use Rattle.wait_group.specs.Spread.{Tables};
 ghost use Rattle.wait_tree.specs.Filled.{Worked, AllWorked, Within, Longest};
+use base::no_times;
 use plan_format::fields::kind;
 use plan_format::fields::minutes;
 use plan_format::fields::nodes;
@@ -15,7 +16,6 @@ use plan_format::fields::parent;
 use plan_rules::tests::wide;
 use wait_group::longest_child;
 use wait_group::spread;
-use base::no_times;
 
 // Works out an all-of group and all groups under it: the lengths, and the waits of the children.
 fn all_length(plan: &[u8], lengths: &mut [u32; 128], waits: &mut [u32; 128], node: usize)
