@@ -1,5 +1,5 @@
 -- Demand 3 over bytes holds of every accepted plan. Assumes nothing.
-use mathlib.Core.Path.{_≡_, ap}
+use mathlib.Core.Path.{_≡_, refl, ap}
 use mathlib.Core.Logic.{_≢_}
 use mathlib.Core.List.{List}
 use Prim.Native.Nat.{ℕ, _+_}
@@ -9,14 +9,20 @@ use Rattle.plan_format.specs.Format.{nodeCount}
 use Rattle.plan_rules.specs.Rules.{refusal}
 use Rattle.plan_check.specs.Meaning.{planOf, startOf}
 use Rattle.plan_check.proofs.Meaning.{means-well-formed}
-use Rattle.runs.specs.Verdict.{CLEAR, DOOMED}
+use Rattle.runs.specs.Verdict.{Verdict, CLEAR, DOOMED, OPEN}
+use Rattle.runs.specs.Model.Verdicts.{verdict}
+use Rattle.verdict.specs.declared.Verdict.the-variants.{Clear, Doomed, Open}
+use Rattle.verdict.specs.declared.Answer.{Answer}
+use Rattle.verdict.specs.declared.Answer.the-variants.{Judged as Given}
+use Rattle.verdict.specs.Verdict.{Assessed}
+use Rattle.verdict.proofs.Judging.{assessed}
 use Rattle.runs.specs.Calls.{Call, World, fresh, Worked, Among}
 use Rattle.runs.specs.Demand3 as plans
 use Rattle.runs.proofs.Calls.Demand3 as proved
 use Rattle.run_state.specs.State.{worldOf}
 use Rattle.run_calls.specs.Lists.{Listed}
-use Rattle.run_calls.specs.Demand3.{Bytes, Demand3}
-use Rattle.run_calls.proofs.Followed.{list-follows, list-made, calls-parted}
+use Rattle.run_calls.specs.Demand3.{Bytes, Demand3Of, Demand3}
+use Rattle.run_calls.proofs.Followed.{list-follows, list-made, list-each}
 
 module _ (b : List ℕ) (h : Bytes b) (acc : refusal b ≡ 0) where
   on-plans : plans.Demand3 (planOf b) (startOf b)
@@ -33,13 +39,20 @@ module _ (b : List ℕ) (h : Bytes b) (acc : refusal b ≡ 0) where
       let f = list-follows b h s cs (m .0) (m .1) (m .2) in
       g s cs (m .0) (m .1) (m .2) n (rw (on-plans .unique w (f .worked) .0) at x)
 
-  pub demand3 : Demand3 b
+  -- the case of the enum for a verdict
+  assessment : (v : Verdict) → v ≡ verdict (planOf b) (startOf b) → (r : Answer) × Assessed b r
+  assessment CLEAR e = (Given Clear, assessed b Clear acc e)
+  assessment DOOMED e = (Given Doomed, assessed b Doomed acc e)
+  assessment OPEN e = (Given Open, assessed b Open acc e)
+
+  of-plan : Demand3Of b
   unfolding worldOf
-  demand3 =
+  of-plan =
       record {
         made = list-made b acc;
+        assessed = assessment (verdict (planOf b) (startOf b)) refl;
+        each = list-each b h;
         follows = list-follows b h;
-        parted = calls-parted b;
         answer = λ r x. let (v, j, u) = on-plans .judged in (v, x .judged acc v .1 j, j, u);
         clear = λ r x. (
           λ q s cs rs z l. let f = list-follows b h s cs rs z l in on-plans .clear .0 (x .judged acc CLEAR .0 q) cs rs (f .after) (f .worked),
@@ -49,6 +62,9 @@ module _ (b : List ℕ) (h : Bytes b) (acc : refusal b ≡ 0) where
             let f = list-follows b h s cs rs z l in
             let d = x .judged acc DOOMED .0 q in (
               λ a w. on-plans .doomed d cs rs a w,
-              λ t k c. on-plans .doomed d cs rs (f .after) (f .worked) (rw (ap (λ (a : World). a .status) (f .shows)) at (k .complete .0 c .1)),
+              λ t k c. on-plans .doomed d cs rs (f .after) (f .worked) (rw (ap (λ (a : World). a .status) (f .shown .states)) at (k .complete .0 c .1)),
             );
       }
+
+pub demand3 : Demand3
+demand3 = of-plan

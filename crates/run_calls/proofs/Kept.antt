@@ -92,7 +92,7 @@ module _ (b s z : List ℕ) (ok : stateRefusal b z ≡ 0) (h : Kept b s z) where
   status-at (suc (suc zero)) l = refl
   status-at (suc (suc (suc x))) l = absurd (omega arith)
 
-  group-byte : (n : ℕ) → n < nodeCount b → isKind b n 0 ≡ false → nodeByte z n ≡ 0
+  pub group-byte : (n : ℕ) → n < nodeCount b → isKind b n 0 ≡ false → nodeByte z n ≡ 0
   unfolding malformed badByte
   group-byte n l y =
       let w = or-none (someBelow 64 (badFlag b z)) (someBelow (nodeCount b) (badByte b z)) (state-well b z ok .1) in

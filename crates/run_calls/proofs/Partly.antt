@@ -24,7 +24,7 @@ use Rattle.run_calls.specs.Shown.{shownByte}
 use Rattle.run_calls.specs.Lists.{Calls, no-calls, next-call, Listed}
 use Rattle.run_calls.specs.Demand3.{Bytes}
 use Rattle.run_calls.specs.Replay.{eventFor, callsOf, listReturns, listState, Ran}
-use Rattle.run_calls.proofs.Followed.{list-follows}
+use Rattle.run_calls.proofs.Followed.{calls-append, list-follows}
 
 -- ---- the calls of the slices
 pub calls-length : (ks : List Bool) (ts out : List ℕ) → length (callsOf ks ts out) ≡ min (length ks) (min (length ts) (length out))
@@ -43,10 +43,6 @@ calls-at (k ∷ ks) (t ∷ ts) (x ∷ out) zero l = refl
 calls-at (k ∷ ks) (t ∷ ts) (x ∷ out) (suc i) l = calls-at ks ts out i (le-of-suc-le-suc l)
 
 -- ---- one call more
-calls-more : {b s z z′ : List ℕ} {cs : List Call} {rs : List ℕ} {e : Event} {r : ℕ} → Calls b s cs rs z → Called b z e r z′ → Calls b s (cs ++ (one e ∷ [])) (rs ++ (r ∷ [])) z′
-calls-more no-calls c = next-call c no-calls
-calls-more (next-call x y) c = next-call x (calls-more y c)
-
 -- the first i calls are made, from the state that fresh wrote, and their returns are written to out
 pub record Partly (b at-first out : List ℕ) (cs : List Call) (i : ℕ) (s out′ : List ℕ) : Type 0 where
   pub returned : List ℕ
@@ -69,7 +65,7 @@ module _ (b at-first out : List ℕ) (cs : List Call) (i : ℕ) (s out′ : List
       record {
         returned = h .returned ++ (r ∷ []);
         long = length-append (h .returned) (r ∷ []) ∙ omega (arith, h .long);
-        called = rw (add-one i, p) (calls-more (h .called) c);
+        called = rw (add-one i, p) (calls-append (h .called) (next-call c no-calls));
         written =
             ap (λ (x : List ℕ). set x i r) (h .written ∙ ap (λ (x : List ℕ). h .returned ++ x) (drop-cons out i 0 m))
             ∙ set-at (h .returned) (getD out i 0) (drop (suc i) out) r i (h .long)
@@ -93,10 +89,10 @@ module _ (b s out : List ℕ) (cs : List Call) where
   ran-all h at-first f rs z c out′ w =
       let l : Listed b s cs rs z = record { at-first = at-first; freshened = f; called = c } in
       let g = list-follows b h s cs rs z l in
-      let (p, q) = worked-only (planOf b) (well-formed b z (g .well-formed)) (g .worked) in
+      let (p, q) = worked-only (planOf b) (well-formed b z (g .shown .well-formed)) (g .worked) in
       record {
         refusal = f .returns;
-        state = g .bytes ∙ ap (λ (a : World). overlay (shownByte a) (8 + nodeCount b) s) q;
+        state = g .shown .bytes ∙ ap (λ (a : World). overlay (shownByte a) (8 + nodeCount b) s) q;
         written = w ∙ ap (λ (x : List ℕ). x ++ drop (length cs) out) p;
         listed = λ e. rw p at l;
         follows = λ e. rw p at g;

@@ -1,7 +1,7 @@
 -- A list of start and finish calls on one plan, by the relations that the calls promise.
 use Prim.Native.Nat.{ℕ}
 use mathlib.Core.Path.{_≡_}
-use mathlib.Core.List.{List, [], _∷_, _++_}
+use mathlib.Core.List.{List, [], _∷_}
 use Rattle.runs.specs.Execution.{Event}
 use Rattle.runs.specs.Calls.{Call, one}
 use Rattle.run_state.specs.Fresh.{Freshened}
@@ -11,15 +11,6 @@ use Rattle.run_monitor.specs.Events.{Called}
 pub data Calls (b : List ℕ) : List ℕ → List Call → List ℕ → List ℕ → Type 0 where
   no-calls : {s : List ℕ} → Calls b s [] [] s
   next-call : {s s′ z : List ℕ} {e : Event} {cs : List Call} {r : ℕ} {rs : List ℕ} → Called b s e r s′ → Calls b s′ cs rs z → Calls b s (one e ∷ cs) (r ∷ rs) z
-
--- the calls cs and then ds, parted between the two
-pub record Parted (b s : List ℕ) (cs ds : List Call) (rs z : List ℕ) : Type 0 where
-  pub returned : List ℕ
-  pub rest : List ℕ
-  pub between : List ℕ
-  pub whole : rs ≡ returned ++ rest
-  pub before : Calls b s cs returned between
-  pub after : Calls b between ds rest z
 
 -- a list begins with the state that fresh wrote into the bytes s
 pub record Listed (b s : List ℕ) (cs : List Call) (rs : List ℕ) (z : List ℕ) : Type 0 where
