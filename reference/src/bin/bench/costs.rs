@@ -1,9 +1,9 @@
 //! Plans of many shapes, from the slightest to the worst that are known, and what each makes much
 //! work of.
 
-use reference::format::{Plan, Sizes, CLEAR, NO_PARENT, SET};
-use reference::generate::{plan, Shape, LIMITS};
-use reference::random::Random;
+use reference::model::format::{Plan, Sizes, CLEAR, NO_PARENT, SET};
+use reference::tools::generate::{plan, Shape, LIMITS};
+use reference::tools::random::Random;
 
 pub struct Shaped {
     pub name: &'static str,

@@ -15,9 +15,9 @@ use std::process::ExitCode;
 
 use costs::{shapes, Shaped};
 use plans::of_verdict;
-use reference::archive;
-use reference::calls::{make, Call};
-use reference::verdict::Verdict;
+use reference::model::calls::{make, Call};
+use reference::model::verdict::Verdict;
+use reference::tools::archive;
 use timing::{median, medians, SAMPLES};
 
 const VERDICTS: [Verdict; 3] = [Verdict::Clear, Verdict::Doomed, Verdict::Open];

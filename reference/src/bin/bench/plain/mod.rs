@@ -43,12 +43,12 @@ fn judged(fields: &Fields, root: Row) -> u32 {
 #[cfg(test)]
 mod tests {
     use super::verdict;
-    use reference::calls::{make, Call};
-    use reference::edit::edit;
-    use reference::format::{Plan, Sizes};
-    use reference::generate::clear::shaken_plan;
-    use reference::generate::{any_plan, dense_plan, plan, LIMITS, SHAPES};
-    use reference::random::Random;
+    use reference::model::calls::{make, Call};
+    use reference::model::format::{Plan, Sizes};
+    use reference::tools::edit::edit;
+    use reference::tools::generate::clear::shaken_plan;
+    use reference::tools::generate::{any_plan, dense_plan, plan, LIMITS, SHAPES};
+    use reference::tools::random::Random;
 
     #[test]
     fn agrees_with_the_reference() {
