@@ -1,4 +1,4 @@
-//! The plans that are timed: all have 128 nodes and 64 flags.
+//! The plans on which the verdict is set against plain Rust: all have 128 nodes and 64 flags.
 
 use std::iter::repeat_with;
 
