@@ -1,5 +1,5 @@
-//! The header of the C interface: a program that makes every call compiles as C and as C++ without a
-//! warning, and what it finds is what 01 says.
+//! The header of the C interface: a program that makes every call compiles as C and as C++ without
+//! a warning, and what it finds is what 01 says.
 
 use std::fs;
 use std::path::{Path, PathBuf};

@@ -34,8 +34,8 @@ pub fn print() {
     }
 }
 
-/// Every call as it is timed: accepted, so that it makes all its checks. Start and finish are those of
-/// one task that nothing has to come before, with its needs met; the status is the one after both.
+/// Every call as it is timed: accepted, so that it makes all its checks. Start and finish are those
+/// of one task that nothing has to come before, with its needs met; the status is that after both.
 fn cases(plan: &Plan) -> [Case; CALLS] {
     let task = first_task(plan);
     let (start, finish) = (Event::Start(task), Event::Finish(task));

@@ -1,5 +1,5 @@
-//! Times calls of the archive on plans of 128 nodes and 64 flags, and prints the tables of the pages
-//! under docs/; no test depends on a time.
+//! Times calls of the archive on plans of 128 nodes and 64 flags, and prints the tables of docs/.
+//! No test depends on a time.
 //!
 //! Its modules in their order: timing; shapes, costs; plans, plain, verdicts.
 

@@ -1,4 +1,4 @@
-//! Memory to lend, in which writes outside the lent piece are noticed, and under valgrind reads too.
+//! Memory to lend, in which writes outside the lent piece are noticed, under valgrind reads too.
 
 use std::ops::Range;
 

@@ -74,7 +74,7 @@ fn any_size(random: &mut Random) -> Plan {
     }
 }
 
-/// Every call on these bytes and, on an accepted plan, the summary of every node and a list of calls.
+/// Every call on these bytes; on an accepted plan every node's summary and a list of calls too.
 pub fn every_call(tally: &mut Tally, random: &mut Random, bytes: &[u8]) {
     let accepted = accept(bytes);
     let answers = match &accepted {

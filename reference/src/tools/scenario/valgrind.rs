@@ -30,8 +30,8 @@ pub fn allow(bytes: &[u8]) {
 fn request(number: usize, bytes: &[u8]) -> usize {
     let words = [number, bytes.as_ptr() as usize, bytes.len(), 0, 0, 0];
     let mut answer = 0;
-    // SAFETY: the rotations add up to 128 bits and the exchange is one of a register with itself, so
-    // that nothing changes outside valgrind; inside it `answer` and the checker's own tables do.
+    // SAFETY: the rotations add up to 128 bits and the exchange is one of a register with itself,
+    // so that nothing changes outside valgrind; inside it `answer` and the checker's own tables do.
     unsafe {
         asm!(
             "rol rdi, 3",

@@ -25,8 +25,8 @@ impl Group<'_> {
         children.fold(known, |found, c| self.must_clobber_with(found, c))
     }
 
-    /// The wanted literals that no pair with c may clobber. The search ends when c requires none that
-    /// is left.
+    /// The wanted literals that no pair with c may clobber. The search ends when c requires none
+    /// that is left.
     fn left_with(&self, wanted: Literals, c: usize) -> Literals {
         let required = or(self.rows[c].wants, self.rows[c].may_pre);
         let (mut left, mut at) = (wanted, 0);
