@@ -5,16 +5,16 @@ use mathlib.Core.List.{List}
 use Prim.Native.Nat.{ℕ}
 use native.Mathlib.Omega.{arith}
 use lib.ListN.{length}
-use Rattle.rules.specs.Rules.{refusal}
-use Rattle.plan.proofs.Accepted.{clean}
-use Rattle.answers.specs.Answers.{refusedOr}
-use Rattle.answers.proofs.First.{both-none}
+use Rattle.plan_rules.specs.Rules.{refusal}
+use Rattle.plan_check.proofs.Accepted.{clean}
+use Rattle.base.specs.Answers.{refusedOr}
+use Rattle.base.proofs.First.{both-none}
 use Rattle.listing.specs.declared.Listed.{Listed}
 use Rattle.listing.specs.Text.{textOf}
 use Rattle.listing.specs.Listing.{told, listingRefusal, listedOf, Lists}
 use Rattle.listing.proofs.Text.{text-fits}
 use Rattle.listing.proofs.Answers.{said-value}
-use Rattle.numbers.specs.Numbers.{Short}
+use Rattle.capi_numbers.specs.Numbers.{Short}
 
 module _ (b out : List ℕ) where
   accepted : listingRefusal b out ≡ 0 → refusal b ≡ 0

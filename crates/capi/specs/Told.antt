@@ -7,10 +7,10 @@ use Rattle.verdict.specs.Verdict as summary
 use Rattle.verdict.specs.Verdict.{Assessed}
 use Rattle.listing.specs.declared.Listed.{Listed}
 use Rattle.listing.specs.Listing.{told, Lists}
-use Rattle.monitor.specs.declared.Progress.{Progress}
-use Rattle.monitor.specs.Status as monitor
-use Rattle.monitor.specs.Status.{Told}
-use Rattle.numbers.specs.Numbers.{verdictNumber, statusNumber, listingNumber}
+use Rattle.run_monitor.specs.declared.Progress.{Progress}
+use Rattle.run_monitor.specs.Status as monitor
+use Rattle.run_monitor.specs.Status.{Told}
+use Rattle.capi_numbers.specs.Numbers.{verdictNumber, statusNumber, listingNumber}
 
 -- r is the number of the answer that `assess` promises
 pub record VerdictNumber (b : List ℕ) (r : ℕ) : Type 0 where

@@ -1,20 +1,20 @@
 // The C interface: knowetop.h.
 ghost use mathlib.Core.Path.{_≡_};
-ghost use Rattle.rules.specs.Rules.{refusal};
+ghost use Rattle.plan_rules.specs.Rules.{refusal};
 ghost use Rattle.summary.specs.Summary.{Summarised};
 ghost use Rattle.runs.specs.Execution as execution;
-ghost use Rattle.state.specs.Fresh.{Freshened};
-ghost use Rattle.monitor.specs.Events.{Called};
+ghost use Rattle.run_state.specs.Fresh.{Freshened};
+ghost use Rattle.run_monitor.specs.Events.{Called};
 ghost use Rattle.capi.specs.Told.{VerdictNumber, StatusNumber, ListingNumber};
-use numbers::listing_number;
-use numbers::status_number;
-use numbers::verdict_number;
+use capi_numbers::listing_number;
+use capi_numbers::status_number;
+use capi_numbers::verdict_number;
 
 #[no_mangle]
 pub extern "C" fn knowetop_refusal(plan: &[u8]) -> u32
     ensures { λ r. ⌜ r ≡ refusal (now (plan .entry)) ⌝ }
 {
-    plan::check(plan)
+    plan_check::check(plan)
 }
 
 #[no_mangle]
@@ -36,28 +36,28 @@ pub extern "C" fn knowetop_summary(plan: &[u8], node: usize, out: &mut [u8]) -> 
 pub extern "C" fn knowetop_fresh(plan: &[u8], state: &mut [u8]) -> u32
     ensures { λ r. ⌜ Freshened (now (plan .entry)) (now (state .entry)) r (now (state .exit)) ⌝ }
 {
-    state::fresh(plan, state)
+    run_state::fresh(plan, state)
 }
 
 #[no_mangle]
 pub extern "C" fn knowetop_start(plan: &[u8], state: &mut [u8], task: usize) -> u32
     ensures { λ r. ⌜ Called (now (plan .entry)) (now (state .entry)) (execution.start task) r (now (state .exit)) ⌝ }
 {
-    monitor::start(plan, state, task)
+    run_monitor::start(plan, state, task)
 }
 
 #[no_mangle]
 pub extern "C" fn knowetop_finish(plan: &[u8], state: &mut [u8], task: usize) -> u32
     ensures { λ r. ⌜ Called (now (plan .entry)) (now (state .entry)) (execution.finish task) r (now (state .exit)) ⌝ }
 {
-    monitor::finish(plan, state, task)
+    run_monitor::finish(plan, state, task)
 }
 
 #[no_mangle]
 pub extern "C" fn knowetop_status(plan: &[u8], state: &[u8]) -> u32
     ensures { λ r. ⌜ StatusNumber (now (plan .entry)) (now (state .entry)) r ⌝ }
 {
-    let answer = monitor::status(plan, state);
+    let answer = run_monitor::status(plan, state);
     status_number(answer)
 }
 

@@ -10,14 +10,14 @@ use lib.Dec.{ltb}
 use lib.ListN.{length}
 use lib.Seq.{length-take-le}
 use borrow.Author.Tests.{lt-ltb, le-ltb, ne-eqb}
-use Rattle.answers.specs.Answers.{refusedOr}
-use Rattle.answers.proofs.First.{first-some, both-none}
-use Rattle.rules.specs.Rules.{refusal}
-use Rattle.decimals.specs.Decimals.{written, Wrote}
-use Rattle.decimals.proofs.Written.{wrote-long, wrote-same}
-use Rattle.plan.specs.Meaning.{planOf, startOf}
-use Rattle.plan.proofs.Accepted.{clean}
-use Rattle.plan.proofs.Meaning.{means-well-formed}
+use Rattle.base.specs.Answers.{refusedOr}
+use Rattle.base.proofs.First.{first-some, both-none}
+use Rattle.plan_rules.specs.Rules.{refusal}
+use Rattle.text_decimals.specs.Decimals.{written, Wrote}
+use Rattle.text_decimals.proofs.Written.{wrote-long, wrote-same}
+use Rattle.plan_check.specs.Meaning.{planOf, startOf}
+use Rattle.plan_check.proofs.Accepted.{clean}
+use Rattle.plan_check.proofs.Meaning.{means-well-formed}
 use Rattle.runs.specs.Model.Verdicts.{verdict}
 use Rattle.runs.proofs.Verdict.Exact.{verdict-exact}
 use Rattle.listing.specs.Text.{textOf, refusedText, printed}

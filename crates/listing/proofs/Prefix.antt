@@ -8,11 +8,11 @@ use native.Mathlib.Decide.{decLt}
 use native.Mathlib.Omega.{arith}
 use lib.ListN.{length, take}
 use lib.Seq.{getD-take, length-take-le, take-all}
-use Rattle.format.specs.Format.{u16At, nodeCount, condCount, orderCount, flagCount, wholeLength}
-use Rattle.rules.specs.Rules.{refusal, cause2}
-use Rattle.rules.proofs.Laws.{either}
-use Rattle.rules.proofs.Causes.{limits}
-use Rattle.plan.proofs.Chain.{second, third}
+use Rattle.plan_format.specs.Format.{u16At, nodeCount, condCount, orderCount, flagCount, wholeLength}
+use Rattle.plan_rules.specs.Rules.{refusal, cause2}
+use Rattle.plan_rules.proofs.Laws.{either}
+use Rattle.plan_rules.proofs.Causes.{limits}
+use Rattle.plan_check.proofs.Chain.{second, third}
 use Rattle.listing.specs.Text.{refusedText, printed}
 use Rattle.listing.proofs.Text.{printed-refused}
 

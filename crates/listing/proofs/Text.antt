@@ -6,16 +6,16 @@ use Prim.Native.Nat.{ℕ, _≤_}
 use native.Mathlib.Omega.{arith}
 use lib.ListN.{length, length-append}
 use borrow.Author.Tests.{ne-eqb}
-use Rattle.rules.specs.Rules.{refusal, cause1, cause2, cause3, cause4, cause5, cause6, cause7, cause8, cause9, cause10, cause11, cause12, cause13, cause14}
-use Rattle.plan.specs.Meaning.{planOf, startOf}
-use Rattle.plan.proofs.Accepted.{Clean}
+use Rattle.plan_rules.specs.Rules.{refusal, cause1, cause2, cause3, cause4, cause5, cause6, cause7, cause8, cause9, cause10, cause11, cause12, cause13, cause14}
+use Rattle.plan_check.specs.Meaning.{planOf, startOf}
+use Rattle.plan_check.proofs.Accepted.{Clean}
 use Rattle.runs.specs.Verdict.{Verdict, CLEAR, DOOMED, OPEN}
 use Rattle.runs.specs.Model.Verdicts.{verdict}
-use Rattle.lengths.specs.Waits.{lengthOf}
-use Rattle.lengths.proofs.Bounds.{end-limit}
-use Rattle.ranking.specs.Order.{ranking}
-use Rattle.lines.specs.Lines.{ending, linesOf}
-use Rattle.lines.proofs.Text.{ending-limit, lines-limit}
+use Rattle.wait_lengths.specs.Waits.{lengthOf}
+use Rattle.wait_lengths.proofs.Bounds.{end-limit}
+use Rattle.text_order.specs.Order.{ranking}
+use Rattle.text_lines.specs.Lines.{ending, linesOf}
+use Rattle.text_lines.proofs.Text.{ending-limit, lines-limit}
 use Rattle.listing.specs.Text.{letters, firstLine, textOf, refusedText, printed}
 
 pub letters-limit : (v : Verdict) → length (letters v) ≤ 6

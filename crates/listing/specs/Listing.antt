@@ -6,12 +6,12 @@ use mathlib.Core.Bool.{cond}
 use mathlib.Core.List.{List}
 use lib.Dec.{eqb, ltb}
 use lib.ListN.{length, take}
-use Rattle.answers.specs.Answers.{first, refusedOr}
-use Rattle.rules.specs.Rules.{refusal}
-use Rattle.plan.specs.Meaning.{planOf, startOf}
+use Rattle.base.specs.Answers.{first, refusedOr}
+use Rattle.plan_rules.specs.Rules.{refusal}
+use Rattle.plan_check.specs.Meaning.{planOf, startOf}
 use Rattle.runs.specs.Verdict.{Judged}
 use Rattle.runs.specs.Model.Verdicts.{verdict}
-use Rattle.decimals.specs.Decimals.{written, Wrote}
+use Rattle.text_decimals.specs.Decimals.{written, Wrote}
 use Rattle.listing.specs.Text.{textOf, printed}
 use Rattle.listing.specs.declared.Listed.{Listed}
 use Rattle.listing.specs.declared.Listed.the-variants.{Refused, Text}

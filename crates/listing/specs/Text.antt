@@ -3,13 +3,13 @@ use Prim.Native.Nat.{ℕ}
 use mathlib.Core.Bool.{cond}
 use mathlib.Core.List.{List, [], _∷_, _++_}
 use lib.Dec.{eqb}
-use Rattle.rules.specs.Rules.{refusal}
-use Rattle.plan.specs.Meaning.{planOf, startOf}
+use Rattle.plan_rules.specs.Rules.{refusal}
+use Rattle.plan_check.specs.Meaning.{planOf, startOf}
 use Rattle.runs.specs.Verdict.{Verdict, CLEAR, DOOMED, OPEN}
 use Rattle.runs.specs.Model.Verdicts.{verdict}
-use Rattle.lengths.specs.Waits.{lengthOf}
-use Rattle.ranking.specs.Order.{ranking}
-use Rattle.lines.specs.Lines.{ending, linesOf}
+use Rattle.wait_lengths.specs.Waits.{lengthOf}
+use Rattle.text_order.specs.Order.{ranking}
+use Rattle.text_lines.specs.Lines.{ending, linesOf}
 
 -- 01's words, in ASCII
 abbrev pub letters : Verdict → List ℕ

@@ -2,23 +2,23 @@
 ghost use mathlib.Core.Path.{_≡_};
 ghost use Prim.Native.Nat.{_+_, _≤_};
 ghost use lib.ListN.{length};
-ghost use Rattle.rules.specs.Rules.{refusal};
-ghost use Rattle.plan.specs.Meaning.{planOf, startOf};
+ghost use Rattle.plan_rules.specs.Rules.{refusal};
+ghost use Rattle.plan_check.specs.Meaning.{planOf, startOf};
 ghost use Rattle.runs.specs.Model.Verdicts as model;
 ghost use Rattle.verdict.specs.Verdict.{wordOf};
-ghost use Rattle.decimals.specs.Decimals.{Wrote};
+ghost use Rattle.text_decimals.specs.Decimals.{Wrote};
 ghost use Rattle.listing.specs.Text.{letters, textOf};
 ghost use Rattle.listing.specs.Listing.{Lists, Prints};
-use decimals::write_bytes;
-use lines::end_line;
-use lines::write_lines;
-use plan::check;
-use ranking::rank;
+use base::no_nodes;
+use base::no_times;
+use plan_check::check;
+use text_decimals::write_bytes;
+use text_lines::end_line;
+use text_lines::write_lines;
+use text_order::rank;
 use verdict::Verdict;
 use verdict::judge;
-use waits::longest_waits;
-use zeros::no_nodes;
-use zeros::no_times;
+use wait_tree::longest_waits;
 
 // A refusal up to 15, or the length of the text.
 pub enum Listed {

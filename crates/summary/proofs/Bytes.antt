@@ -8,23 +8,23 @@ use native.Mathlib.Omega.{arith}
 use lib.ListN.{length, getD}
 use lib.Dec.{eqb, ltb, eqb→eq}
 use borrow.Author.Tests.{eq-eqb, ne-eqb, lt-ltb, le-ltb, ltb-true, ltb-false}
-use Rattle.bits.specs.Bits.{bit, Says}
-use Rattle.answers.specs.Answers.{overlay}
-use Rattle.answers.proofs.First.{first-some, both-none, check-passed}
-use Rattle.answers.proofs.Overlay.{at-overlay}
-use Rattle.format.specs.Format.{nodeCount, flagCount}
-use Rattle.rules.specs.Rules.{refusal}
+use Rattle.base.specs.Bits.{bit, Says}
+use Rattle.base.specs.Answers.{overlay}
+use Rattle.base.proofs.First.{first-some, both-none, check-passed}
+use Rattle.base.proofs.Overlay.{at-overlay}
+use Rattle.plan_format.specs.Format.{nodeCount, flagCount}
+use Rattle.plan_rules.specs.Rules.{refusal}
 use Rattle.runs.specs.Plan.{signNumber}
 use Rattle.runs.proofs.Plan.Numbers.{sign-small}
-use Rattle.plan.specs.Meaning.{planOf}
-use Rattle.plan.proofs.Meaning.{means-well-formed}
+use Rattle.plan_check.specs.Meaning.{planOf}
+use Rattle.plan_check.proofs.Meaning.{means-well-formed}
 use Rattle.runs.specs.Summary.{Mark, byteOf, Marked}
 use Rattle.runs.specs.Model.Marks.{markedB}
 use Rattle.runs.proofs.Reflect.{Reflects}
 use Rattle.runs.proofs.Summary.Exact.{marks-exact}
-use Rattle.literals.specs.Words.{wordIndex, markAt, MarkWords}
-use Rattle.literals.proofs.Laws.{mark-small, mark-byte, byte-mark}
-use Rattle.rows.proofs.Nodes.{node-of}
+use Rattle.marks_words.specs.Words.{wordIndex, markAt, MarkWords}
+use Rattle.marks_words.proofs.Laws.{mark-small, mark-byte, byte-mark}
+use Rattle.marks_of_plan.proofs.Nodes.{node-of}
 use Rattle.summary.specs.Summary.{summaryRefusal, summaryByte, summaryLeft, Tells, Summarised}
 
 -- the digit of a bit that says what a test reflects

@@ -6,14 +6,14 @@ use mathlib.Core.List.{List}
 use Prim.Native.Nat.{ℕ, _+_, _*_, _/_, _%_, _<_}
 use lib.ListN.{length, getD}
 use lib.Dec.{eqb, ltb}
-use Rattle.answers.specs.Answers.{first, overlay}
-use Rattle.format.specs.Format.{nodeCount, flagCount}
-use Rattle.rules.specs.Rules.{refusal}
+use Rattle.base.specs.Answers.{first, overlay}
+use Rattle.plan_format.specs.Format.{nodeCount, flagCount}
+use Rattle.plan_rules.specs.Rules.{refusal}
 use Rattle.runs.specs.Plan.{signNumber}
-use Rattle.plan.specs.Meaning.{planOf}
+use Rattle.plan_check.specs.Meaning.{planOf}
 use Rattle.runs.specs.Summary.{Mark, byteOf, Marked}
 use Rattle.runs.specs.Model.Marks.{markedB}
-use Rattle.literals.specs.Words.{markAt}
+use Rattle.marks_words.specs.Words.{markAt}
 
 -- 1 to 14; 15: under 16 V bytes; 17: no node
 unfoldable pub summaryRefusal : List ℕ → ℕ → List ℕ → ℕ

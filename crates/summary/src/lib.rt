@@ -3,10 +3,10 @@ ghost use mathlib.Core.Path.{_≡_};
 ghost use Prim.Native.Nat.{_/_, _%_, _^_, _<_};
 ghost use lib.ListN.{getD};
 ghost use Rattle.summary.specs.Summary.{summaryRefusal, Summarised};
-use format::fields::flags;
-use format::fields::nodes;
-use plan::check;
-use rows::node_words;
+use marks_of_plan::node_words;
+use plan_check::check;
+use plan_format::fields::flags;
+use plan_format::fields::nodes;
 
 // Refusals 1 to 14, 15 and 17, or 0.
 fn summary_refused(plan: &[u8], node: usize, out: &[u8]) -> u32

@@ -5,14 +5,14 @@ use mathlib.Core.Bool.{Bool, true, false}
 use mathlib.Core.List.{List}
 use Prim.Native.Nat.{ℕ, _^_, _<_}
 use native.Mathlib.Omega.{arith}
-use Rattle.bits.specs.Bits.{Says}
-use Rattle.bits.proofs.Words.{no-bits}
-use Rattle.bits.proofs.Says.{no-flag}
-use Rattle.answers.proofs.First.{answer-none, answer-some}
-use Rattle.rules.specs.Rules.{refusal}
-use Rattle.plan.specs.Meaning.{planOf, startOf}
-use Rattle.plan.proofs.Accepted.{clean}
-use Rattle.plan.proofs.Meaning.{means, means-well-formed}
+use Rattle.base.specs.Bits.{Says}
+use Rattle.base.proofs.Words.{no-bits}
+use Rattle.base.proofs.Says.{no-flag}
+use Rattle.base.proofs.First.{answer-none, answer-some}
+use Rattle.plan_rules.specs.Rules.{refusal}
+use Rattle.plan_check.specs.Meaning.{planOf, startOf}
+use Rattle.plan_check.proofs.Accepted.{clean}
+use Rattle.plan_check.proofs.Meaning.{means, means-well-formed}
 use Rattle.runs.specs.Plan.{Plan, WellFormed}
 use Rattle.runs.specs.Summary.{Mark, may-pre, must-pre, may-clobber, must-clobber}
 use Rattle.runs.specs.Verdict as verdicts
@@ -22,7 +22,7 @@ use Rattle.runs.specs.Model.Verdicts.{mayFailB, mustFailB, judge, verdict}
 use Rattle.runs.proofs.Reflect.{Reflects}
 use Rattle.runs.proofs.Verdict.Exact.{MayFail, MustFail, SomeLiteral, may-fail-flag, must-fail-may, r-may-fail, r-must-fail, verdict-exact}
 use Rattle.runs.proofs.Calls.Demand3.{demand3}
-use Rattle.literals.specs.Words.{MarkWords, StartWord, FailsWord}
+use Rattle.marks_words.specs.Words.{MarkWords, StartWord, FailsWord}
 use Rattle.verdict.specs.declared.Verdict.{Verdict}
 use Rattle.verdict.specs.declared.Answer.the-variants.{Refused, Judged as Given}
 use Rattle.verdict.specs.Verdict.{wordOf, said, answerOf, Assessed}

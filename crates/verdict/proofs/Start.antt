@@ -9,11 +9,11 @@ use native.Mathlib.Omega.{arith}
 use lib.Bits.{bitOr}
 use lib.Dec.{ltb}
 use borrow.Author.Tests.{lt-ltb, ltb-true}
-use Rattle.bits.specs.Bits.{Says}
-use Rattle.bits.proofs.Says.{says-map, says-none, says-set}
-use Rattle.format.specs.Format.{flagCount, startFlag}
-use Rattle.plan.specs.Meaning.{startOf}
-use Rattle.literals.specs.Words.{StartWord}
+use Rattle.base.specs.Bits.{Says}
+use Rattle.base.proofs.Says.{says-map, says-none, says-set}
+use Rattle.plan_format.specs.Format.{flagCount, startFlag}
+use Rattle.plan_check.specs.Meaning.{startOf}
+use Rattle.marks_words.specs.Words.{StartWord}
 
 -- those below f
 abbrev pub SetBelow : List ℕ → ℕ → ℕ → Type 0

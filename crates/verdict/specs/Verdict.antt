@@ -3,9 +3,9 @@ use mathlib.Core.Path.{_≡_}
 use mathlib.Core.Logic.{_⊎_, inl, inr, _↔_}
 use mathlib.Core.List.{List}
 use Prim.Native.Nat.{ℕ}
-use Rattle.answers.specs.Answers.{refusedOr}
-use Rattle.rules.specs.Rules.{refusal}
-use Rattle.plan.specs.Meaning.{planOf, startOf}
+use Rattle.base.specs.Answers.{refusedOr}
+use Rattle.plan_rules.specs.Rules.{refusal}
+use Rattle.plan_check.specs.Meaning.{planOf, startOf}
 use Rattle.runs.specs.Verdict as verdicts
 use Rattle.runs.specs.Verdict.{CLEAR, DOOMED, OPEN, Judged}
 use Rattle.runs.specs.Demand3.{NeverViolates, NeverCompletes}

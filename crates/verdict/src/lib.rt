@@ -1,15 +1,15 @@
 // The answer for a plan.
 ghost use mathlib.Core.Path.{_≡_};
-ghost use Rattle.rules.specs.Rules.{refusal};
-ghost use Rattle.plan.specs.Meaning.{planOf, startOf};
+ghost use Rattle.plan_rules.specs.Rules.{refusal};
+ghost use Rattle.plan_check.specs.Meaning.{planOf, startOf};
 ghost use Rattle.runs.specs.Model.Verdicts as model;
-ghost use Rattle.literals.specs.Words.{StartWord};
+ghost use Rattle.marks_words.specs.Words.{StartWord};
 ghost use Rattle.verdict.specs.Verdict.{wordOf, Assessed};
-use format::fields::flags;
-use format::fields::start_flag;
-use literals::failing;
-use plan::check;
-use rows::node_words;
+use marks_of_plan::node_words;
+use marks_words::failing;
+use plan_check::check;
+use plan_format::fields::flags;
+use plan_format::fields::start_flag;
 
 pub enum Verdict {
     Clear,

@@ -2,7 +2,7 @@
 use mathlib.Core.Path.{_≡_, sym, _∙_}
 use native.Mathlib.Omega.{arith}
 use denote.Ref.{now}
-use Rattle.rules.specs.Rules.{refusal}
+use Rattle.plan_rules.specs.Rules.{refusal}
 use Rattle.listing.proofs.Answers.{lists-refused, lists-short, lists-text}
 use borrow.Author.Needs.{needs}
 use Rattle.listing.proofs.listing.Statement.{statement}

@@ -1,8 +1,8 @@
 -- `print` meets its contract. Assumes nothing.
 use mathlib.Core.Path.{ap, _∙_}
 use lib.ListN.{length}
-use Rattle.decimals.proofs.Written.{wrote-long, wrote-then, wrote-same}
-use Rattle.lines.proofs.Text.{ending-limit}
+use Rattle.text_decimals.proofs.Written.{wrote-long, wrote-then, wrote-same}
+use Rattle.text_lines.proofs.Text.{ending-limit}
 use Rattle.listing.proofs.Text.{refused-is}
 use Rattle.listing.proofs.Answers.{text-answered, refused-answered, prints}
 use native.Mathlib.Omega.{arith}

@@ -2,7 +2,7 @@
 use mathlib.Core.Path.{sym, ap}
 use Rattle.verdict.specs.declared.Verdict.{Verdict}
 use Rattle.verdict.specs.Verdict.{wordOf}
-use Rattle.decimals.proofs.Written.{wrote-same}
+use Rattle.text_decimals.proofs.Written.{wrote-same}
 use Rattle.listing.specs.Text.{letters}
 use borrow.Author.Needs.{needs}
 use Rattle.listing.proofs.write_word.Statement.{statement}

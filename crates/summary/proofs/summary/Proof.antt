@@ -3,10 +3,10 @@ use mathlib.Core.Path.{_≡_, refl, sym, _∙_}
 use Prim.Native.Nat.{_-_, _*_, _≤_, _<_}
 use native.Mathlib.Omega.{arith}
 use denote.Ref.{now}
-use Rattle.answers.specs.Answers.{overlay}
-use Rattle.answers.proofs.Overlay.{overlay-none, overlay-more, length-overlay}
-use Rattle.format.specs.Format.{flagCount}
-use Rattle.plan.proofs.Accepted.{clean}
+use Rattle.base.specs.Answers.{overlay}
+use Rattle.base.proofs.Overlay.{overlay-none, overlay-more, length-overlay}
+use Rattle.plan_format.specs.Format.{flagCount}
+use Rattle.plan_check.proofs.Accepted.{clean}
 use Rattle.summary.specs.Summary.{summaryByte}
 use Rattle.summary.proofs.Bytes.{Accepted, accepted, byte-is, summary-refused, summary-written}
 use borrow.Author.Needs.{needs}

@@ -2,8 +2,8 @@
 use mathlib.Core.Path.{_≡_, sym, _∙_}
 use native.Mathlib.Omega.{arith}
 use denote.Ref.{now}
-use Rattle.rules.specs.Rules.{refusal}
-use Rattle.plan.proofs.Accepted.{Clean, clean}
+use Rattle.plan_rules.specs.Rules.{refusal}
+use Rattle.plan_check.proofs.Accepted.{Clean, clean}
 use Rattle.summary.proofs.Bytes.{refused-plan, refused-15, refused-17, refused-none}
 use borrow.Author.Needs.{needs}
 use Rattle.summary.proofs.summary_refused.Statement.{statement}

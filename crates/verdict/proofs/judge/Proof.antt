@@ -1,5 +1,5 @@
 -- `judge` meets its contract. Assumes nothing.
-use Rattle.plan.proofs.Accepted.{clean}
+use Rattle.plan_check.proofs.Accepted.{clean}
 use Rattle.verdict.proofs.Judging.{judged-clear, judged-doomed, judged-open}
 use borrow.Author.Needs.{needs}
 use Rattle.verdict.proofs.judge.Statement.{statement}

@@ -5,10 +5,10 @@ use Prim.Native.Nat.{ℕ, _-_, _≤_, _<_}
 use native.Mathlib.Omega.{arith}
 use lib.Bits.{bitOr}
 use denote.Ref.{now}
-use Rattle.bits.specs.Bits.{Says}
-use Rattle.bits.proofs.Equations.{one-shl}
-use Rattle.format.specs.Format.{flagCount}
-use Rattle.plan.proofs.Accepted.{clean}
+use Rattle.base.specs.Bits.{Says}
+use Rattle.base.proofs.Equations.{one-shl}
+use Rattle.plan_format.specs.Format.{flagCount}
+use Rattle.plan_check.proofs.Accepted.{clean}
 use Rattle.verdict.proofs.Start.{SetBelow, start-none, start-set, start-clear, start-all}
 use Rattle.verdict.proofs.start_word.Statement.{statement}
 use Rattle.verdict.proofs.start_word.Tie as tie

@@ -1,2 +1,0 @@
--- What a call answers and leaves. Definitions only.
-pub mod Answers

@@ -1,0 +1,9 @@
+-- Laws of tests and of the bits of a word, of counts, of answers and lent memory, of tables of zeros.
+pub mod Tests
+pub mod Equations
+pub mod Says
+pub mod Words
+pub mod Count
+pub mod First
+pub mod Overlay
+pub mod Zeros

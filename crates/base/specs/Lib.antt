@@ -1,0 +1,5 @@
+-- What all crates above may cite. Definitions only.
+pub mod Bits
+pub mod Count
+pub mod Answers
+pub mod Zeros

@@ -1,0 +1,30 @@
+// Tables of zeros.
+ghost use Rattle.base.specs.Zeros.{Zeros};
+
+// A byte for each node.
+pub fn no_nodes() -> [u8; 128]
+    ensures { λ r. ⌜ Zeros 128 r ⌝ }
+{
+    [0u8; 128]
+}
+
+// A byte for each node and one more.
+pub fn no_starts() -> [u8; 129]
+    ensures { λ r. ⌜ Zeros 129 r ⌝ }
+{
+    [0u8; 129]
+}
+
+// Six words for each node.
+pub fn no_conditions() -> [u64; 768]
+    ensures { λ r. ⌜ Zeros 768 r ⌝ }
+{
+    [0u64; 768]
+}
+
+// A time for each node.
+pub fn no_times() -> [u32; 128]
+    ensures { λ r. ⌜ Zeros 128 r ⌝ }
+{
+    [0u32; 128]
+}

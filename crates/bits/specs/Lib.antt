@@ -1,2 +1,0 @@
--- The bits of a word. Definitions only.
-pub mod Bits

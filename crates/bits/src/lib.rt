@@ -1,1 +1,0 @@
-// Laws only: the bits of a 64-bit word, by what they say.

@@ -1,0 +1,26 @@
+-- The numbers by which the C interface tells answers: a refusal is its own number. Definitions only.
+use mathlib.Core.Logic.{_⊎_, inl, inr}
+use Prim.Native.Nat.{ℕ, _+_, _≤_}
+use Rattle.runs.specs.Verdict.{Verdict, CLEAR, DOOMED, OPEN}
+use Rattle.run_monitor.specs.Status.{Word, COMPLETE, UNFINISHED}
+
+abbrev pub verdictNumber : ℕ ⊎ Verdict → ℕ
+verdictNumber (inl n) = n
+verdictNumber (inr CLEAR) = 128
+verdictNumber (inr DOOMED) = 129
+verdictNumber (inr OPEN) = 130
+
+abbrev pub statusNumber : ℕ ⊎ Word → ℕ
+statusNumber (inl n) = n
+statusNumber (inr COMPLETE) = 128
+statusNumber (inr UNFINISHED) = 129
+
+-- the length of a text after 256
+abbrev pub listingNumber : ℕ ⊎ ℕ → ℕ
+listingNumber (inl n) = n
+listingNumber (inr n) = 256 + n
+
+-- a refusal, or a length of at most 2,048
+abbrev pub Short : ℕ ⊎ ℕ → Type 0
+Short (inl n) = Unit {0}
+Short (inr n) = n ≤ 2048

@@ -1,0 +1,43 @@
+// The numbers by which the C interface tells answers.
+use listing::Listed;
+use run_monitor::Progress;
+use verdict::Answer;
+use verdict::Verdict;
+ghost use mathlib.Core.Path.{_≡_};
+ghost use Rattle.verdict.specs.Verdict as verdict;
+ghost use Rattle.run_monitor.specs.Status as progress;
+ghost use Rattle.listing.specs.Listing.{told};
+ghost use Rattle.capi_numbers.specs.Numbers.{verdictNumber, statusNumber, listingNumber, Short};
+
+pub fn verdict_number(answer: Answer) -> u32
+    ensures { λ r. ⌜ r ≡ verdictNumber (verdict.said answer) ⌝ }
+{
+    match answer {
+        Answer::Refused(n) => n,
+        Answer::Judged(verdict) => match verdict {
+            Verdict::Clear => 128,
+            Verdict::Doomed => 129,
+            Verdict::Open => 130,
+        },
+    }
+}
+
+pub fn status_number(answer: Progress) -> u32
+    ensures { λ r. ⌜ r ≡ statusNumber (progress.said answer) ⌝ }
+{
+    match answer {
+        Progress::Refused(n) => n,
+        Progress::Complete => 128,
+        Progress::Unfinished => 129,
+    }
+}
+
+pub fn listing_number(answer: Listed) -> u32
+    requires { ⌜ Short (told answer) ⌝ }
+    ensures { λ r. ⌜ r ≡ listingNumber (told answer) ⌝ }
+{
+    match answer {
+        Listed::Refused(n) => n,
+        Listed::Text(n) => 256 + n as u32,
+    }
+}

@@ -1,1 +1,0 @@
-// Definitions and laws only: how many numbers below n pass a test.

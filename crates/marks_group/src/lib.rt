@@ -1,0 +1,136 @@
+// The row of an any-of group from the rows of its children; that of an all-of group but for the pairs of children that clobber.
+ghost use Prim.Native.Nat.{_≤_, _<_};
+ghost use Rattle.marks_row.specs.Tables.{Shaped};
+ghost use Rattle.marks_group.specs.Groups.{AnyRow, AllRow, JoinedWord, Merged, Unmerged};
+ghost use Rattle.marks_group.specs.Masks.{Masks};
+use marks_row::wide;
+use marks_row::word_at;
+use marks_siblings::Siblings;
+use marks_siblings::all_siblings;
+
+const ALL: u64 = 18446744073709551615;
+
+// What each column of a child is masked by.
+fn mask_words(s: Siblings) -> [u64; 21]
+    ensures { λ r. ⌜ Masks s r ⌝ }
+{
+    [
+        ALL,
+        ALL,
+        ALL,
+        s.clear_before,
+        s.set_before,
+        s.avoid_before,
+        s.avoid_before,
+        s.avoid_after,
+        s.avoid_after,
+        ALL,
+        ALL,
+        ALL,
+        ALL,
+        ALL,
+        ALL,
+        ALL,
+        ALL,
+        ALL,
+        ALL,
+        s.silent_apart,
+        s.silent_apart,
+    ]
+}
+
+// The words before the first child: ones in the columns from first to last.
+fn start_words(first: usize, last: usize) -> [u64; 21]
+    requires { ⌜ (first ≤ last) × (last ≤ 21) ⌝ }
+    ensures { λ r. ⌜ Unmerged first last r ⌝ }
+{
+    let mut out = [0u64; 21];
+    let mut k = first;
+    while k < last {
+        out[k] = ALL;
+        k += 1;
+    }
+    out
+}
+
+// The word of one child more in column k: from first to last, both have it; in the others, one of them does, the child under the mask.
+fn joined(first: usize, last: usize, k: usize, word: u64, child: u64, mask: u64) -> u64
+    ensures { λ r. ⌜ JoinedWord first last k word child mask r ⌝ }
+{
+    if k < first {
+        return word | (child & mask);
+    }
+    if last <= k {
+        return word | (child & mask);
+    }
+    word & child
+}
+
+// The words of one child more.
+fn merged(
+    first: usize,
+    last: usize,
+    words: [u64; 21],
+    rows: &[u64; 2688],
+    child: usize,
+    mask: [u64; 21],
+) -> [u64; 21]
+    requires { ⌜ child < 128 ⌝ }
+    ensures { λ r. ⌜ Merged first last words (now (rows .entry)) child mask r ⌝ }
+{
+    let mut out = words;
+    let mut k = 0;
+    while k < 21 {
+        out[k] = joined(first, last, k, words[k], word_at(rows, child, k), mask[k]);
+        k += 1;
+    }
+    out
+}
+
+// The row of an any-of group, from the rows of its children.
+pub fn any_words(
+    from: &[u8; 129],
+    kids: &[u8; 128],
+    rows: &[u64; 2688],
+    n: usize,
+    node: usize,
+) -> [u64; 21]
+    requires { ⌜ Shaped (now from) (now kids) n × (node < n) ⌝ }
+    ensures { λ r. ⌜ AnyRow (now (from .entry)) (now (kids .entry)) (now (rows .entry)) n node r ⌝ }
+{
+    let mask = start_words(0, 21);
+    let mut words = start_words(17, 21);
+    let end = wide(from[node + 1]);
+    let mut i = wide(from[node]);
+    while i < end {
+        let next = merged(17, 21, words, rows, wide(kids[i]), mask);
+        words = next;
+        i += 1;
+    }
+    words
+}
+
+// What an all-of group shows by its children one by one, from their rows.
+pub fn all_words(
+    from: &[u8; 129],
+    kids: &[u8; 128],
+    order: &[u8; 16384],
+    rows: &[u64; 2688],
+    n: usize,
+    node: usize,
+) -> [u64; 21]
+    requires { ⌜ Shaped (now from) (now kids) n × (node < n) ⌝ }
+    ensures { λ r. ⌜ AllRow (now (from .entry)) (now (kids .entry)) (now (order .entry)) (now (rows .entry)) n node r ⌝ }
+{
+    let mut words = start_words(0, 3);
+    let end = wide(from[node + 1]);
+    let mut i = wide(from[node]);
+    while i < end {
+        let child = wide(kids[i]);
+        let mask = mask_words(all_siblings(from, kids, order, rows, n, node, child));
+        let next = merged(0, 3, words, rows, child, mask);
+        words = next;
+        i += 1;
+    }
+    words
+}

@@ -1,0 +1,114 @@
+-- Flags found pair by pair: those already known, and those that a pair must clobber. Assumes nothing.
+use mathlib.Core.Path.{_≡_, refl}
+use mathlib.Core.Logic.{_⊎_, inl, inr}
+use mathlib.Core.Bool.{Bool, true, not}
+use mathlib.Core.List.{List}
+use Prim.Native.Nat.{ℕ, _+_, _-_, _≤_, _<_}
+use native.Mathlib.Omega.{arith}
+use lib.Bits.{bitAnd, bitOr, bitXor}
+use lib.Dec.{T}
+use lib.ListN.{getD}
+use Rattle.base.specs.Bits.{bit, ones, Says}
+use Rattle.base.proofs.Says.{says-map, says-dec, says-self, says-and, says-or, says-not, says-none, says-among, no-flag}
+use Rattle.runs.specs.Plan.{Plan, Child, signNumber}
+use Rattle.runs.specs.Summary.{Must, ExternalPre, ExternalPost}
+use Rattle.marks_row.specs.Tables.{code}
+use Rattle.marks_row.specs.Segments.{Some}
+use Rattle.marks_row.specs.Musts.{MustPreWord, MustPostWord}
+use Rattle.runs.proofs.Plan.Numbers.{opposite}
+use Rattle.marks_row.proofs.Segments.{some-next, some-child}
+use Rattle.marks_between.specs.Passing.{PassingWord, Pairing}
+use Rattle.marks_must_pairs.specs.MustPairs.{MustPair, MustPairWord}
+
+-- a word for each place where `must_pair_word` returns
+module _ {from kids order rows : List ℕ} {size n s c d : ℕ} (w : ℕ) where
+  -- d stands before c: what is shared passes from d to c in every execution
+  module _ (x y : ℕ) (q : code order d c ≡ 1) (ex : MustPostWord rows d (1 - s) x) (ey : MustPreWord rows c s y) where
+    shared : {p : Plan} → Pairing from kids order rows size n p → Child p n c → Child p n d → (v : Bool) → s ≡ signNumber v → (f : ℕ) → f < 64
+        → Says (bitAnd w (bitAnd x y)) f (T (bit w f) × (Must p d (ExternalPost p f (not v)) × Must p c (ExternalPre p f v)))
+    shared g hc hd v e f l = let formed = g .group .well-formed in
+        says-and {x = w} {y = bitAnd x y} refl (says-self w f) (says-and {x = x} {y = y} refl
+        (ex _ formed (g .group .children d hd) (not v) (opposite v s e) f l) (ey _ formed (hc .node) (g .group .children c hc) v e f l))
+
+    pub none-shared : bitAnd w (bitAnd x y) ≡ 0 → MustPairWord from kids order rows size n s w c d 0
+    none-shared z = record { says = λ p g hc hd v e f l. says-none refl (λ u. no-flag _ f z (shared g hc hd v e f l .from (u .0, u .1 .1 .0))) }
+
+    pub shared-passes : {r : ℕ} → PassingWord from kids order rows size n true (bitAnd w (bitAnd x y)) c d r → MustPairWord from kids order rows size n s w c d r
+    shared-passes h = record {
+      says = λ p g hc hd v e f l. says-map (
+        λ u. (u .0 .0, ((g .orders .before d c (hd .node) (hc .node)) .0 q, (u .0 .1, u .1))),
+        λ u. ((u .0, u .1 .1 .0), u .1 .1 .1),
+      ) (says-among (shared g hc hd v e f l) (h .says p g hc hd f l));
+    }
+
+  pub not-before : ¬ (code order d c ≡ 1) → MustPairWord from kids order rows size n s w c d 0
+  not-before k = record { says = λ p g hc hd v e f l. says-none refl (λ u. k ((g .orders .before d c (hd .node) (hc .node)) .1 (u .1 .0))) }
+
+-- the child d by its position
+pub pair-kid : {from kids order rows : List ℕ} {size n s w c d k r : ℕ} → d ≡ k → MustPairWord from kids order rows size n s w c d r → MustPairWord from kids order rows size n s w c k r
+pair-kid e h = rw e at h
+
+module _ {p : Plan} {n c f : ℕ} {v : Bool} where
+  -- no pair with c adds a flag, if c must not require one that is not yet known
+  pub none-new : {known pre : ℕ} → f < 64 → bitAnd (bitXor known ones) pre ≡ 0 → Says pre f (Must p c (ExternalPre p f v))
+      → Says known f (T (bit known f) ⊎ ((d : ℕ) × Child p n d × MustPair p n f v c d))
+  none-new {known} {pre} l e s = record { to = inl; from = back (says-dec (says-self known f)) }
+    where
+      back : Dec (T (bit known f)) → T (bit known f) ⊎ ((d : ℕ) × Child p n d × MustPair p n f v c d) → T (bit known f)
+      back (yes t) x = t
+      back (no k) (inl t) = t
+      back (no k) (inr x) = absurd (no-flag _ f e (says-and {x = bitXor known ones} {y = pre} refl (says-not {x = known} l refl (says-self known f)) s .from (k, x .2 .1 .0 .1)))
+
+-- a pair looked at for the flags not yet known: `flags | word`
+pub added : (flags word : ℕ) {r f : ℕ} {Q : Type 0} → f < 64 → r ≡ bitOr flags word → Says word f (T (bit (bitXor flags ones) f) × Q) → Says r f (T (bit flags f) ⊎ Q)
+added flags word {r} {f} {Q} l e s = says-map (to, back (says-dec (says-self flags f))) (says-or e (says-self flags f) s)
+  where
+    to : T (bit flags f) ⊎ (T (bit (bitXor flags ones) f) × Q) → T (bit flags f) ⊎ Q
+    to (inl t) = inl t
+    to (inr x) = inr (x .1)
+
+    back : Dec (T (bit flags f)) → T (bit flags f) ⊎ Q → T (bit flags f) ⊎ (T (bit (bitXor flags ones) f) × Q)
+    back (yes t) x = inl t
+    back (no k) (inl t) = inl t
+    back (no k) (inr q) = inr (says-not {x = flags} l refl (says-self flags f) .from k, q)
+
+-- the flags already known, and those for which some child so far has Q: at the beginning, one child more, all children
+module _ {kids : List ℕ} {low f : ℕ} {Q : ℕ → Type 0} where
+  pub none-more : {known : ℕ} → Says known f (T (bit known f) ⊎ Some kids low low Q)
+  none-more {known} = says-map (inl, at) (says-self known f)
+    where
+      at : T (bit known f) ⊎ Some kids low low Q → T (bit known f)
+      at (inl t) = t
+      at (inr x) = absurd (omega (arith, x .from-low, x .to-high))
+
+  pub child-more : {flags r i : ℕ} {K : Type 0} → low ≤ i → Says flags f (K ⊎ Some kids low i Q) → Says r f (T (bit flags f) ⊎ Q (getD kids i 0))
+      → Says r f (K ⊎ Some kids low (i + 1) Q)
+  child-more {flags} {r} {i} {K} a h m = says-map (to, back) m
+    where
+      old : K ⊎ Some kids low i Q → K ⊎ Some kids low (i + 1) Q
+      old (inl k) = inl k
+      old (inr s) = inr ((some-next a) .0 (inl s))
+
+      to : T (bit flags f) ⊎ Q (getD kids i 0) → K ⊎ Some kids low (i + 1) Q
+      to (inl t) = old (h .to t)
+      to (inr x) = inr ((some-next a) .0 (inr x))
+
+      at : Some kids low i Q ⊎ Q (getD kids i 0) → T (bit flags f) ⊎ Q (getD kids i 0)
+      at (inl s) = inl (h .from (inr s))
+      at (inr x) = inr x
+
+      back : K ⊎ Some kids low (i + 1) Q → T (bit flags f) ⊎ Q (getD kids i 0)
+      back (inl k) = inl (h .from (inl k))
+      back (inr s) = at ((some-next a) .1 s)
+
+pub all-more : {from kids order rows : List ℕ} {size n : ℕ} {p : Plan} → Pairing from kids order rows size n p → {w f : ℕ} {K : Type 0} {Q : ℕ → Type 0}
+    → Says w f (K ⊎ Some kids (getD from n 0) (getD from (n + 1) 0) Q) → Says w f (K ⊎ ((c : ℕ) × Child p n c × Q c))
+all-more {from} {kids} {n = n} {p = p} g {K = K} {Q = Q} s = says-map (to, back) s
+  where
+    to : K ⊎ Some kids (getD from n 0) (getD from (n + 1) 0) Q → K ⊎ ((c : ℕ) × Child p n c × Q c)
+    to (inl k) = inl k
+    to (inr x) = inr ((some-child (g .group .tree) (g .group .node) (λ d hd. (λ y. y, λ y. y))) .0 x)
+
+    back : K ⊎ ((c : ℕ) × Child p n c × Q c) → K ⊎ Some kids (getD from n 0) (getD from (n + 1) 0) Q
+    back (inl k) = inl k
+    back (inr x) = inr ((some-child (g .group .tree) (g .group .node) (λ d hd. (λ y. y, λ y. y))) .1 x)

@@ -1,0 +1,43 @@
+-- The literals (f, v) that a pair of children of an all-of group may clobber. Definitions only.
+use mathlib.Core.Path.{_≡_}
+use mathlib.Core.Logic.{_⊎_}
+use mathlib.Core.Bool.{Bool, true, false, not}
+use mathlib.Core.List.{List}
+use Prim.Native.Nat.{ℕ, _<_}
+use lib.Dec.{T}
+use Rattle.base.specs.Bits.{bit, Says}
+use Rattle.runs.specs.Plan.{Plan, Child, Before, Unordered}
+use Rattle.marks_row.specs.Columns.{may-pre, may-post, requires, asserts, indexOf, Fact, wordAt}
+use Rattle.marks_row.specs.Musts.{SaysOf}
+use Rattle.marks_between.specs.Passing.{Between, OfPlans}
+use Rattle.marks_pair.specs.declared.Literals.{Literals}
+
+-- the two rules by pairs of 01's mark 6
+abbrev pub Pair : Plan → ℕ → ℕ → Bool → ℕ → ℕ → Type 0
+Pair p n f v c d = (Unordered p c d × (Fact p c f (requires v) × Fact p d f (asserts (not v))))
+    ⊎ (Before p d c × ((Fact p d f (may-post (not v)) × Fact p c f (may-pre v)) × Between p n f c d))
+
+-- the wanted flags of one sign that the pair c, d clobbers
+pub record PairWord (from kids order rows : List ℕ) (size n s wanted c d r : ℕ) : Type 0 where
+  pub among : (f : ℕ) → f < 64 → T (bit r f) → T (bit wanted f)
+  pub says : OfPlans from kids order rows size n (λ p. Child p n c → Child p n d → SaysOf s r (λ f v. T (bit wanted f) × Pair p n f v c d))
+
+-- the word of one sign
+abbrev pub signWord : Literals → Bool → ℕ
+signWord w false = w .clear
+signWord w true = w .set
+
+-- the wanted literals that the pair c, d of children clobbers
+pub record PairWords (from kids order rows : List ℕ) (size n : ℕ) (wanted : Literals) (c d : ℕ) (r : Literals) : Type 0 where
+  pub among : (v : Bool) (f : ℕ) → f < 64 → T (bit (signWord r v) f) → T (bit (signWord wanted v) f)
+  pub says : OfPlans from kids order rows size n (λ p. Child p n c → Child p n d → (v : Bool) (f : ℕ) → f < 64
+      → Says (signWord r v) f (T (bit (signWord wanted v) f) × Pair p n f v c d))
+
+-- no wanted literal is one that c requires, or that may be its external precondition
+pub record NoneRequired (rows : List ℕ) (wanted : Literals) (c : ℕ) : Type 0 where
+  pub none : (v : Bool) (f : ℕ) → f < 64 → T (bit (signWord wanted v) f)
+      → ¬ (T (bit (wordAt rows c (indexOf (requires v))) f) ⊎ T (bit (wordAt rows c (indexOf (may-pre v))) f))
+
+-- where the pairs with c begin: at the start, or at the end if none is required
+abbrev pub FirstPartner : List ℕ → Literals → ℕ → ℕ → ℕ → ℕ → Type 0
+FirstPartner rows wanted c start end r = (r ≡ start) ⊎ ((r ≡ end) × NoneRequired rows wanted c)

@@ -1,0 +1,98 @@
+// The literals that a pair of children of an all-of group may clobber: for all flags at once, from the rows of the children.
+ghost use Prim.Native.Nat.{_<_};
+ghost use lib.ListN.{getD};
+ghost use Rattle.marks_row.specs.Tables.{Position, Shaped};
+ghost use Rattle.marks_pair.specs.Pairs.{PairWord, PairWords, FirstPartner};
+use marks_between::passing;
+use marks_row::wide;
+use marks_row::word_at;
+use marks_siblings::apart;
+
+// The first word of some columns; there is a word for each sign, clear and set.
+const MAY_PRE: usize = 5;
+
+const MAY_POST: usize = 7;
+
+const REQUIRES: usize = 11;
+
+const ASSERTS: usize = 13;
+
+// Literals: the flags wanted clear, the flags wanted set.
+pub struct Literals {
+    pub clear: u64,
+    pub set: u64,
+}
+
+// The wanted flags of one sign that the child c and the child at j clobber.
+fn pair_word(
+    from: &[u8; 129],
+    kids: &[u8; 128],
+    order: &[u8; 16384],
+    rows: &[u64; 2688],
+    n: usize,
+    node: usize,
+    sign: usize,
+    wanted: u64,
+    c: usize,
+    j: usize,
+) -> u64
+    requires { ⌜ ((Shaped (now from) (now kids) n × (node < n)) × (sign < 2)) × ((c < n) × Position (now from) node j) ⌝ }
+    ensures { λ r. ⌜ PairWord (now (from .entry)) (now (kids .entry)) (now (order .entry)) (now (rows .entry)) n node sign wanted c (getD (now (kids .entry)) j 0) r ⌝ }
+{
+    let d = wide(kids[j]);
+    if order[d * 128 + c] == 1 {
+        let passed = word_at(rows, d, MAY_POST + (1 - sign)) & word_at(rows, c, MAY_PRE + sign);
+        let shared = wanted & passed;
+        if shared == 0 {
+            return 0;
+        }
+        return passing(from, kids, order, rows, n, node, false, shared, c, j);
+    }
+    if apart(order, c, d) {
+        return wanted
+            & (word_at(rows, c, REQUIRES + sign) & word_at(rows, d, ASSERTS + (1 - sign)));
+    }
+    0
+}
+
+// The wanted literals that the child c and the child at j clobber.
+pub fn pair_words(
+    from: &[u8; 129],
+    kids: &[u8; 128],
+    order: &[u8; 16384],
+    rows: &[u64; 2688],
+    n: usize,
+    node: usize,
+    wanted: Literals,
+    c: usize,
+    j: usize,
+) -> Literals
+    requires { ⌜ (Shaped (now from) (now kids) n × (node < n)) × ((c < n) × Position (now from) node j) ⌝ }
+    ensures { λ r. ⌜ PairWords (now (from .entry)) (now (kids .entry)) (now (order .entry)) (now (rows .entry)) n node wanted c (getD (now (kids .entry)) j 0) r ⌝ }
+{
+    let clear = pair_word(from, kids, order, rows, n, node, 0, wanted.clear, c, j);
+    let set = pair_word(from, kids, order, rows, n, node, 1, wanted.set, c, j);
+    Literals {
+        clear: clear,
+        set: set,
+    }
+}
+
+// The position of the first child to pair with c: past them all, if c requires no wanted literal.
+pub fn first_partner(
+    rows: &[u64; 2688],
+    wanted: Literals,
+    c: usize,
+    start: usize,
+    end: usize,
+) -> usize
+    requires { ⌜ c < 128 ⌝ }
+    ensures { λ r. ⌜ FirstPartner (now (rows .entry)) wanted c start end r ⌝ }
+{
+    let clear = word_at(rows, c, REQUIRES) | word_at(rows, c, MAY_PRE);
+    let set = word_at(rows, c, REQUIRES + 1) | word_at(rows, c, MAY_PRE + 1);
+    if ((wanted.clear & clear) | (wanted.set & set)) == 0 {
+        return end;
+    }
+    start
+}

@@ -1,0 +1,97 @@
+-- The words that are worked out of a task's conditions say its facts. Assumes nothing.
+use mathlib.Core.Path.{_≡_, refl, ap, _∙_}
+use mathlib.Core.Logic.{Iff·trans, Iff·symm}
+use mathlib.Core.Bool.{Bool, true, false}
+use mathlib.Core.Option.{none, some}
+use mathlib.Core.List.{List, [], _∷_}
+use Prim.Native.Nat.{ℕ, _+_, _*_, _<_}
+use native.Mathlib.Omega.{arith}
+use lib.Bits.{bitAnd, bitOr, bitXor}
+use lib.ListN.{getD}
+use Rattle.base.specs.Bits.{ones, Says}
+use Rattle.base.proofs.Says.{says-map, says-eq, says-or, says-less, says-neither, says-none}
+use Rattle.runs.specs.Plan.{Place, pre, inc, post, Plan, placeNumber, signNumber}
+use Rattle.runs.proofs.Summary.Clobber.{clobber-task}
+use Rattle.runs.proofs.Summary.ReflectClobber.{must-clobber-task}
+use Rattle.marks_row.specs.declared.Literal.{Literal}
+use Rattle.marks_row.specs.Columns.{Column, avoid, quiet, covered, may-pre, may-post, may-inc, requires, asserts, may-clobber, must-inc, must-clobber}
+use Rattle.marks_row.specs.Columns.{indexOf, Fact, Row}
+use Rattle.marks_row.specs.Tasks.{Task, LiteralSays}
+use Rattle.marks_row.proofs.Task.{no-sign, a-sign, avoid-task, quiet-is, covered-is, may-pre-is, may-post-is, may-inc-is, must-inc-is, with-is}
+
+-- the row of a task
+abbrev pub rowOf : ℕ → Literal → Literal → List ℕ
+rowOf x c d =
+    x ∷ c .quiet ∷ d .quiet ∷ c .covered ∷ d .covered ∷ c .pre ∷ d .pre ∷ c .post ∷ d .post ∷ c .inc ∷ d .inc ∷ c .«pre_or_inc» ∷ d .«pre_or_inc»
+    ∷ c .«inc_or_post» ∷ d .«inc_or_post» ∷ 0 ∷ 0 ∷ c .inc ∷ d .inc ∷ 0 ∷ 0 ∷ []
+
+module _ {conds : List ℕ} {n : ℕ} {p : Plan} (t : Task conds n p) where
+  -- a word read from the table of conditions
+  word : (k : Place) (v : Bool) (i x f : ℕ) → i ≡ 2 * placeNumber k + signNumber v → x ≡ getD conds (n * 6 + i) 0 → f < 64 → Says x f (p .cond .sign k n f ≡ some v)
+  word k v i x f e q l = says-eq (q ∙ ap (λ (j : ℕ). getD conds (n * 6 + j) 0) e) (t .conditions .says n (t .node) (t .is-task) k v f l)
+
+  module _ (a b : ℕ) (qa : a ≡ getD conds (n * 6 + 4) 0) (qb : b ≡ getD conds (n * 6 + 5) 0) where
+    asserted : (f : ℕ) → f < 64 → Says (bitOr a b) f (¬ (p .cond .sign post n f ≡ none))
+    asserted f l = says-map (a-sign _) (says-or {x = a} {y = b} refl (word post false 4 a f refl qa l) (word post true 5 b f refl qb l))
+
+    silent : (f : ℕ) → f < 64 → Says (bitXor (bitOr a b) ones) f (p .cond .sign post n f ≡ none)
+    silent f l = says-map (no-sign _) (says-neither {x = a} {y = b} l refl (word post false 4 a f refl qa l) (word post true 5 b f refl qb l))
+
+    pub literal-says : (v : Bool) (s x y z : ℕ) → s ≡ signNumber v → x ≡ getD conds (n * 6 + s) 0 → y ≡ getD conds (n * 6 + (2 + s)) 0
+        → z ≡ getD conds (n * 6 + (4 + s)) 0 → LiteralSays p n v (record {
+          quiet = bitXor (bitXor (bitOr a b) ones) (bitAnd (bitXor (bitOr a b) ones) x);
+          covered = bitXor (bitOr a b) (bitAnd (bitOr a b) x);
+          pre = x;
+          post = z;
+          inc = y;
+          «pre_or_inc» = bitOr x y;
+          «inc_or_post» = bitOr y z;
+        })
+    literal-says v s x y z e qx qy qz = record {
+      quiet = λ f l. says-map (quiet-is p (t .well-formed) (t .is-task) f v) (says-less {x = bitXor (bitOr a b) ones} {y = x} refl (silent f l) (is-pre f l));
+      covered = λ f l. says-map (covered-is p (t .well-formed) (t .is-task) f v) (says-less {x = bitOr a b} {y = x} refl (asserted f l) (is-pre f l));
+      pre = λ f l. says-map (may-pre-is p (t .well-formed) (t .is-task) f v) (is-pre f l);
+      post = λ f l. says-map (may-post-is p (t .well-formed) (t .is-task) f v) (is-post f l);
+      inc = λ f l. says-map (may-inc-is p (t .well-formed) (t .is-task) f v) (is-inc f l);
+      pre-or-inc = λ f l. says-map (with-is p (t .well-formed) (t .is-task) f v pre inc) (says-or {x = x} {y = y} refl (is-pre f l) (is-inc f l));
+      inc-or-post = λ f l. says-map (with-is p (t .well-formed) (t .is-task) f v inc post) (says-or {x = y} {y = z} refl (is-inc f l) (is-post f l));
+    }
+      where
+        is-pre : (f : ℕ) → f < 64 → Says x f (p .cond .sign pre n f ≡ some v)
+        is-pre f l = word pre v s x f (omega (arith, e)) qx l
+
+        is-inc : (f : ℕ) → f < 64 → Says y f (p .cond .sign inc n f ≡ some v)
+        is-inc f l = word inc v (2 + s) y f (omega (arith, e)) qy l
+
+        is-post : (f : ℕ) → f < 64 → Says z f (p .cond .sign post n f ≡ some v)
+        is-post f l = word post v (4 + s) z f (omega (arith, e)) qz l
+
+    pub task-row : (c d : Literal) → LiteralSays p n false c → LiteralSays p n true d → Row p n (rowOf (bitXor (bitOr a b) ones) c d)
+    task-row c d x y = record { says = at }
+      where
+        -- must incondition is may incondition
+        must : (v : Bool) (z f : ℕ) → Says z f (Fact p n f (may-inc v)) → Says z f (Fact p n f (must-inc v))
+        must v z f s = says-map (Iff·trans (Iff·symm (may-inc-is p (t .well-formed) (t .is-task) f v)) (must-inc-is p (t .well-formed) (t .is-task) f v)) s
+
+        at : (col : Column) (f : ℕ) → f < 64 → Says (getD (rowOf (bitXor (bitOr a b) ones) c d) (indexOf col) 0) f (Fact p n f col)
+        at avoid f l = says-map (avoid-task p (t .well-formed) (t .is-task) f) (silent f l)
+        at (quiet false) f l = x .quiet f l
+        at (quiet true) f l = y .quiet f l
+        at (covered false) f l = x .covered f l
+        at (covered true) f l = y .covered f l
+        at (may-pre false) f l = x .pre f l
+        at (may-pre true) f l = y .pre f l
+        at (may-post false) f l = x .post f l
+        at (may-post true) f l = y .post f l
+        at (may-inc false) f l = x .inc f l
+        at (may-inc true) f l = y .inc f l
+        at (requires false) f l = x .pre-or-inc f l
+        at (requires true) f l = y .pre-or-inc f l
+        at (asserts false) f l = x .inc-or-post f l
+        at (asserts true) f l = y .inc-or-post f l
+        at (may-clobber false) f l = says-none refl (clobber-task p (t .well-formed) f false (t .is-task))
+        at (may-clobber true) f l = says-none refl (clobber-task p (t .well-formed) f true (t .is-task))
+        at (must-inc false) f l = must false (c .inc) f (x .inc f l)
+        at (must-inc true) f l = must true (d .inc) f (y .inc f l)
+        at (must-clobber false) f l = says-none refl (must-clobber-task p (t .well-formed) f false (t .is-task))
+        at (must-clobber true) f l = says-none refl (must-clobber-task p (t .well-formed) f true (t .is-task))

@@ -1,0 +1,58 @@
+-- Tables of a plan, as lists of numbers, and what it means that they represent a plan. Definitions only.
+use mathlib.Core.Path.{_≡_}
+use mathlib.Core.Logic.{_↔_}
+use mathlib.Core.Bool.{Bool}
+use mathlib.Core.Option.{some}
+use mathlib.Core.List.{List}
+use Prim.Native.Nat.{ℕ, _+_, _*_, _≤_, _<_}
+use lib.ListN.{getD}
+use Rattle.base.specs.Bits.{Says}
+use Rattle.runs.specs.Plan.{task, Place, Plan, Node, Child, Before, kindNumber, placeNumber, signNumber}
+
+-- i is a position of the segment of g
+pub record Position (from : List ℕ) (g i : ℕ) : Type 0 where
+  pub low : getD from g 0 ≤ i
+  pub high : i < getD from (g + 1) 0
+
+-- c is listed in the segment of g
+pub record Listed (from kids : List ℕ) (g c : ℕ) : Type 0 where
+  pub at : ℕ
+  pub position : Position from g at
+  pub is : getD kids at 0 ≡ c
+
+-- the word of a task's conditions at a place and with a sign
+abbrev pub condition : List ℕ → ℕ → Place → Bool → ℕ
+condition conds t k v = getD conds (t * 6 + (2 * placeNumber k + signNumber v)) 0
+
+-- the code of a and b: 1 where a stands before b, 2 where a stands after b
+abbrev pub code : List ℕ → ℕ → ℕ → ℕ
+code order a b = getD order (a * 128 + b) 0
+
+-- What the functions ask of the tables so that no index is out of range and each recursion ends: a node is a lower number than its children.
+pub record Shaped (from kids : List ℕ) (n : ℕ) : Type 0 where
+  pub small : n ≤ 128
+  pub starts : (g : ℕ) → g < n → getD from g 0 ≤ getD from (g + 1) 0
+  pub ends : (g : ℕ) → g < n → getD from (g + 1) 0 ≤ 128
+  pub rises : (g i : ℕ) → g < n → Position from g i → (g < getD kids i 0) × (getD kids i 0 < n)
+
+pub record RepresentsKinds (kind : List ℕ) (p : Plan) : Type 0 where
+  pub is : (i : ℕ) → Node p i → getD kind i 0 ≡ kindNumber (p .tree .kind i)
+
+pub record RepresentsTree (from kids : List ℕ) (n : ℕ) (p : Plan) : Type 0 where
+  pub size : p .tree .size ≡ n
+  pub children : (g c : ℕ) → Node p g → Child p g c ↔ Listed from kids g c
+
+pub record RepresentsOrder (order : List ℕ) (p : Plan) : Type 0 where
+  pub before : (a b : ℕ) → Node p a → Node p b → (code order a b ≡ 1) ↔ Before p a b
+  pub after : (a b : ℕ) → Node p a → Node p b → (code order a b ≡ 2) ↔ Before p b a
+
+-- bit f of a task's word says whether it has the literal at the place
+pub record RepresentsConditions (conds : List ℕ) (p : Plan) : Type 0 where
+  pub says : (t : ℕ) → Node p t → p .tree .kind t ≡ task → (k : Place) (v : Bool) (f : ℕ) → f < 64
+      → Says (condition conds t k v) f (p .cond .sign k t f ≡ some v)
+
+pub record Represents (kind from kids order conds : List ℕ) (n : ℕ) (p : Plan) : Type 0 where
+  pub kinds : RepresentsKinds kind p
+  pub tree : RepresentsTree from kids n p
+  pub orders : RepresentsOrder order p
+  pub conditions : RepresentsConditions conds p

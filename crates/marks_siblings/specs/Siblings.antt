@@ -1,0 +1,47 @@
+-- What the siblings of a child in an all-of group allow, as words. Definitions only.
+use mathlib.Core.Path.{_≡_}
+use mathlib.Core.Logic.{_≢_, _⊎_}
+use mathlib.Core.Bool.{true, false}
+use mathlib.Core.List.{List}
+use Prim.Native.Nat.{ℕ, _<_}
+use lib.Dec.{T}
+use Rattle.base.specs.Bits.{bit, Says}
+use Rattle.runs.specs.Plan.{Plan, Child, Before, Unordered}
+use Rattle.runs.specs.Summary.{Silent}
+use Rattle.marks_siblings.specs.declared.Siblings.{Siblings}
+use Rattle.marks_row.specs.Tables.{code, RepresentsOrder}
+use Rattle.marks_row.specs.Columns.{avoid, quiet, Fact, wordAt}
+use Rattle.marks_siblings.specs.Group.{Group}
+
+-- by the table, a and b are unordered
+pub record Apart (order : List ℕ) (a b : ℕ) : Type 0 where
+  pub not-before : code order a b ≢ 1
+  pub not-after : code order a b ≢ 2
+  pub distinct : a ≢ b
+
+-- bit f of r is set if that of w is and, where C holds, A does
+pub record Narrows (w r : ℕ) (C : Type 0) (A : ℕ → Type 0) : Type 0 where
+  pub says : (f : ℕ) → f < 64 → Says r f (T (bit w f) × (C → A f))
+
+-- the words r are the words s with one sibling more
+pub record Limits (order rows : List ℕ) (child sibling : ℕ) (s r : Siblings) : Type 0 where
+  pub avoid-before : Narrows (s .«avoid_before») (r .«avoid_before») (code order sibling child ≡ 1) (λ f. T (bit (wordAt rows sibling 0) f))
+  pub clear-before : Narrows (s .«clear_before») (r .«clear_before») (code order sibling child ≡ 1) (λ f. T (bit (wordAt rows sibling 1) f))
+  pub set-before : Narrows (s .«set_before») (r .«set_before») (code order sibling child ≡ 1) (λ f. T (bit (wordAt rows sibling 2) f))
+  pub avoid-after : Narrows (s .«avoid_after») (r .«avoid_after») (code order sibling child ≡ 2) (λ f. T (bit (wordAt rows sibling 0) f))
+  pub silent-apart : Narrows (s .«silent_apart») (r .«silent_apart») (Apart order sibling child)
+      (λ f. ¬ (T (bit (wordAt rows sibling 13) f) ⊎ T (bit (wordAt rows sibling 14) f)))
+
+-- What the words say of the siblings of c, all of them or some: E Q is 'each of them has Q'. Those before c avoid the flag, are quiet for its literals;
+-- those after c avoid the flag; those unordered with c are silent.
+pub record SiblingWords (p : Plan) (c : ℕ) (E : (ℕ → Type 0) → Type 0) (s : Siblings) : Type 0 where
+  pub avoid-before : (f : ℕ) → f < 64 → Says (s .«avoid_before») f (E (λ b. Before p b c → Fact p b f avoid))
+  pub clear-before : (f : ℕ) → f < 64 → Says (s .«clear_before») f (E (λ b. Before p b c → Fact p b f (quiet false)))
+  pub set-before : (f : ℕ) → f < 64 → Says (s .«set_before») f (E (λ b. Before p b c → Fact p b f (quiet true)))
+  pub avoid-after : (f : ℕ) → f < 64 → Says (s .«avoid_after») f (E (λ b. Before p c b → Fact p b f avoid))
+  pub silent-apart : (f : ℕ) → f < 64 → Says (s .«silent_apart») f (E (λ b. Unordered p b c → Silent p f b))
+
+-- for every plan that the tables represent: what the words say of all siblings of the child c of n
+abbrev pub SiblingsOf : List ℕ → List ℕ → List ℕ → List ℕ → ℕ → ℕ → ℕ → Siblings → Type 0
+SiblingsOf from kids order rows size n c s = (p : Plan) → Group from kids rows size n p → RepresentsOrder order p → Child p n c
+    → SiblingWords p c (λ Q. (b : ℕ) → Child p n b → Q b) s

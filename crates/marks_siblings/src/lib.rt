@@ -1,0 +1,124 @@
+// What the siblings of a child in an all-of group allow: for all flags at once, from their rows.
+ghost use mathlib.Core.Logic.{_↔_};
+ghost use Prim.Native.Nat.{_<_};
+ghost use lib.Dec.{T};
+ghost use Rattle.base.specs.Bits.{bit};
+ghost use Rattle.marks_row.specs.Tables.{Shaped};
+ghost use Rattle.marks_siblings.specs.Siblings.{Apart, Narrows, Limits, SiblingsOf};
+use marks_row::neither;
+use marks_row::wide;
+use marks_row::word_at;
+
+const ALL: u64 = 18446744073709551615;
+
+// The first word of some columns; a column but the first has a word for each sign.
+const AVOID: usize = 0;
+
+const QUIET: usize = 1;
+
+const ASSERTS: usize = 13;
+
+// What the siblings of a child in an all-of group allow: those before it avoid the flag, are quiet for its clear and its set literal; those after it
+// avoid the flag; those unordered with it do not assert the flag.
+pub struct Siblings {
+    pub avoid_before: u64,
+    pub clear_before: u64,
+    pub set_before: u64,
+    pub avoid_after: u64,
+    pub silent_apart: u64,
+}
+
+// a and b are unordered.
+pub fn apart(order: &[u8; 16384], a: usize, b: usize) -> bool
+    requires { ⌜ (a < 128) × (b < 128) ⌝ }
+    ensures { λ r. ⌜ T r ↔ Apart (now (order .entry)) a b ⌝ }
+{
+    let code = order[a * 128 + b];
+    if code == 1 {
+        return false;
+    }
+    if code == 2 {
+        return false;
+    }
+    a != b
+}
+
+// Where it applies, the word with only the flags of the other.
+pub fn narrowed(word: u64, applies: bool, by: u64) -> u64
+    ensures { λ r. ⌜ Narrows word r (T applies) (λ f. T (bit by f)) ⌝ }
+{
+    if applies {
+        return word & by;
+    }
+    word
+}
+
+fn with_sibling(
+    order: &[u8; 16384],
+    rows: &[u64; 2688],
+    child: usize,
+    sibling: usize,
+    s: Siblings,
+) -> Siblings
+    requires { ⌜ (child < 128) × (sibling < 128) ⌝ }
+    ensures { λ r. ⌜ Limits (now (order .entry)) (now (rows .entry)) child sibling s r ⌝ }
+{
+    let stands = order[sibling * 128 + child];
+    if stands == 1 {
+        return Siblings {
+            avoid_before: s.avoid_before & word_at(rows, sibling, AVOID),
+            clear_before: s.clear_before & word_at(rows, sibling, QUIET),
+            set_before: s.set_before & word_at(rows, sibling, QUIET + 1),
+            avoid_after: s.avoid_after,
+            silent_apart: s.silent_apart,
+        };
+    }
+    if stands == 2 {
+        return Siblings {
+            avoid_before: s.avoid_before,
+            clear_before: s.clear_before,
+            set_before: s.set_before,
+            avoid_after: s.avoid_after & word_at(rows, sibling, AVOID),
+            silent_apart: s.silent_apart,
+        };
+    }
+    if sibling == child {
+        return s;
+    }
+    Siblings {
+        avoid_before: s.avoid_before,
+        clear_before: s.clear_before,
+        set_before: s.set_before,
+        avoid_after: s.avoid_after,
+        silent_apart: s.silent_apart & neither(rows, sibling, ASSERTS, ASSERTS + 1),
+    }
+}
+
+// One pass over the siblings of a child of the all-of group.
+pub fn all_siblings(
+    from: &[u8; 129],
+    kids: &[u8; 128],
+    order: &[u8; 16384],
+    rows: &[u64; 2688],
+    n: usize,
+    node: usize,
+    child: usize,
+) -> Siblings
+    requires { ⌜ (Shaped (now from) (now kids) n × (node < n)) × (child < n) ⌝ }
+    ensures { λ r. ⌜ SiblingsOf (now (from .entry)) (now (kids .entry)) (now (order .entry)) (now (rows .entry)) n node child r ⌝ }
+{
+    let mut s = Siblings {
+        avoid_before: ALL,
+        clear_before: ALL,
+        set_before: ALL,
+        avoid_after: ALL,
+        silent_apart: ALL,
+    };
+    let end = wide(from[node + 1]);
+    let mut i = wide(from[node]);
+    while i < end {
+        s = with_sibling(order, rows, child, wide(kids[i]), s);
+        i += 1;
+    }
+    s
+}

@@ -1,0 +1,53 @@
+-- What the pairs of children add to the words of an all-of group. Definitions only.
+use mathlib.Core.Path.{_≡_}
+use mathlib.Core.Logic.{_⊎_}
+use mathlib.Core.List.{List}
+use Prim.Native.Nat.{ℕ, _<_}
+use lib.Bits.{bitOr}
+use lib.ListN.{getD}
+use Rattle.runs.specs.Plan.{all-of, Plan}
+use Rattle.marks_row.specs.Columns.{Column, avoid, quiet, covered, may-pre, may-post, may-inc, requires, asserts, may-clobber, must-inc, must-clobber, indexOf, Row}
+use Rattle.marks_group.specs.Groups.{Within}
+use Rattle.marks_pair.specs.declared.Literals.{Literals}
+use Rattle.marks_between.specs.Passing.{SomePair, OfPlans}
+use Rattle.marks_pair.specs.Pairs.{Pair, signWord}
+use Rattle.marks_must_pairs.specs.MustPairs.{MustPair}
+
+-- for every plan that the tables represent: the row of the all-of group n
+abbrev pub AllOfRow : List ℕ → List ℕ → List ℕ → List ℕ → ℕ → ℕ → List ℕ → Type 0
+AllOfRow from kids order rows size n r = OfPlans from kids order rows size n (λ p. p .tree .kind n ≡ all-of → Row p n r)
+
+-- may clobber: where no child has it, some pair; must clobber: a child has it, or some pair
+abbrev pub Extra : Plan → ℕ → ℕ → Column → Type 0
+Extra p n f avoid = ⊥
+Extra p n f (quiet v) = ⊥
+Extra p n f (covered v) = ⊥
+Extra p n f (may-pre v) = ⊥
+Extra p n f (may-post v) = ⊥
+Extra p n f (may-inc v) = ⊥
+Extra p n f (requires v) = ⊥
+Extra p n f (asserts v) = ⊥
+Extra p n f (may-clobber v) = (¬ Within p n f (may-clobber v)) × SomePair p n (Pair p n f v)
+Extra p n f (must-inc v) = ⊥
+Extra p n f (must-clobber v) = Within p n f (must-clobber v) ⊎ SomePair p n (MustPair p n f v)
+
+-- the words of the two columns
+abbrev pub clobberOf : Literals → Literals → Column → ℕ
+clobberOf may must avoid = 0
+clobberOf may must (quiet v) = 0
+clobberOf may must (covered v) = 0
+clobberOf may must (may-pre v) = 0
+clobberOf may must (may-post v) = 0
+clobberOf may must (may-inc v) = 0
+clobberOf may must (requires v) = 0
+clobberOf may must (asserts v) = 0
+clobberOf may must (may-clobber v) = signWord may v
+clobberOf may must (must-inc v) = 0
+clobberOf may must (must-clobber v) = signWord must v
+
+pub record ClobberWords (may must : Literals) (r : List ℕ) : Type 0 where
+  pub is : (k : Column) → getD r (indexOf k) 0 ≡ clobberOf may must k
+
+-- word by word
+pub record Ored (a b r : List ℕ) : Type 0 where
+  pub is : (k : ℕ) → k < 21 → getD r k 0 ≡ bitOr (getD a k 0) (getD b k 0)

@@ -1,0 +1,38 @@
+-- What the rows hold after a group has been worked out, and after all of the plan has. Definitions only.
+use mathlib.Core.Path.{_≡_}
+use mathlib.Core.List.{List}
+use Prim.Native.Nat.{ℕ, _<_}
+use lib.ListN.{length}
+use Rattle.runs.specs.Plan.{task, Plan, Node, Under, WellFormed}
+use Rattle.marks_row.specs.Tables.{RepresentsKinds, RepresentsTree, RepresentsOrder, RepresentsConditions, Represents}
+use Rattle.marks_row.specs.Columns.{Right}
+
+-- the rows of the tasks are right
+abbrev pub TasksRight : Plan → List ℕ → Type 0
+TasksRight p rows = (t : ℕ) → Node p t → p .tree .kind t ≡ task → Right p rows t
+
+-- a plan that the tables represent, whose tasks' rows are right, and one of its nodes
+pub record Given (kind from kids order rows : List ℕ) (n node : ℕ) (p : Plan) : Type 0 where
+  pub well-formed : WellFormed p
+  pub kinds : RepresentsKinds kind p
+  pub tree : RepresentsTree from kids n p
+  pub orders : RepresentsOrder order p
+  pub is-node : Node p node
+  pub tasks : TasksRight p rows
+
+-- for every such plan: what was right is right, and so is the row of each node under this one
+pub record Filled (kind from kids order rows rows' : List ℕ) (n node : ℕ) : Type 0 where
+  pub long : length rows' ≡ 2688
+  pub kept : (p : Plan) → Given kind from kids order rows n node p → (m : ℕ) → Right p rows m → Right p rows' m
+  pub right : (p : Plan) → Given kind from kids order rows n node p → (m : ℕ) → Under p node m → Right p rows' m
+
+-- for every plan that the tables represent, the rows of the tasks
+pub record TasksFilled (kind conds rows : List ℕ) (n : ℕ) : Type 0 where
+  pub long : length rows ≡ 2688
+  pub right : (p : Plan) → WellFormed p → RepresentsKinds kind p → RepresentsConditions conds p → (t : ℕ) → t < n → Node p t → p .tree .kind t ≡ task
+      → Right p rows t
+
+-- for every plan that the tables represent, the rows of all its nodes
+pub record AllFilled (kind from kids order conds rows : List ℕ) (n : ℕ) : Type 0 where
+  pub long : length rows ≡ 2688
+  pub right : (p : Plan) → WellFormed p → Represents kind from kids order conds n p → (m : ℕ) → Node p m → Right p rows m

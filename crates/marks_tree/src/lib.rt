@@ -1,0 +1,186 @@
+// The rows of a plan's nodes, by functions for all-of and any-of groups that call each other.
+ghost use mathlib.Core.Path.{_≡_};
+ghost use Prim.Native.Nat.{_≤_, _<_};
+ghost use lib.ListN.{length, getD};
+ghost use Rattle.marks_row.specs.Tables.{Shaped};
+ghost use Rattle.marks_tree.specs.Clobbers.{AllOfRow, ClobberWords, Ored};
+ghost use Rattle.marks_tree.specs.Filled.{Filled, TasksFilled, AllFilled};
+use marks_group::all_words;
+use marks_group::any_words;
+use marks_may_pairs::clobbering_pairs;
+use marks_must_pairs::must_pairs;
+use marks_pair::Literals;
+use marks_row::task_words;
+use marks_row::wide;
+use marks_row::write_row;
+
+const ALL: u64 = 18446744073709551615;
+
+// The first word of some columns; there is a word for each sign, clear and set.
+const MAY_CLOBBER: usize = 15;
+
+const MUST_CLOBBER: usize = 19;
+
+// A row with the words of may and must clobber only.
+fn clobber_words(may: Literals, must: Literals) -> [u64; 21]
+    ensures { λ r. ⌜ ClobberWords may must r ⌝ }
+{
+    [
+        0,
+        0,
+        0,
+        0,
+        0,
+        0,
+        0,
+        0,
+        0,
+        0,
+        0,
+        0,
+        0,
+        0,
+        0,
+        may.clear,
+        may.set,
+        0,
+        0,
+        must.clear,
+        must.set,
+    ]
+}
+
+fn ored(a: [u64; 21], b: [u64; 21]) -> [u64; 21]
+    ensures { λ r. ⌜ Ored a b r ⌝ }
+{
+    let mut out = a;
+    let mut k = 0;
+    while k < 21 {
+        out[k] = a[k] | b[k];
+        k += 1;
+    }
+    out
+}
+
+// The row of an all-of group, from the rows of its children.
+fn all_row(
+    from: &[u8; 129],
+    kids: &[u8; 128],
+    order: &[u8; 16384],
+    rows: &[u64; 2688],
+    n: usize,
+    node: usize,
+) -> [u64; 21]
+    requires { ⌜ Shaped (now from) (now kids) n × (node < n) ⌝ }
+    ensures { λ r. ⌜ AllOfRow (now (from .entry)) (now (kids .entry)) (now (order .entry)) (now (rows .entry)) n node r ⌝ }
+{
+    let words = all_words(from, kids, order, rows, n, node);
+    let wanted = Literals {
+        clear: words[MAY_CLOBBER] ^ ALL,
+        set: words[MAY_CLOBBER + 1] ^ ALL,
+    };
+    let may = clobbering_pairs(from, kids, order, rows, n, node, wanted);
+    let clear = must_pairs(from, kids, order, rows, n, node, 0, words[MUST_CLOBBER]);
+    let set = must_pairs(from, kids, order, rows, n, node, 1, words[MUST_CLOBBER + 1]);
+    let must = Literals {
+        clear: clear,
+        set: set,
+    };
+    let clobbers = clobber_words(may, must);
+    ored(words, clobbers)
+}
+
+// Works out the rows of an all-of group and of all under it, those of the tasks excepted.
+fn all_of(
+    kind: &[u8; 128],
+    from: &[u8; 129],
+    kids: &[u8; 128],
+    order: &[u8; 16384],
+    rows: &mut [u64; 2688],
+    n: usize,
+    node: usize,
+)
+    requires { ⌜ (Shaped (now from) (now kids) n × (node < n)) × ((length (now rows) ≡ 2688) × (getD (now kind) node 0 ≡ 1)) ⌝ }
+    ensures { λ r. ⌜ Filled (now (kind .entry)) (now (from .entry)) (now (kids .entry)) (now (order .entry)) (now (rows .entry)) (now (rows .exit)) n node ⌝ }
+{
+    let end = wide(from[node + 1]);
+    let mut i = wide(from[node]);
+    while i < end {
+        let child = wide(kids[i]);
+        let k = kind[child];
+        if k == 1 {
+            all_of(kind, from, kids, order, rows, n, child);
+        } else if k == 2 {
+            any_of(kind, from, kids, order, rows, n, child);
+        }
+        i += 1;
+    }
+    let words = all_row(from, kids, order, rows, n, node);
+    write_row(rows, node, words);
+}
+
+// Works out the rows of an any-of group and of all under it, those of the tasks excepted.
+fn any_of(
+    kind: &[u8; 128],
+    from: &[u8; 129],
+    kids: &[u8; 128],
+    order: &[u8; 16384],
+    rows: &mut [u64; 2688],
+    n: usize,
+    node: usize,
+)
+    requires { ⌜ (Shaped (now from) (now kids) n × (node < n)) × ((length (now rows) ≡ 2688) × (getD (now kind) node 0 ≡ 2)) ⌝ }
+    ensures { λ r. ⌜ Filled (now (kind .entry)) (now (from .entry)) (now (kids .entry)) (now (order .entry)) (now (rows .entry)) (now (rows .exit)) n node ⌝ }
+{
+    let end = wide(from[node + 1]);
+    let mut i = wide(from[node]);
+    while i < end {
+        let child = wide(kids[i]);
+        let k = kind[child];
+        if k == 1 {
+            all_of(kind, from, kids, order, rows, n, child);
+        } else if k == 2 {
+            any_of(kind, from, kids, order, rows, n, child);
+        }
+        i += 1;
+    }
+    let words = any_words(from, kids, rows, n, node);
+    write_row(rows, node, words);
+}
+
+// Works out the rows of the tasks.
+fn task_rows(kind: &[u8; 128], conds: &[u64; 768], rows: &mut [u64; 2688], n: usize)
+    requires { ⌜ (n ≤ 128) × (length (now rows) ≡ 2688) ⌝ }
+    ensures { λ r. ⌜ TasksFilled (now (kind .entry)) (now (conds .entry)) (now (rows .exit)) n ⌝ }
+{
+    let mut i = 0;
+    while i < n {
+        if kind[i] == 0 {
+            let words = task_words(conds, i);
+            write_row(rows, i, words);
+        }
+        i += 1;
+    }
+}
+
+// Works out the rows of all nodes: those of the tasks, then those of the groups from the root down.
+pub fn node_rows(
+    kind: &[u8; 128],
+    from: &[u8; 129],
+    kids: &[u8; 128],
+    order: &[u8; 16384],
+    conds: &[u64; 768],
+    rows: &mut [u64; 2688],
+    n: usize,
+)
+    requires { ⌜ (Shaped (now from) (now kids) n × (0 < n)) × (length (now rows) ≡ 2688) ⌝ }
+    ensures { λ r. ⌜ AllFilled (now (kind .entry)) (now (from .entry)) (now (kids .entry)) (now (order .entry)) (now (conds .entry)) (now (rows .exit)) n ⌝ }
+{
+    task_rows(kind, conds, rows, n);
+    let root = kind[0];
+    if root == 1 {
+        all_of(kind, from, kids, order, rows, n, 0);
+    } else if root == 2 {
+        any_of(kind, from, kids, order, rows, n, 0);
+    }
+}

@@ -1,0 +1,63 @@
+// The marks of a node as words over the flags, and the literals that fail at the root.
+ghost use mathlib.Core.Path.{_≡_};
+ghost use Prim.Native.Nat.{_<_};
+ghost use lib.ListN.{getD};
+ghost use Rattle.marks_words.specs.Words.{firstWords, WordIs, WordsAre, FailsWord};
+use marks_row::must_post;
+use marks_row::must_pre;
+use marks_row::word_at;
+
+// The marks that are worked out from two columns.
+const MUST_PRE: usize = 1;
+
+const MUST_POST: usize = 3;
+
+// The first word of a mark's column; there is a word for each sign, clear and set.
+fn column(mark: usize) -> usize
+    requires { ⌜ mark < 8 ⌝ }
+    ensures { λ r. ⌜ r ≡ getD firstWords mark 0 ⌝ }
+{
+    let columns = [5usize, 0, 7, 0, 9, 17, 15, 19];
+    columns[mark]
+}
+
+// The word of a node for one sign and one mark: k is mark + 8 * sign.
+fn mark_word(rows: &[u64; 2688], node: usize, k: usize) -> u64
+    requires { ⌜ (node < 128) × (k < 16) ⌝ }
+    ensures { λ r. ⌜ WordIs (now (rows .entry)) node k r ⌝ }
+{
+    let sign = k / 8;
+    let mark = k % 8;
+    if mark == MUST_PRE {
+        return must_pre(rows, node, sign);
+    }
+    if mark == MUST_POST {
+        return must_post(rows, node, sign);
+    }
+    word_at(rows, node, column(mark) + sign)
+}
+
+// The sixteen words of a node.
+pub fn mark_words(rows: &[u64; 2688], node: usize) -> [u64; 16]
+    requires { ⌜ node < 128 ⌝ }
+    ensures { λ r. ⌜ WordsAre (now (rows .entry)) node r ⌝ }
+{
+    let mut words = [0u64; 16];
+    let mut k = 0;
+    while k < 16 {
+        words[k] = mark_word(rows, node, k);
+        k += 1;
+    }
+    words
+}
+
+// The flags with a literal that has one mark, or is false at the start and has the other.
+pub fn failing(words: &[u64; 16], start: u64, mark: usize, other: usize) -> u64
+    requires { ⌜ (mark < 8) × (other < 8) ⌝ }
+    ensures { λ r. ⌜ FailsWord (now (words .entry)) start mark other r ⌝ }
+{
+    let marked = words[mark] | words[mark + 8];
+    let clear = words[other] & start;
+    let set = words[other + 8] ^ (words[other + 8] & start);
+    marked | (clear | set)
+}

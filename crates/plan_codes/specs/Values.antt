@@ -1,0 +1,50 @@
+-- The value of a condition: flag + 64 × sign + 128 × place.
+use Prim.Native.Nat.{ℕ, _+_, _*_, _/_, _%_}
+use mathlib.Core.Bool.{Bool, cond, _||_}
+use lib.Dec.{eqb, leb, ltb}
+use Rattle.plan_codes.specs.declared.value.Place.{Place}
+use Rattle.plan_codes.specs.declared.value.Place.the-variants.{Pre, Inc, Post}
+use Rattle.plan_codes.specs.declared.value.Sign.{Sign}
+use Rattle.plan_codes.specs.declared.value.Sign.the-variants.{Clear, Set}
+use Rattle.plan_codes.specs.declared.value.Condition.{Condition}
+use Rattle.plan_codes.specs.declared.value.Parsed.{Parsed}
+use Rattle.plan_codes.specs.declared.value.Parsed.the-variants as parsed
+
+-- the three parts of a value, as 01's numbers
+unfoldable pub flagOf : ℕ → ℕ
+flagOf v = v % 64
+
+unfoldable pub signOf : ℕ → ℕ
+signOf v = v / 64 % 2
+
+unfoldable pub placeOf : ℕ → ℕ
+placeOf v = v / 128
+
+-- 01's numbers of the enums' cases
+abbrev pub placeNum : Place → ℕ
+placeNum Pre = 0
+placeNum Inc = 1
+placeNum Post = 2
+
+abbrev pub signNum : Sign → ℕ
+signNum Clear = 0
+signNum Set = 1
+
+abbrev pub valueNum : Condition → ℕ
+valueNum c = c .flag + 64 * signNum (c .sign) + 128 * placeNum (c .place)
+
+-- and the cases of these numbers
+abbrev pub placeAt : ℕ → Place
+placeAt p = cond (eqb p 0) Pre (cond (eqb p 1) Inc Post)
+
+abbrev pub signAt : ℕ → Sign
+signAt s = cond (eqb s 0) Clear Set
+
+-- what a value says; over 383 it is refused
+unfoldable pub parsedOf : ℕ → Parsed
+parsedOf v =
+    cond (leb v 383) (parsed.Accepted (record { place = placeAt (placeOf v); sign = signAt (signOf v); flag = flagOf v })) parsed.Refused
+
+-- the value is over 383, or its flag is none of the first `flags`
+unfoldable pub valueBad : ℕ → ℕ → Bool
+valueBad v flags = ltb 383 v || leb flags (flagOf v)

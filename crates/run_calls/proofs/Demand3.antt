@@ -1,0 +1,70 @@
+-- Demand 3 over bytes holds of every accepted plan. Assumes nothing.
+use mathlib.Core.Path.{_≡_, refl, ap}
+use mathlib.Core.Logic.{_≢_}
+use mathlib.Core.List.{List}
+use Prim.Native.Nat.{ℕ, _+_}
+use native.Mathlib.Omega.{arith}
+use lib.ListN.{replicate, length-replicate}
+use Rattle.plan_format.specs.Format.{nodeCount}
+use Rattle.plan_rules.specs.Rules.{refusal}
+use Rattle.plan_check.specs.Meaning.{planOf, startOf}
+use Rattle.plan_check.proofs.Meaning.{means-well-formed}
+use Rattle.runs.specs.Verdict.{Verdict, CLEAR, DOOMED, OPEN}
+use Rattle.runs.specs.Model.Verdicts.{verdict}
+use Rattle.verdict.specs.declared.Verdict.the-variants.{Clear, Doomed, Open}
+use Rattle.verdict.specs.declared.Answer.{Answer}
+use Rattle.verdict.specs.declared.Answer.the-variants.{Judged as Given}
+use Rattle.verdict.specs.Verdict.{Assessed}
+use Rattle.verdict.proofs.Judging.{assessed}
+use Rattle.runs.specs.Calls.{Call, World, fresh, Worked, Among}
+use Rattle.runs.specs.Demand3 as plans
+use Rattle.runs.proofs.Calls.Demand3 as proved
+use Rattle.run_state.specs.State.{worldOf}
+use Rattle.run_calls.specs.Lists.{Listed}
+use Rattle.run_calls.specs.Demand3.{Bytes, Demand3Of, Demand3}
+use Rattle.run_calls.proofs.Followed.{list-follows, list-made, list-each}
+
+module _ (b : List ℕ) (h : Bytes b) (acc : refusal b ≡ 0) where
+  on-plans : plans.Demand3 (planOf b) (startOf b)
+  on-plans = proved.demand3 (planOf b) (means-well-formed b acc) (startOf b)
+
+  abbrev Never : Type 0
+  Never = (s : List ℕ) (cs : List Call) (rs z : List ℕ) → Listed b s cs rs z → (n : ℕ) → Among n rs → (n ≢ 21) × (n ≢ 22)
+
+  -- the states worked out are those of some list of calls that was made
+  never-worked : Never → (cs : List Call) (ns : List ℕ) (a : World) → Worked (planOf b) (fresh (startOf b)) cs ns a → (n : ℕ) → Among n ns → (n ≢ 21) × (n ≢ 22)
+  never-worked g cs ns a w n x =
+      let s : List ℕ = replicate {A = ℕ} (8 + nodeCount b) 0 in
+      let m = list-made b acc s (omega (arith, length-replicate {A = ℕ} (8 + nodeCount b) 0)) cs in
+      let f = list-follows b h s cs (m .0) (m .1) (m .2) in
+      g s cs (m .0) (m .1) (m .2) n (rw (on-plans .unique w (f .worked) .0) at x)
+
+  -- the case of the enum for a verdict
+  assessment : (v : Verdict) → v ≡ verdict (planOf b) (startOf b) → (r : Answer) × Assessed b r
+  assessment CLEAR e = (Given Clear, assessed b Clear acc e)
+  assessment DOOMED e = (Given Doomed, assessed b Doomed acc e)
+  assessment OPEN e = (Given Open, assessed b Open acc e)
+
+  of-plan : Demand3Of b
+  unfolding worldOf
+  of-plan =
+      record {
+        made = list-made b acc;
+        assessed = assessment (verdict (planOf b) (startOf b)) refl;
+        each = list-each b h;
+        follows = list-follows b h;
+        answer = λ r x. let (v, j, u) = on-plans .judged in (v, x .judged acc v .1 j, j, u);
+        clear = λ r x. (
+          λ q s cs rs z l. let f = list-follows b h s cs rs z l in on-plans .clear .0 (x .judged acc CLEAR .0 q) cs rs (f .after) (f .worked),
+          λ g. x .judged acc CLEAR .1 (on-plans .clear .1 (never-worked g)),
+        );
+        doomed = λ r x q s cs rs z l.
+            let f = list-follows b h s cs rs z l in
+            let d = x .judged acc DOOMED .0 q in (
+              λ a w. on-plans .doomed d cs rs a w,
+              λ t k c. on-plans .doomed d cs rs (f .after) (f .worked) (rw (ap (λ (a : World). a .status) (f .shown .states)) at (k .complete .0 c .1)),
+            );
+      }
+
+pub demand3 : Demand3
+demand3 = of-plan

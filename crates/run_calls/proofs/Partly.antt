@@ -1,0 +1,99 @@
+-- The laws of `replay`: a list is made call by call, and the claim about lists holds of what was made. Assumes nothing.
+use mathlib.Core.Path.{_≡_, refl, sym, ap, _∙_}
+use mathlib.Core.Bool.{Bool, false}
+use mathlib.Core.List.{List, [], _∷_, _++_, append-assoc}
+use Prim.Native.Nat.{ℕ, zero, suc, _+_, _<_, _≤_, min}
+use native.Mathlib.Numerals.{add-one}
+use native.Mathlib.Nat.{le-of-suc-le-suc, not-suc-le-zero}
+use native.Mathlib.Omega.{arith}
+use lib.ListN.{length, getD, set, take, drop, length-append, length-drop}
+use lib.Seq.{take-suc, drop-cons, set-at}
+use borrow.Author.Tests.{ne-eqb}
+use Rattle.base.specs.Answers.{overlay}
+use Rattle.plan_format.specs.Format.{nodeCount}
+use Rattle.plan_check.specs.Meaning.{planOf}
+use Rattle.runs.specs.Execution.{Event, start}
+use Rattle.runs.specs.Calls.{Call, one, World}
+use Rattle.runs.specs.Model.Monitor.{returns}
+use Rattle.runs.proofs.Calls.First.{worked-only}
+use Rattle.run_state.specs.Fresh.{Freshened}
+use Rattle.run_state.proofs.Left.{fresh-refused}
+use Rattle.run_state.proofs.Passed.{well-formed}
+use Rattle.run_monitor.specs.Events.{Called}
+use Rattle.run_calls.specs.Shown.{shownByte}
+use Rattle.run_calls.specs.Lists.{Calls, no-calls, next-call, Listed}
+use Rattle.run_calls.specs.Demand3.{Bytes}
+use Rattle.run_calls.specs.Replay.{eventFor, callsOf, listReturns, listState, Ran}
+use Rattle.run_calls.proofs.Followed.{calls-append, list-follows}
+
+-- ---- the calls of the slices
+pub calls-length : (ks : List Bool) (ts out : List ℕ) → length (callsOf ks ts out) ≡ min (length ks) (min (length ts) (length out))
+unfolding callsOf
+calls-length [] ts out = omega arith
+calls-length (k ∷ ks) [] out = omega arith
+calls-length (k ∷ ks) (t ∷ ts) [] = omega arith
+calls-length (k ∷ ks) (t ∷ ts) (x ∷ out) = omega (arith, calls-length ks ts out)
+
+pub calls-at : (ks : List Bool) (ts out : List ℕ) (i : ℕ) → i < length (callsOf ks ts out) → getD (callsOf ks ts out) i (one (start 0)) ≡ one (eventFor (getD ks i false) (getD ts i 0))
+unfolding callsOf
+calls-at [] ts out i l = absurd (not-suc-le-zero l)
+calls-at (k ∷ ks) [] out i l = absurd (not-suc-le-zero l)
+calls-at (k ∷ ks) (t ∷ ts) [] i l = absurd (not-suc-le-zero l)
+calls-at (k ∷ ks) (t ∷ ts) (x ∷ out) zero l = refl
+calls-at (k ∷ ks) (t ∷ ts) (x ∷ out) (suc i) l = calls-at ks ts out i (le-of-suc-le-suc l)
+
+-- ---- one call more
+-- the first i calls are made, from the state that fresh wrote, and their returns are written to out
+pub record Partly (b at-first out : List ℕ) (cs : List Call) (i : ℕ) (s out′ : List ℕ) : Type 0 where
+  pub returned : List ℕ
+  pub long : length returned ≡ i
+  pub called : Calls b at-first (take i cs) returned s
+  pub written : out′ ≡ returned ++ drop i out
+
+pub partly-none : (b s out : List ℕ) (cs : List Call) → Partly b s out cs 0 s out
+partly-none b s out cs = record { returned = []; long = refl; called = no-calls; written = refl }
+
+module _ (b at-first out : List ℕ) (cs : List Call) (i : ℕ) (s out′ : List ℕ) (h : Partly b at-first out cs i s out′) where
+  pub partly-length : i ≤ length out → length out′ ≡ length out
+  partly-length l =
+      let q : length (h .returned ++ drop i out) ≡ i + length (drop i out) = length-append (h .returned) (drop i out) ∙ ap (λ (k : ℕ). k + length (drop i out)) (h .long) in
+      ap length (h .written) ∙ q ∙ omega (arith, length-drop i out)
+
+  pub partly-more : i < length cs → i < length out → (e : Event) (r : ℕ) (s′ : List ℕ) → getD cs i (one (start 0)) ≡ one e → Called b s e r s′ → Partly b at-first out cs (i + 1) s′ (set out′ i r)
+  partly-more l m e r s′ q c =
+      let p : take (suc i) cs ≡ take i cs ++ (one e ∷ []) = take-suc cs i (one (start 0)) l ∙ ap (λ (x : Call). take i cs ++ (x ∷ [])) q in
+      record {
+        returned = h .returned ++ (r ∷ []);
+        long = length-append (h .returned) (r ∷ []) ∙ omega (arith, h .long);
+        called = rw (add-one i, p) (calls-append (h .called) (next-call c no-calls));
+        written =
+            ap (λ (x : List ℕ). set x i r) (h .written ∙ ap (λ (x : List ℕ). h .returned ++ x) (drop-cons out i 0 m))
+            ∙ set-at (h .returned) (getD out i 0) (drop (suc i) out) r i (h .long)
+            ∙ rw (add-one i) (sym (append-assoc (h .returned) (r ∷ []) (drop (suc i) out)));
+      }
+
+-- ---- the whole
+module _ (b s out : List ℕ) (cs : List Call) where
+  pub ran-refused : (r : ℕ) (s′ : List ℕ) → Freshened b s r s′ → (r ≡ 0 → ⊥) → Ran b s out cs r s′ out
+  ran-refused r s′ f n =
+      record {
+        refusal = f .returns;
+        state = f .leaves ∙ sym (fresh-refused b s (λ z. n (f .returns ∙ z))) ∙ rw (ne-eqb r 0 n);
+        written = rw (ne-eqb r 0 n);
+        listed = λ z. absurd (n z);
+        follows = λ z. absurd (n z);
+      }
+
+  pub ran-all : Bytes b → (at-first : List ℕ) → Freshened b s 0 at-first → (rs z : List ℕ) → Calls b at-first cs rs z → (out′ : List ℕ) → out′ ≡ rs ++ drop (length cs) out → Ran b s out cs 0 z out′
+  unfolding listReturns listState
+  ran-all h at-first f rs z c out′ w =
+      let l : Listed b s cs rs z = record { at-first = at-first; freshened = f; called = c } in
+      let g = list-follows b h s cs rs z l in
+      let (p, q) = worked-only (planOf b) (well-formed b z (g .shown .well-formed)) (g .worked) in
+      record {
+        refusal = f .returns;
+        state = g .shown .bytes ∙ ap (λ (a : World). overlay (shownByte a) (8 + nodeCount b) s) q;
+        written = w ∙ ap (λ (x : List ℕ). x ++ drop (length cs) out) p;
+        listed = λ e. rw p at l;
+        follows = λ e. rw p at g;
+      }

@@ -1,0 +1,47 @@
+-- What `replay` returns and leaves: it makes fresh and then a list of calls.
+use Prim.Native.Nat.{ℕ, _+_}
+use mathlib.Core.Path.{_≡_}
+use mathlib.Core.Bool.{Bool, true, false, cond}
+use mathlib.Core.List.{List, [], _∷_, _++_}
+use lib.ListN.{length, drop}
+use lib.Dec.{eqb}
+use Rattle.base.specs.Answers.{overlay}
+use Rattle.plan_format.specs.Format.{nodeCount}
+use Rattle.plan_check.specs.Meaning.{planOf, startOf}
+use Rattle.runs.specs.Execution.{Event, start, finish}
+use Rattle.runs.specs.Calls.{Call, one, fresh}
+use Rattle.runs.specs.Model.Monitor.{returns, states}
+use Rattle.run_state.specs.State.{roomRefusal}
+use Rattle.run_calls.specs.Shown.{shownByte}
+use Rattle.run_calls.specs.Lists.{Listed}
+use Rattle.run_calls.specs.Demand3.{Follows}
+
+abbrev pub eventFor : Bool → ℕ → Event
+eventFor true t = finish t
+eventFor false t = start t
+
+-- the calls that the slices give, as many as all three have: whether it finishes, its task, room for its return
+unfoldable pub callsOf : List Bool → List ℕ → List ℕ → List Call
+callsOf [] ts out = []
+callsOf (k ∷ ks) [] out = []
+callsOf (k ∷ ks) (t ∷ ts) [] = []
+callsOf (k ∷ ks) (t ∷ ts) (x ∷ out) = one (eventFor k t) ∷ callsOf ks ts out
+
+-- from the plan and the calls alone: what the calls return, and the state after them in the bytes s
+unfoldable pub listReturns : List ℕ → List Call → List ℕ
+listReturns b cs = returns (planOf b) (fresh (startOf b)) cs
+
+unfoldable pub listState : List ℕ → List ℕ → List Call → List ℕ
+listState b s cs = overlay (shownByte (states (planOf b) (fresh (startOf b)) cs)) (8 + nodeCount b) s
+
+-- Where fresh refuses, all is as it was. Else the state is the one after the calls cs, the first places of out hold what they returned, and the claim of
+-- demand 3 about lists holds of them.
+pub record Ran (b s out : List ℕ) (cs : List Call) (r : ℕ) (s′ out′ : List ℕ) : Type 0 where
+  pub refusal : r ≡ roomRefusal b s
+  pub state : s′ ≡ cond (eqb r 0) (listState b s cs) s
+  pub written : out′ ≡ cond (eqb r 0) (listReturns b cs ++ drop (length cs) out) out
+  pub listed : r ≡ 0 → Listed b s cs (listReturns b cs) s′
+  pub follows : r ≡ 0 → Follows b s cs (listReturns b cs) s′
+
+abbrev pub Replayed : List ℕ → List Bool → List ℕ → List ℕ → List ℕ → ℕ → List ℕ → List ℕ → Type 0
+Replayed b ks ts s out r s′ out′ = Ran b s out (callsOf ks ts out) r s′ out′

@@ -1,0 +1,16 @@
+-- The bytes of a state that shows given states: eight bytes of flags, then 0 waiting, 1 running or 2 done for each node.
+use Prim.Native.Nat.{ℕ, _+_, _-_, _*_}
+use mathlib.Core.Bool.{Bool, cond}
+use lib.Dec.{ltb}
+use Rattle.runs.specs.Calls.{World, statusByte}
+use Rattle.base.specs.Count.{num}
+
+-- the byte whose bit k is flag 8 i + k
+unfoldable pub flagByte : (ℕ → Bool) → ℕ → ℕ
+flagByte F i =
+    num (F (8 * i + 0)) + 2 * num (F (8 * i + 1)) + 4 * num (F (8 * i + 2)) + 8 * num (F (8 * i + 3))
+    + 16 * num (F (8 * i + 4)) + 32 * num (F (8 * i + 5)) + 64 * num (F (8 * i + 6)) + 128 * num (F (8 * i + 7))
+
+-- byte i
+unfoldable pub shownByte : World → ℕ → ℕ
+shownByte a i = cond (ltb i 8) (flagByte (a .flag) i) (statusByte (a .status (i - 8)))

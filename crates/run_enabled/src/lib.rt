@@ -1,0 +1,98 @@
+// Refusals 19 and 20 of a start: another branch of an any-of group above the task is begun (01: taken); an order's earlier node is not complete.
+use base::no_nodes;
+use plan_format::fields::earlier;
+use plan_format::fields::is_kind;
+use plan_format::fields::later;
+use plan_format::fields::orders;
+use plan_format::fields::parent;
+use plan_rules::tests::wide;
+use run_progress::is_begun;
+use run_progress::is_complete;
+ghost use mathlib.Core.Path.{_≡_};
+ghost use Prim.Native.Nat.{ℕ, _<_};
+ghost use lib.ListN.{length, getD};
+ghost use Rattle.plan_format.specs.Format.{nodeCount, orderCount, parentOf};
+ghost use Rattle.plan_rules.specs.Rules.{refusal};
+ghost use Rattle.plan_rules.specs.Search.{someBelow};
+ghost use Rattle.plan_check.specs.Meaning.{planOf};
+ghost use Rattle.runs.specs.Model.Monitor.{branchBegunB};
+ghost use Rattle.runs.specs.Model.Trees.{underB};
+ghost use Rattle.run_state.specs.State.{stateRefusal, statusIn};
+ghost use Rattle.base.specs.Count.{num};
+ghost use Rattle.run_progress.specs.Progress.{Counted};
+ghost use Rattle.run_progress.specs.declared.Tally.the-variants.{Begun, Ends};
+ghost use Rattle.run_enabled.specs.Enabling.{rivalAt, openAt};
+
+// The parent g of node n is an any-of group, and another branch of it than n is begun.
+fn rival_begun(plan: &[u8], state: &[u8], begun: &[u8; 128], g: usize, n: usize) -> bool
+    requires { ⌜ (0 < n) × ((n < nodeCount (now plan)) × ((g ≡ parentOf (now plan) n) × (stateRefusal (now plan) (now state) ≡ 0))) ⌝ }
+    requires { ⌜ Counted Begun (now plan) (now state) (now begun) ⌝ }
+    ensures { λ r. ⌜ r ≡ rivalAt (now (plan .entry)) (now (state .entry)) g n ⌝ }
+{
+    if is_kind(plan, g, 2) {
+        let own = is_begun(plan, state, begun, n);
+        let count = begun[g];
+        return if own { 1 < count } else { 0 < count };
+    }
+    false
+}
+
+// 19: walks up from the task.
+pub fn branch_begun(plan: &[u8], state: &[u8], begun: &[u8; 128], task: usize) -> bool
+    requires { ⌜ (task < nodeCount (now plan)) × (stateRefusal (now plan) (now state) ≡ 0) ⌝ }
+    requires { ⌜ Counted Begun (now plan) (now state) (now begun) ⌝ }
+    ensures { λ r. ⌜ r ≡ branchBegunB (planOf (now (plan .entry))) (statusIn (now (plan .entry)) (now (state .entry))) task ⌝ }
+{
+    let mut n = task;
+    while 0 < n {
+        let g = wide(parent(plan, n));
+        if rival_begun(plan, state, begun, g, n) {
+            return true;
+        }
+        n = g;
+    }
+    false
+}
+
+// A mark at each node above the task.
+pub fn path(plan: &[u8], task: usize) -> [u8; 128]
+    requires { ⌜ (task < nodeCount (now plan)) × (refusal (now plan) ≡ 0) ⌝ }
+    ensures { λ r. ⌜ (length r ≡ 128) × ((a : ℕ) → a < 128 → getD r a 0 ≡ num (underB (planOf (now (plan .entry))) a task)) ⌝ }
+{
+    let mut marks = no_nodes();
+    let mut n = task;
+    marks[n] = 1;
+    while 0 < n {
+        n = wide(parent(plan, n));
+        marks[n] = 1;
+    }
+    marks
+}
+
+// Order j applies to a task whose path is marked, and its earlier node is not complete.
+fn open_at(plan: &[u8], state: &[u8], ends: &[u8; 128], marks: &[u8; 128], j: usize) -> bool
+    requires { ⌜ (j < orderCount (now plan)) × (stateRefusal (now plan) (now state) ≡ 0) ⌝ }
+    requires { ⌜ Counted Ends (now plan) (now state) (now ends) ⌝ }
+    ensures { λ r. ⌜ r ≡ openAt (now (plan .entry)) (now (state .entry)) (now (marks .entry)) j ⌝ }
+{
+    let a = wide(earlier(plan, j));
+    let z = wide(later(plan, j));
+    (marks[z] == 1) & !is_complete(plan, state, ends, a)
+}
+
+// 20: some order is open.
+pub fn order_open(plan: &[u8], state: &[u8], ends: &[u8; 128], marks: &[u8; 128]) -> bool
+    requires { ⌜ stateRefusal (now plan) (now state) ≡ 0 ⌝ }
+    requires { ⌜ Counted Ends (now plan) (now state) (now ends) ⌝ }
+    ensures { λ r. ⌜ r ≡ someBelow (orderCount (now (plan .entry))) (openAt (now (plan .entry)) (now (state .entry)) (now (marks .entry))) ⌝ }
+{
+    let n = orders(plan);
+    let mut j = 0;
+    while j < n {
+        if open_at(plan, state, ends, marks, j) {
+            return true;
+        }
+        j += 1;
+    }
+    false
+}

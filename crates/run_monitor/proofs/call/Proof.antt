@@ -1,0 +1,50 @@
+-- `call` meets its contract. Assumes nothing.
+use mathlib.Core.Path.{_≡_, sym, _∙_}
+use denote.Ref.{now}
+use Rattle.plan_check.proofs.Meaning.{kind-is}
+use Rattle.run_state.specs.State.{stateRefusal}
+use Rattle.run_refusals.specs.Events.{eventOf, eventRefusal}
+use Rattle.run_refusals.proofs.Chain.{node-of, answer-task}
+use Rattle.run_monitor.proofs.Called.{called-16, called-22, called-0}
+use borrow.Author.Needs.{needs}
+use Rattle.run_monitor.proofs.call.Statement.{statement}
+use Rattle.run_monitor.proofs.call.Tie as tie
+
+passed : (c : tie.Else1) → stateRefusal (now (c .before .before .before .before .before .args .plan)) (now (c .before .before .before .before .before .args .state)) ≡ 0
+passed c = sym (c .before .check-state .ensures) ∙ c .if1 .left
+
+none : (c : tie.Else2) → eventRefusal (now (c .before .before .before .before .before .before .before .before .args .plan)) (now (c .before .before .before .before .before .before .before .before .args .state)) (eventOf (c .before .before .before .before .before .before .before .before .args .m) (c .before .before .before .before .before .before .before .before .args .task)) ≡ 0
+none c = sym (c .before .refused .ensures) ∙ c .if2 .left
+
+returns : tie.Need-returns
+returns c = called-16 _ _ _ _ (c .before .check-state .ensures) (c .if1 .taken)
+
+returns-2 : tie.Need-returns-2
+returns-2 c = called-22 _ _ _ (passed (c .before .before .before)) _ (c .before .refused .ensures) (c .if2 .taken)
+
+write-event-requires : tie.Need-write-event-requires
+write-event-requires c κs =
+    let a = c .before .before .before .before .before .before .before .before .before .before .before .args in
+    let ok = passed (c .before .before .before .before .before .before) in
+    (kind-is _ _ 0 (answer-task _ _ ok (a .task) _ (node-of (a .m) (a .task)) (none (c .before .before .before))) .0, ok)
+
+returns-3 : tie.Need-returns-3
+returns-3 c =
+    let a = c .before .before .before .before .before .before .before .before .before .before .before .before .before .before .args in
+    called-0 _ _ (a .m) (a .task) (passed (c .before .before .before .before .before .before .before .before .before)) (none (c .before .before .before .before .before .before)) _ (c .before .before .before .before .place-of .ensures) _ (c .before .before .before .given .ensures) _ (c .before .before .write-event .ensures)
+
+pub call-spec : {M : Type 1} → statement M
+call-spec =
+    tie.close
+    (tie.spec
+    (λ c κs. tt)
+    (λ c. search needs)
+    returns
+    (λ c κs. passed (c .before))
+    (λ c. search needs)
+    returns-2
+    (λ c κs. tt)
+    (λ c κs. tt)
+    write-event-requires
+    (λ c. search needs)
+    returns-3)

@@ -1,0 +1,29 @@
+-- `write_event` meets its contract. Assumes nothing.
+use Rattle.run_monitor.specs.Events.{withEvent}
+use borrow.Author.Needs.{needs}
+use native.Mathlib.Omega.{arith}
+use Rattle.run_state.proofs.Passed.{has-room}
+use Rattle.run_monitor.proofs.write_event.Statement.{statement}
+use Rattle.run_monitor.proofs.write_event.Tie as tie
+
+add-state : tie.Need-add-state
+add-state c = let s = c .before .before .before .before .before .before .before .before .before in omega (arith, s .pre .0, has-room _ _ (s .pre .1) .plan .fits .limits .nodes)
+
+slice-write-state : tie.Need-slice-write-state
+slice-write-state c = let s = c .before .before .before .before .before .before .before .before .before in let l = s .pre .0 in let r = has-room _ _ (s .pre .1) .room in omega arith
+
+returns : tie.Need-returns
+unfolding withEvent
+returns c = rw (c .before .before .store .ensures, c .before .before .before .before .with-literals .ensures, c .before .before .before .before .before .load .ensures)
+
+pub write-event-spec : {M : Type 1} → statement M
+write-event-spec =
+    tie.close
+    (tie.spec
+    (λ c κs. omega (arith, has-room _ _ (c .before .before .before .pre .1) .room))
+    (λ c κs. has-room _ _ (c .before .before .before .before .pre .1) .accepted)
+    (λ c κs. omega (arith, has-room _ _ (c .before .before .before .before .before .before .pre .1) .room))
+    add-state
+    slice-write-state
+    (λ c. search needs)
+    returns)

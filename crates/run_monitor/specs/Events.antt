@@ -1,0 +1,38 @@
+-- What `start` and `finish` return and leave, in terms of the states that 01 works out.
+use Prim.Native.Nat.{ℕ, _+_}
+use mathlib.Core.Path.{_≡_}
+use mathlib.Core.Bool.{cond}
+use mathlib.Core.List.{List, _++_}
+use lib.ListN.{take, drop, set}
+use lib.Dec.{eqb}
+use Rattle.runs.specs.Plan.{placeNumber}
+use Rattle.plan_check.specs.Meaning.{planOf}
+use Rattle.runs.specs.Execution.{Event, nodeOf, statusOf}
+use Rattle.runs.specs.Calls.{one, statusByte, Answered}
+use Rattle.base.specs.Answers.{first}
+use Rattle.run_state.specs.State.{stateRefusal, worldOf}
+use Rattle.run_conditions.specs.Conditions.{made}
+use Rattle.run_refusals.specs.Events.{eventPlace, eventRefusal}
+
+-- 1 to 16, then 17 to 22
+unfoldable pub eventReturn : List ℕ → List ℕ → Event → ℕ
+eventReturn b s e = first (stateRefusal b s) (eventRefusal b s e)
+
+-- the state with the literals of task t at place q made true, and the byte x at t
+unfoldable pub withEvent : List ℕ → ℕ → ℕ → ℕ → List ℕ → List ℕ
+withEvent b q t x s = set (made b q t (take 8 s) ++ drop 8 s) (8 + t) x
+
+-- the state after an event that happens
+abbrev pub afterEvent : List ℕ → List ℕ → Event → List ℕ
+afterEvent b s e = withEvent b (placeNumber (eventPlace e)) (nodeOf e) (statusByte (statusOf e)) s
+
+-- an accepted event happens; a refused one changes nothing
+unfoldable pub eventState : List ℕ → List ℕ → Event → List ℕ
+eventState b s e = cond (eqb (eventReturn b s e) 0) (afterEvent b s e) s
+
+-- what `start` and `finish` return, and the bytes that they leave
+pub record Called (b s : List ℕ) (e : Event) (r : ℕ) (s′ : List ℕ) : Type 0 where
+  pub returns : r ≡ eventReturn b s e
+  pub leaves : s′ ≡ eventState b s e
+  -- on a state that passes 1 to 16, in 01's words: no refusal applies, 0, and the event happens; or the first that applies, and nothing does
+  pub answered : stateRefusal b s ≡ 0 → Answered (planOf b) (worldOf b s) (one e) r (worldOf b s′)

@@ -1,0 +1,91 @@
+// The monitor (01: keeper): whether the root is complete, the start and the finish of a task.
+use run_conditions::with_literals;
+use run_flags::load;
+use run_flags::store;
+use run_progress::Tally;
+use run_progress::children;
+use run_progress::is_complete;
+use run_refusals::Move;
+use run_refusals::place_of;
+use run_refusals::refused;
+use run_state::check_state;
+ghost use mathlib.Core.Path.{_≡_};
+ghost use Prim.Native.Nat.{_<_};
+ghost use Rattle.plan_format.specs.Format.{nodeCount};
+ghost use Rattle.runs.specs.Execution as execution;
+ghost use Rattle.runs.specs.Calls.{statusByte};
+ghost use Rattle.run_state.specs.State.{stateRefusal};
+ghost use Rattle.run_refusals.specs.Events.{eventOf};
+ghost use Rattle.run_monitor.specs.Status.{Told};
+ghost use Rattle.run_monitor.specs.Events.{withEvent, Called};
+
+pub enum Progress {
+    Refused(u32),
+    Complete,
+    Unfinished,
+}
+
+// A refusal up to 16, or whether the root is complete.
+pub fn status(plan: &[u8], state: &[u8]) -> Progress
+    ensures { λ r. ⌜ Told (now (plan .entry)) (now (state .entry)) r ⌝ }
+{
+    let r = check_state(plan, state);
+    if r != 0 {
+        return Progress::Refused(r);
+    }
+    let ends = children(plan, state, Tally::Ends);
+    if is_complete(plan, state, &ends, 0) {
+        return Progress::Complete;
+    }
+    Progress::Unfinished
+}
+
+// The byte that a move gives its task: running, done.
+fn given(m: Move) -> u8
+    ensures { λ r. ⌜ r ≡ statusByte (execution.statusOf (eventOf m 0)) ⌝ }
+{
+    match m {
+        Move::Start => 1u8,
+        Move::Finish => 2u8,
+    }
+}
+
+// Writes the literals of the task at the place, and its byte.
+fn write_event(plan: &[u8], state: &mut [u8], place: u16, task: usize, byte: u8)
+    requires { ⌜ (task < nodeCount (now plan)) × (stateRefusal (now plan) (now state) ≡ 0) ⌝ }
+    ensures { λ _. ⌜ now (state .exit) ≡ withEvent (now (plan .entry)) place task byte (now (state .entry)) ⌝ }
+{
+    let next = with_literals(plan, place, task, load(state));
+    store(state, next);
+    state[8 + task] = byte;
+}
+
+// The task moves on: its byte is written and its literals are made true. Refused, nothing changes.
+fn call(plan: &[u8], state: &mut [u8], m: Move, task: usize) -> u32
+    ensures { λ r. ⌜ Called (now (plan .entry)) (now (state .entry)) (eventOf m task) r (now (state .exit)) ⌝ }
+{
+    let r = check_state(plan, state);
+    if r != 0 {
+        return r;
+    }
+    let q = refused(plan, state, m, task);
+    if q != 0 {
+        return q;
+    }
+    write_event(plan, state, place_of(m), task, given(m));
+    0
+}
+
+// The task starts: its byte says running and its inconditions are made true. Refused, nothing changes.
+pub fn start(plan: &[u8], state: &mut [u8], task: usize) -> u32
+    ensures { λ r. ⌜ Called (now (plan .entry)) (now (state .entry)) (execution.start task) r (now (state .exit)) ⌝ }
+{
+    call(plan, state, Move::Start, task)
+}
+
+// The task finishes: its byte says done and its postconditions are made true. Refused, nothing changes.
+pub fn finish(plan: &[u8], state: &mut [u8], task: usize) -> u32
+    ensures { λ r. ⌜ Called (now (plan .entry)) (now (state .entry)) (execution.finish task) r (now (state .exit)) ⌝ }
+{
+    call(plan, state, Move::Finish, task)
+}

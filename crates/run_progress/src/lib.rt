@@ -1,0 +1,87 @@
+// Which nodes are complete and which are begun (01: taken): one pass over the nodes from the last to the first, which counts children.
+use base::no_nodes;
+use plan_format::fields::is_kind;
+use plan_format::fields::nodes;
+use plan_format::fields::parent;
+use plan_rules::tests::wide;
+ghost use mathlib.Core.Path.{_≡_};
+ghost use Prim.Native.Nat.{_<_};
+ghost use lib.ListN.{length, getD};
+ghost use Rattle.plan_format.specs.Format.{nodeCount};
+ghost use Rattle.plan_check.specs.Meaning.{planOf};
+ghost use Rattle.runs.specs.Model.Monitor.{completeB, begunB};
+ghost use Rattle.run_state.specs.State.{stateRefusal, statusIn};
+ghost use Rattle.run_progress.specs.Progress.{countedAt, childrenCounted, Counted};
+
+// Which children of a group are counted: those that are begun; or, for an any-of group the complete ones, for another those that are not.
+pub enum Tally {
+    Begun,
+    Ends,
+}
+
+pub fn is_complete(plan: &[u8], state: &[u8], ends: &[u8; 128], n: usize) -> bool
+    requires { ⌜ (n < nodeCount (now plan)) × ((stateRefusal (now plan) (now state) ≡ 0) × (getD (now ends) n 0 ≡ childrenCounted Tally.Ends (now plan) (now state) n)) ⌝ }
+    ensures { λ r. ⌜ r ≡ completeB (planOf (now (plan .entry))) (statusIn (now (plan .entry)) (now (state .entry))) n ⌝ }
+{
+    if is_kind(plan, n, 0) {
+        return state[8 + n] == 2;
+    }
+    if is_kind(plan, n, 1) {
+        return ends[n] == 0;
+    }
+    ends[n] != 0
+}
+
+pub fn is_begun(plan: &[u8], state: &[u8], begun: &[u8; 128], n: usize) -> bool
+    requires { ⌜ (n < nodeCount (now plan)) × ((stateRefusal (now plan) (now state) ≡ 0) × (getD (now begun) n 0 ≡ childrenCounted Tally.Begun (now plan) (now state) n)) ⌝ }
+    ensures { λ r. ⌜ r ≡ begunB (planOf (now (plan .entry))) (statusIn (now (plan .entry)) (now (state .entry))) n ⌝ }
+{
+    if is_kind(plan, n, 0) {
+        return state[8 + n] != 0;
+    }
+    begun[n] != 0
+}
+
+// Node n is counted at its parent g.
+fn is_counted(
+    plan: &[u8],
+    state: &[u8],
+    tally: Tally,
+    table: &[u8; 128],
+    g: usize,
+    n: usize,
+) -> bool
+    requires { ⌜ (n < nodeCount (now plan)) × ((stateRefusal (now plan) (now state) ≡ 0) × (getD (now table) n 0 ≡ childrenCounted tally (now plan) (now state) n)) ⌝ }
+    ensures { λ r. ⌜ r ≡ countedAt tally (now (plan .entry)) (now (state .entry)) g n ⌝ }
+{
+    match tally {
+        Tally::Begun => is_begun(plan, state, table, n),
+        Tally::Ends => {
+            let complete = is_complete(plan, state, table, n);
+            if is_kind(plan, g, 2) {
+                complete
+            } else {
+                !complete
+            }
+        }
+    }
+}
+
+// The number of counted children of each node.
+pub fn children(plan: &[u8], state: &[u8], tally: Tally) -> [u8; 128]
+    requires { ⌜ stateRefusal (now plan) (now state) ≡ 0 ⌝ }
+    ensures { λ r. ⌜ (length r ≡ 128) × Counted tally (now (plan .entry)) (now (state .entry)) r ⌝ }
+{
+    let n = nodes(plan);
+    let mut table = no_nodes();
+    let mut m = 0;
+    while m + 1 < n {
+        let c = n - 1 - m;
+        let g = wide(parent(plan, c));
+        if is_counted(plan, state, tally, &table, g, c) {
+            table[g] += 1;
+        }
+        m += 1;
+    }
+    table
+}

@@ -1,0 +1,109 @@
+// Which refusal applies to the start or the finish of a task, on a state that passes 1 to 16.
+use plan_format::fields::is_kind;
+use run_conditions::inc_broken;
+use run_conditions::pre_unmet;
+use run_enabled::branch_begun;
+use run_enabled::order_open;
+use run_enabled::path;
+use run_flags::load;
+use run_progress::Tally;
+use run_progress::children;
+ghost use mathlib.Core.Path.{_≡_};
+ghost use Prim.Native.Nat.{_<_};
+ghost use Rattle.plan_format.specs.Format.{nodeCount};
+ghost use Rattle.runs.specs.Plan.{placeNumber};
+ghost use Rattle.runs.specs.Execution as execution;
+ghost use Rattle.runs.specs.Calls.{asks, statusByte};
+ghost use Rattle.run_state.specs.State.{stateRefusal};
+ghost use Rattle.run_refusals.specs.Events.{eventOf, eventPlace, eventRefusal};
+ghost use Rattle.run_refusals.specs.Parts.{treeRefusal, beginRefusal};
+
+// How a call moves its task on.
+pub enum Move {
+    Start,
+    Finish,
+}
+
+// The place of the literals that a move makes true: inconditions, postconditions.
+pub fn place_of(m: Move) -> u16
+    ensures { λ r. ⌜ r ≡ placeNumber (eventPlace (eventOf m 0)) ⌝ }
+{
+    match m {
+        Move::Start => 1u16,
+        Move::Finish => 2u16,
+    }
+}
+
+// The byte that a move asks of its task: waiting, running.
+fn asked(m: Move) -> u8
+    ensures { λ r. ⌜ r ≡ statusByte (asks (eventOf m 0)) ⌝ }
+{
+    match m {
+        Move::Start => 0u8,
+        Move::Finish => 1u8,
+    }
+}
+
+// Refusals 19 and 20, or 0.
+fn tree_refused(plan: &[u8], state: &[u8], task: usize) -> u32
+    requires { ⌜ (task < nodeCount (now plan)) × (stateRefusal (now plan) (now state) ≡ 0) ⌝ }
+    ensures { λ r. ⌜ r ≡ treeRefusal (now (plan .entry)) (now (state .entry)) task ⌝ }
+{
+    let begun = children(plan, state, Tally::Begun);
+    if branch_begun(plan, state, &begun, task) {
+        return 19;
+    }
+    let ends = children(plan, state, Tally::Ends);
+    let marks = path(plan, task);
+    if order_open(plan, state, &ends, &marks) {
+        return 20;
+    }
+    0
+}
+
+// Refusals 19 to 21 of a start, or 0.
+fn start_refused(plan: &[u8], state: &[u8], task: usize) -> u32
+    requires { ⌜ (task < nodeCount (now plan)) × (stateRefusal (now plan) (now state) ≡ 0) ⌝ }
+    ensures { λ r. ⌜ r ≡ beginRefusal (now (plan .entry)) (now (state .entry)) (execution.start task) ⌝ }
+{
+    let r = tree_refused(plan, state, task);
+    if r != 0 {
+        return r;
+    }
+    if pre_unmet(plan, load(state), task) {
+        return 21;
+    }
+    0
+}
+
+// Refusals 19 to 21, which are asked of a start only, or 0.
+fn begin_refused(plan: &[u8], state: &[u8], m: Move, task: usize) -> u32
+    requires { ⌜ (task < nodeCount (now plan)) × (stateRefusal (now plan) (now state) ≡ 0) ⌝ }
+    ensures { λ r. ⌜ r ≡ beginRefusal (now (plan .entry)) (now (state .entry)) (eventOf m task) ⌝ }
+{
+    match m {
+        Move::Start => start_refused(plan, state, task),
+        Move::Finish => 0,
+    }
+}
+
+// Refusals 17 to 22 of a move, or 0.
+pub fn refused(plan: &[u8], state: &[u8], m: Move, task: usize) -> u32
+    requires { ⌜ stateRefusal (now plan) (now state) ≡ 0 ⌝ }
+    ensures { λ r. ⌜ r ≡ eventRefusal (now (plan .entry)) (now (state .entry)) (eventOf m task) ⌝ }
+{
+    if !is_kind(plan, task, 0) {
+        return 17;
+    }
+    if state[8 + task] != asked(m) {
+        return 18;
+    }
+    let r = begin_refused(plan, state, m, task);
+    if r != 0 {
+        return r;
+    }
+    if inc_broken(plan, state, place_of(m), task) {
+        return 22;
+    }
+    0
+}

@@ -1,0 +1,87 @@
+-- What the fresh state shows, and that it is well formed. Assumes nothing.
+use mathlib.Core.Path.{_≡_, refl, sym, _∙_, fun-ext}
+use mathlib.Core.Logic.{by-cases, ⊎-elim}
+use mathlib.Core.Bool.{Bool, true, false, cond, not, _&&_, and-false}
+use mathlib.Core.List.{List}
+use Prim.Native.Nat.{ℕ, _+_, _/_, _<_, _≤_}
+use native.Mathlib.Decide.{decLt}
+use native.Mathlib.Omega.{arith}
+use lib.Dec.{eqb, ltb, leb}
+use borrow.Author.Tests.{eq-eqb, lt-ltb, le-ltb, lt-leb}
+use Rattle.base.specs.Answers.{overlay}
+use Rattle.base.proofs.Overlay.{length-overlay, at-overlay}
+use Rattle.base.specs.Bits.{bit}
+use Rattle.run_flags.specs.Flags.{flagIn}
+use Rattle.plan_format.specs.Format.{nodeCount, flagCount, startFlag, isKind}
+use Rattle.plan_rules.proofs.Laws.{either, none-all, not-passed}
+use Rattle.plan_check.specs.Meaning.{startOf}
+use Rattle.plan_check.proofs.Accepted.{start-below}
+use Rattle.plan_check.proofs.Meaning.{kind-is}
+use Rattle.runs.specs.Execution.{waiting}
+use Rattle.runs.specs.Calls as calls
+use Rattle.run_state.specs.State.{nodeByte, badFlag, badByte, malformed, roomRefusal, stateRefusal, statusAt, statusIn, flagShown, worldOf}
+use Rattle.run_state.specs.Fresh.{freshByte, freshState}
+use Rattle.run_state.proofs.Refused.{Roomy, roomy, room-long, state-good}
+
+module _ (b s : List ℕ) (r : Roomy b s) where
+  written : List ℕ
+  written = overlay (freshByte b) (8 + nodeCount b) s
+
+  fresh-flag : (f : ℕ) → f < 64 → flagIn written f ≡ startFlag b f
+  unfolding written flagIn bit startFlag freshByte
+  fresh-flag f l =
+      rw (at-overlay (freshByte b) s (8 + nodeCount b) (f / 8) (r .room) (omega arith), lt-ltb (f / 8) 8 (omega arith))
+
+  fresh-node : (n : ℕ) → n < nodeCount b → nodeByte written n ≡ 0
+  unfolding written nodeByte freshByte
+  fresh-node n l = at-overlay (freshByte b) s (8 + nodeCount b) (8 + n) (r .room) (omega arith) ∙ rw (le-ltb (8 + n) 8 (omega arith))
+
+  start-past : (f : ℕ) → flagCount b ≤ f → f < 64 → startFlag b f ≡ false
+  start-past f l m = not-passed _ (λ y. omega (arith, start-below b (r .plan) f m y))
+
+  well-formed : malformed b written ≡ false
+  unfolding malformed badFlag badByte
+  well-formed =
+      rw (
+        none-all 64 (λ f. leb (flagCount b) f && flagIn written f) (λ f l. by-cases (decLt f (flagCount b)) (λ (h : f < flagCount b). rw (lt-leb (flagCount b) f h)) (λ h. rw (fresh-flag f l, start-past f (omega arith) l) (and-false (leb (flagCount b) f)))),
+        none-all (nodeCount b) (λ n. cond (isKind b n 0) (ltb 2 (nodeByte written n)) (not (eqb (nodeByte written n) 0))) (λ n l. rw (fresh-node n l) (alike (isKind b n 0))),
+      )
+    where
+      alike : (x : Bool) → cond x false false ≡ false
+      alike true = refl
+      alike false = refl
+
+  shows-status : (n : ℕ) → statusIn b written n ≡ waiting
+  unfolding statusIn statusAt
+  shows-status n =
+      ⊎-elim
+      (λ (e : isKind b n 0 ≡ true). rw (e, fresh-node n (kind-is b n 0 e .0)))
+      (λ (e : isKind b n 0 ≡ false). rw e)
+      (either (isKind b n 0))
+
+  shows-flag : (f : ℕ) → flagShown written f ≡ startOf b f
+  unfolding flagShown startOf
+  shows-flag f =
+      by-cases (decLt f (flagCount b))
+      (λ (l : f < flagCount b). let m : f < 64 = omega (arith, r .plan .fits .limits .flags) in rw (lt-ltb f (flagCount b) l, lt-ltb f 64 m) (fresh-flag f m))
+      (λ l. rw (le-ltb f (flagCount b) (omega arith)) (by-cases (decLt f 64) (λ (m : f < 64). rw (lt-ltb f 64 m, fresh-flag f m) (start-past f (omega arith) m)) (λ m. rw (le-ltb f 64 (omega arith)))))
+
+  shows : worldOf b written ≡ calls.fresh (startOf b)
+  unfolding worldOf
+  shows = cc (fun-ext shows-status, fun-ext shows-flag)
+
+-- an accepted call leaves a state that passes all checks and shows the states at the start
+pub record Started (b s : List ℕ) : Type 0 where
+  pub well-formed : stateRefusal b s ≡ 0
+  pub at-first : worldOf b s ≡ calls.fresh (startOf b)
+
+pub fresh-started : (b s : List ℕ) → roomRefusal b s ≡ 0 → Started b (freshState b s)
+unfolding freshState written
+fresh-started b s e =
+    let r = roomy b s e in
+    let w = overlay (freshByte b) (8 + nodeCount b) s in
+    rw (eq-eqb (roomRefusal b s) 0 e)
+    (record {
+      well-formed = sym (state-good b w (sym (room-long b w (r .accepted) (omega (arith, r .room, length-overlay (freshByte b) s (8 + nodeCount b))))) (well-formed b s r));
+      at-first = shows b s r;
+    })

@@ -1,0 +1,53 @@
+-- A state (01: record): eight bytes of flags, then a byte for each node of its plan. When it is refused, and what it shows.
+use Prim.Native.Nat.{ℕ, _+_}
+use mathlib.Core.Bool.{Bool, false, cond, not, _&&_, _||_}
+use mathlib.Core.List.{List}
+use lib.ListN.{getD, length}
+use lib.Dec.{eqb, ltb, leb}
+use Rattle.base.specs.Answers.{first}
+use Rattle.run_flags.specs.Flags.{flagIn}
+use Rattle.plan_format.specs.Format.{nodeCount, flagCount, isKind}
+use Rattle.plan_rules.specs.Rules.{refusal}
+use Rattle.plan_rules.specs.Search.{someBelow}
+use Rattle.runs.specs.Execution.{Status, waiting, running, done}
+use Rattle.runs.specs.Calls.{World}
+
+-- the byte of node n
+unfoldable pub nodeByte : List ℕ → ℕ → ℕ
+nodeByte s n = getD s (8 + n) 0
+
+-- 15: under 8 + N bytes
+unfoldable pub tooShort : List ℕ → List ℕ → Bool
+tooShort b s = ltb (length s) (8 + nodeCount b)
+
+-- 16: a bit for flag V or higher, a group byte not 0, a task byte over 2
+unfoldable pub badFlag : List ℕ → List ℕ → ℕ → Bool
+badFlag b s f = leb (flagCount b) f && flagIn s f
+
+unfoldable pub badByte : List ℕ → List ℕ → ℕ → Bool
+badByte b s n = cond (isKind b n 0) (ltb 2 (nodeByte s n)) (not (eqb (nodeByte s n) 0))
+
+unfoldable pub malformed : List ℕ → List ℕ → Bool
+malformed b s = someBelow 64 (badFlag b s) || someBelow (nodeCount b) (badByte b s)
+
+-- refusals 1 to 15
+unfoldable pub roomRefusal : List ℕ → List ℕ → ℕ
+roomRefusal b s = first (refusal b) (cond (tooShort b s) 15 0)
+
+-- refusals 1 to 16
+unfoldable pub stateRefusal : List ℕ → List ℕ → ℕ
+stateRefusal b s = first (roomRefusal b s) (cond (malformed b s) 16 0)
+
+-- 0 waiting, 1 running, 2 done
+unfoldable pub statusAt : ℕ → Status
+statusAt x = cond (eqb x 0) waiting (cond (eqb x 1) running done)
+
+-- The states that a state's bytes show: a number that is no task of the plan waits, a flag from 64 on is clear.
+unfoldable pub statusIn : List ℕ → List ℕ → ℕ → Status
+statusIn b s n = cond (isKind b n 0) (statusAt (nodeByte s n)) waiting
+
+unfoldable pub flagShown : List ℕ → ℕ → Bool
+flagShown s f = cond (ltb f 64) (flagIn s f) false
+
+unfoldable pub worldOf : List ℕ → List ℕ → World
+worldOf b s = record { status = statusIn b s; flag = flagShown s }

@@ -1,0 +1,112 @@
+// The bytes of a state (01: record): the checks that every call makes first, and the fresh state.
+use plan_check::check;
+use plan_format::fields::flags;
+use plan_format::fields::is_kind;
+use plan_format::fields::nodes;
+use run_flags::load;
+ghost use mathlib.Core.Path.{_≡_};
+ghost use Prim.Native.Nat.{_+_, _<_, _≤_};
+ghost use lib.ListN.{length};
+ghost use Rattle.plan_format.specs.Format.{Whole, nodeCount};
+ghost use Rattle.plan_rules.specs.Search.{someBelow};
+ghost use Rattle.run_state.specs.State.{badFlag, badByte, roomRefusal, stateRefusal};
+ghost use Rattle.run_state.specs.Fresh.{freshByte, Freshened};
+
+// A bit for a flag of number v or higher.
+fn flags_bad(plan: &[u8], state: &[u8]) -> bool
+    requires { ⌜ (16 ≤ length (now plan)) × (8 ≤ length (now state)) ⌝ }
+    ensures { λ r. ⌜ r ≡ someBelow 64 (badFlag (now (plan .entry)) (now (state .entry))) ⌝ }
+{
+    let v = flags(plan);
+    let held = load(state);
+    let mut f = 0;
+    while f < 64 {
+        if (v <= f) & held.has(f) {
+            return true;
+        }
+        f += 1;
+    }
+    false
+}
+
+// The byte of node n is none that it may have.
+fn byte_bad(plan: &[u8], state: &[u8], n: usize) -> bool
+    requires { ⌜ (n < nodeCount (now plan)) × (Whole (now plan) × (8 + nodeCount (now plan) ≤ length (now state))) ⌝ }
+    ensures { λ r. ⌜ r ≡ badByte (now (plan .entry)) (now (state .entry)) n ⌝ }
+{
+    let x = state[8 + n];
+    if is_kind(plan, n, 0) {
+        return 2 < x;
+    }
+    x != 0
+}
+
+fn bytes_bad(plan: &[u8], state: &[u8]) -> bool
+    requires { ⌜ Whole (now plan) × (8 + nodeCount (now plan) ≤ length (now state)) ⌝ }
+    ensures { λ r. ⌜ r ≡ someBelow (nodeCount (now (plan .entry))) (badByte (now (plan .entry)) (now (state .entry))) ⌝ }
+{
+    let n = nodes(plan);
+    let mut i = 0;
+    while i < n {
+        if byte_bad(plan, state, i) {
+            return true;
+        }
+        i += 1;
+    }
+    false
+}
+
+// Refusals 1 to 15, or 0.
+pub fn check_room(plan: &[u8], state: &[u8]) -> u32
+    ensures { λ r. ⌜ r ≡ roomRefusal (now (plan .entry)) (now (state .entry)) ⌝ }
+{
+    let r = check(plan);
+    if r != 0 {
+        return r;
+    }
+    if state.len() < 8 + nodes(plan) {
+        return 15;
+    }
+    0
+}
+
+// Refusals 1 to 16, or 0.
+pub fn check_state(plan: &[u8], state: &[u8]) -> u32
+    ensures { λ r. ⌜ r ≡ stateRefusal (now (plan .entry)) (now (state .entry)) ⌝ }
+{
+    let r = check_room(plan, state);
+    if r != 0 {
+        return r;
+    }
+    if flags_bad(plan, state) | bytes_bad(plan, state) {
+        return 16;
+    }
+    0
+}
+
+fn fresh_byte(plan: &[u8], i: usize) -> u8
+    requires { ⌜ 16 ≤ length (now plan) ⌝ }
+    ensures { λ r. ⌜ r ≡ freshByte (now (plan .entry)) i ⌝ }
+{
+    if i < 8 {
+        return plan[8 + i];
+    }
+    0
+}
+
+// A state in which every task waits and each flag is as its start bit says; refused with 1 to 15, nothing changes.
+pub fn fresh(plan: &[u8], state: &mut [u8]) -> u32
+    ensures { λ r. ⌜ Freshened (now (plan .entry)) (now (state .entry)) r (now (state .exit)) ⌝ }
+{
+    let r = check_room(plan, state);
+    if r != 0 {
+        return r;
+    }
+    let n = 8 + nodes(plan);
+    let mut k = 0;
+    while k < n {
+        state[k] = fresh_byte(plan, k);
+        k += 1;
+    }
+    0
+}

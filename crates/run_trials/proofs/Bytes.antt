@@ -1,0 +1,10 @@
+-- Plan B written down in pieces is the plan B of the other examples. Assumes nothing.
+use mathlib.Core.Path.{_≡_, refl}
+use Rattle.plan_examples.specs.Plans.{planB}
+use Rattle.run_calls.specs.Shown.{flagByte}
+use Rattle.run_trials.specs.Written.{valueOf, two, twos, eight, names, nodes, conditionNodes, conditionValues, earlierNodes, laterNodes, bytesOf}
+use Rattle.run_trials.specs.Starred.{B, none-set, in-order}
+
+pub bytes-of-B : bytesOf (B none-set in-order) ≡ planB
+unfolding planB flagByte valueOf two twos eight names nodes conditionNodes conditionValues earlierNodes laterNodes bytesOf
+bytes-of-B = refl

@@ -1,0 +1,171 @@
+-- The trial plans and calls of 01 that are marked *, as one table. Definitions only.
+use Prim.Native.Nat.{ℕ}
+use mathlib.Core.Bool.{Bool, true, false}
+use mathlib.Core.List.{List, [], _∷_}
+use lib.ListN.{replicate}
+use lib.Dec.{eqb}
+use Rattle.runs.specs.Plan.{task, all-of, any-of, pre, inc, post}
+use Rattle.runs.specs.Execution.{Status, waiting, running, done, start, finish}
+use Rattle.runs.specs.Summary.{must-pre}
+use Rattle.runs.specs.Verdict.{Verdict, CLEAR, OPEN, DOOMED}
+use Rattle.runs.specs.Calls.{Call, one, no-task, wrong-status, branch-begun, order-open, pre-unmet, inc-broken, number}
+use Rattle.run_trials.specs.Written.{Entry, Order, then, Written, valueOf}
+use Rattle.run_trials.specs.Trial.{Trial, Shown, shown, stateBytes}
+
+-- ---- names
+pub data Letter : Type 0 where
+  A C D E I K L M N O P R S T Z dash : Letter
+
+abbrev ascii : Letter → ℕ
+ascii A = 65
+ascii C = 67
+ascii D = 68
+ascii E = 69
+ascii I = 73
+ascii K = 75
+ascii L = 76
+ascii M = 77
+ascii N = 78
+ascii O = 79
+ascii P = 80
+ascii R = 82
+ascii S = 83
+ascii T = 84
+ascii Z = 90
+ascii dash = 45
+
+abbrev name : Letter → Letter → Letter → Letter → List ℕ
+name a b c d = ascii a ∷ ascii b ∷ ascii c ∷ ascii d ∷ []
+
+abbrev short : Letter → List ℕ
+short a = name a dash dash dash
+
+-- ---- conditions: a task needs, holds or leaves flag f clear or set
+abbrev clear : Bool
+clear = false
+
+abbrev set : Bool
+set = true
+
+abbrev needs : ℕ → Bool → ℕ
+needs f v = valueOf pre f v
+
+abbrev holds : ℕ → Bool → ℕ
+holds f v = valueOf inc f v
+
+abbrev leaves : ℕ → Bool → ℕ
+leaves f v = valueOf post f v
+
+-- ---- nodes: the root, which is all-of; a choice under the root; a task under node u
+abbrev root : List ℕ → Entry
+root n = record { name = n; kind = all-of; parent = 255; minutes = 0; values = [] }
+
+abbrev choice : List ℕ → Entry
+choice n = record { name = n; kind = any-of; parent = 0; minutes = 0; values = [] }
+
+abbrev work : ℕ → List ℕ → ℕ → List ℕ → Entry
+work u n m l = record { name = n; kind = task; parent = u; minutes = m; values = l }
+
+-- ---- flags
+abbrev pub none-set : ℕ → Bool
+none-set f = false
+
+abbrev only : ℕ → ℕ → Bool
+only g f = eqb f g
+
+-- ---- calls and what they return
+abbrev begin : ℕ → Call
+begin t = one (start t)
+
+abbrev end : ℕ → Call
+end t = one (finish t)
+
+abbrev ok : ℕ
+ok = 0
+
+-- ---- plan B: MOOR, CAST, COMS, RADI, SATL
+abbrev cast : ℕ
+cast = 1
+
+abbrev coms : ℕ
+coms = 2
+
+abbrev radi : ℕ
+radi = 3
+
+abbrev satl : ℕ
+satl = 4
+
+abbrev pub B : (ℕ → Bool) → List Order → Written
+B F os = record {
+  flags = 2;
+  start = F;
+  entries = root (name M O O R)
+      ∷ work 0 (name C A S T) 12 (needs 0 clear ∷ holds 0 set ∷ leaves 0 clear ∷ [])
+      ∷ choice (name C O M S)
+      ∷ work coms (name R A D I) 3 (needs 0 clear ∷ holds 1 set ∷ leaves 1 clear ∷ [])
+      ∷ work coms (name S A T L) 5 (holds 1 set ∷ leaves 1 clear ∷ [])
+      ∷ [];
+  orders = os;
+}
+
+abbrev pub in-order : List Order
+in-order = then cast coms ∷ []
+
+-- ---- under an all-of root: A; Z, the last; between them C, or a choice of C and another
+abbrev under-root : List Entry → List Order → Written
+under-root l os = record { flags = 1; start = none-set; entries = root (name R O O T) ∷ l; orders = os }
+
+abbrev a-task : List ℕ → Entry
+a-task l = work 0 (short A) 2 l
+
+abbrev z-task : List ℕ → Entry
+z-task l = work 0 (short Z) 5 l
+
+-- A holds flag 0 set and leaves it clear, Z leaves it clear
+abbrev holder : Written
+holder = under-root (a-task (holds 0 set ∷ leaves 0 clear ∷ []) ∷ z-task (leaves 0 clear ∷ []) ∷ []) []
+
+-- A and Z each need flag 0 clear and leave it set
+abbrev twins : List Order → Written
+twins os = under-root (a-task (needs 0 clear ∷ leaves 0 set ∷ []) ∷ z-task (needs 0 clear ∷ leaves 0 set ∷ []) ∷ []) os
+
+-- A leaves flag 0 set, C leaves it clear, Z needs it clear
+abbrev three : List Order → Written
+three os = under-root (a-task (leaves 0 set ∷ []) ∷ work 0 (short C) 3 (leaves 0 clear ∷ []) ∷ z-task (needs 0 clear ∷ []) ∷ []) os
+
+-- A before a choice before Z, C one of its two branches, the other without conditions
+abbrev picked : Written
+picked = under-root
+    (a-task (leaves 0 set ∷ []) ∷ choice (name P I C K) ∷ work 2 (short C) 3 (leaves 0 clear ∷ []) ∷ work 2 (name N O N E) 7 [] ∷ z-task (needs 0 clear ∷ []) ∷ [])
+    (then 1 2 ∷ then 2 5 ∷ [])
+
+-- ---- rows: plan, verdict, marks, calls, what they return, the state after them
+abbrev trial : Written → Verdict → List Shown → List Call → List ℕ → List ℕ → Trial
+trial w v ms cs rs l = record { plan = w; verdict = v; marks = ms; calls = cs; returned = rs; left = l }
+
+-- all tasks wait
+abbrev waits : ℕ → List Status
+waits n = replicate n waiting
+
+abbrev pub starred : List Trial
+starred =
+    trial (B none-set in-order) CLEAR [] (begin coms ∷ begin 5 ∷ end 77 ∷ begin 256 ∷ []) (number no-task ∷ number no-task ∷ number no-task ∷ number no-task ∷ [])
+    (stateBytes none-set (waits 5))
+    ∷ trial (B none-set in-order) CLEAR [] (begin radi ∷ []) (number order-open ∷ []) (stateBytes none-set (waits 5))
+    ∷ trial (B none-set in-order) CLEAR [] (begin cast ∷ begin cast ∷ []) (ok ∷ number wrong-status ∷ []) (stateBytes (only 0) (waiting ∷ running ∷ waits 3))
+    ∷ trial (B none-set in-order) CLEAR [] (begin cast ∷ end cast ∷ begin satl ∷ begin radi ∷ []) (ok ∷ ok ∷ ok ∷ number branch-begun ∷ [])
+    (stateBytes (only 1) (waiting ∷ done ∷ waiting ∷ waiting ∷ running ∷ []))
+    ∷ trial (B none-set in-order) CLEAR [] (begin cast ∷ end cast ∷ begin satl ∷ begin radi ∷ end radi ∷ end satl ∷ begin radi ∷ [])
+    (ok ∷ ok ∷ ok ∷ number branch-begun ∷ number wrong-status ∷ ok ∷ number branch-begun ∷ []) (stateBytes none-set (waiting ∷ done ∷ waiting ∷ waiting ∷ done ∷ []))
+    ∷ trial (B none-set []) OPEN [] (begin cast ∷ begin radi ∷ []) (ok ∷ number pre-unmet ∷ []) (stateBytes (only 0) (waiting ∷ running ∷ waits 3))
+    ∷ trial (B (only 0) in-order) DOOMED [] (begin cast ∷ []) (number pre-unmet ∷ []) (stateBytes (only 0) (waits 5))
+    ∷ trial holder OPEN [] (begin 1 ∷ begin 2 ∷ end 2 ∷ []) (ok ∷ ok ∷ number inc-broken ∷ []) (stateBytes (only 0) (waiting ∷ running ∷ running ∷ []))
+    ∷ trial holder OPEN [] (begin 1 ∷ begin 2 ∷ end 2 ∷ end 1 ∷ end 2 ∷ []) (ok ∷ ok ∷ number inc-broken ∷ ok ∷ ok ∷ []) (stateBytes none-set (waiting ∷ done ∷ done ∷ []))
+    ∷ trial (twins []) OPEN (shown 0 0 clear must-pre ∷ []) [] [] (stateBytes none-set (waits 3))
+    ∷ trial (twins (then 1 2 ∷ [])) DOOMED [] (begin 1 ∷ end 1 ∷ begin 2 ∷ []) (ok ∷ ok ∷ number pre-unmet ∷ []) (stateBytes (only 0) (waiting ∷ done ∷ waiting ∷ []))
+    ∷ trial (three (then 1 2 ∷ then 2 3 ∷ [])) CLEAR [] [] [] (stateBytes none-set (waits 4))
+    ∷ trial (three (then 2 3 ∷ [])) OPEN [] [] [] (stateBytes none-set (waits 4))
+    ∷ trial picked OPEN [] (begin 1 ∷ end 1 ∷ begin 4 ∷ end 4 ∷ begin 5 ∷ []) (ok ∷ ok ∷ ok ∷ ok ∷ number pre-unmet ∷ [])
+    (stateBytes (only 0) (waiting ∷ done ∷ waiting ∷ waiting ∷ done ∷ waiting ∷ []))
+    ∷ []

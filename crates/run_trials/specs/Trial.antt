@@ -1,0 +1,66 @@
+-- What a trial says of a plan's bytes, by the relations that the public calls promise. Definitions only.
+use Prim.Native.Nat.{ℕ, _+_, _*_}
+use mathlib.Core.Path.{_≡_}
+use mathlib.Core.Logic.{inr}
+use mathlib.Core.Bool.{Bool}
+use mathlib.Core.List.{List, [], _∷_, _++_}
+use lib.ListN.{getD}
+use Rattle.base.specs.Answers.{overlay}
+use Rattle.plan_format.specs.Format.{nodeCount}
+use Rattle.plan_rules.specs.Rules.{refusal}
+use Rattle.runs.specs.Plan.{signNumber}
+use Rattle.plan_check.specs.Meaning.{planOf}
+use Rattle.runs.specs.Execution.{Status}
+use Rattle.runs.specs.Summary.{Mark, byteOf, Marked}
+use Rattle.runs.specs.Verdict.{Verdict}
+use Rattle.runs.specs.Calls.{Call, statusByte}
+use Rattle.run_calls.specs.Lists.{Listed}
+use Rattle.verdict.specs.declared.Answer.{Answer}
+use Rattle.verdict.specs.Verdict.{said, Assessed}
+use Rattle.summary.specs.Summary.{Summarised}
+use Rattle.run_trials.specs.Written.{Written, bytesOf, eight}
+
+-- node, flag, sign, mark
+pub data Shown : Type 0 where
+  shown : ℕ → ℕ → Bool → Mark → Shown
+
+-- a plan, its verdict, marks that its summaries show; a list of calls, what they return, and the first bytes of the state after them
+pub record Trial : Type 0 where
+  pub plan : Written
+  pub verdict : Verdict
+  pub marks : List Shown
+  pub calls : List Call
+  pub returned : List ℕ
+  pub left : List ℕ
+
+-- the bytes of a state: flags, then a status for each node
+unfoldable pub statusBytes : List Status → List ℕ
+statusBytes [] = []
+statusBytes (a ∷ l) = statusByte a ∷ statusBytes l
+
+unfoldable pub stateBytes : (ℕ → Bool) → List Status → List ℕ
+stateBytes F l = eight F ++ statusBytes l
+
+-- whatever `summary` writes for node n, its byte for the literal and the mark is 1
+pub record ShownBy (b : List ℕ) (n f : ℕ) (v : Bool) (m : Mark) : Type 0 where
+  pub marked : Marked (planOf b) n f v m
+  pub told : (out out′ : List ℕ) → Summarised b n out 0 out′ → getD out′ (8 * (2 * f + signNumber v) + byteOf m) 0 ≡ 1
+
+abbrev pub AllShown : List ℕ → List Shown → Type 0
+AllShown b [] = Unit {0}
+AllShown b (shown n f v m ∷ l) = ShownBy b n f v m × AllShown b l
+
+-- the plan's bytes b are accepted; whatever `assess` answers for them, it is the verdict; whatever fresh and the calls return and leave, on any bytes s with room, it is what
+-- the trial says, the bytes after 8 + N as they were
+pub record HoldsOf (b : List ℕ) (t : Trial) : Type 0 where
+  pub accepted : refusal b ≡ 0
+  pub judged : (r : Answer) → Assessed b r → said r ≡ inr (t .verdict)
+  pub shows : AllShown b (t .marks)
+  pub called : (s rs z : List ℕ) → Listed b s (t .calls) rs z → (rs ≡ t .returned) × (z ≡ overlay (λ k. getD (t .left) k 0) (8 + nodeCount b) s)
+
+abbrev pub Holds : Trial → Type 0
+Holds t = HoldsOf (bytesOf (t .plan)) t
+
+abbrev pub AllHold : List Trial → Type 0
+AllHold [] = Unit {0}
+AllHold (t ∷ l) = Holds t × AllHold l

@@ -1,0 +1,45 @@
+-- The tables of an accepted plan, before and after they are filled. Definitions only.
+use mathlib.Core.Path.{_≡_}
+use mathlib.Core.List.{List}
+use Prim.Native.Nat.{ℕ, _+_, _*_, _/_, _%_, _^_, _<_, _≤_}
+use lib.Bits.{bitOr}
+use lib.ListN.{getD, set}
+use Rattle.base.specs.Zeros.{Zeros}
+use Rattle.plan_format.specs.Format.{nodeCount}
+use Rattle.plan_check.specs.Meaning.{planOf}
+use Rattle.marks_row.specs.Tables.{Shaped, Represents, RepresentsKinds, RepresentsOrder, RepresentsConditions}
+use Rattle.table_orders.specs.Links.{Linked, Leading}
+use Rattle.plan_reader.specs.declared.items.Item.{Item}
+use Rattle.plan_reader.specs.declared.items.Item.the-variants as item
+
+-- tables with nothing in them
+pub record Fresh (kind from kids order conds : List ℕ) : Type 0 where
+  pub no-kinds : Zeros 128 kind
+  pub no-starts : Zeros 129 from
+  pub no-kids : Zeros 128 kids
+  pub no-order : Zeros 16384 order
+  pub no-conditions : Zeros 768 conds
+
+-- tables of the plan that the bytes b mean
+pub record TablesOf (b kind from kids order conds : List ℕ) : Type 0 where
+  pub shaped : Shaped from kids (nodeCount b)
+  pub represents : Represents kind from kids order conds (nodeCount b) (planOf b)
+
+-- an item that has a place in the tables
+unfoldable pub Fits : ℕ → Item → Type 0
+Fits at (item.Node x) = at < 128
+Fits at (item.Condition x) = (x .node < 128) × (x .value ≤ 383)
+Fits at (item.Order x) = (x .earlier < x .later) × (x .later < 128)
+
+-- what an item changes in the tables, and that the others stay as they are
+unfoldable pub Stored : ℕ → Item → List ℕ → List ℕ → List ℕ → List ℕ → List ℕ → List ℕ → Type 0
+Stored at (item.Node x) k k' o o' c c' = (k' ≡ set k at (x .kind)) × ((o' ≡ o) × (c' ≡ c))
+Stored at (item.Condition x) k k' o o' c c' =
+    (c' ≡ set c (x .node * 6 + x .value / 64) (bitOr (getD c (x .node * 6 + x .value / 64) 0) (2 ^ (x .value % 64)))) × ((k' ≡ k) × (o' ≡ o))
+Stored at (item.Order x) k k' o o' c c' = Linked o o' (x .later) (Leading o (x .earlier)) × ((k' ≡ k) × (c' ≡ c))
+
+-- the tables that are filled from the items
+pub record ItemsOf (b kind order conds : List ℕ) : Type 0 where
+  pub kinds : RepresentsKinds kind (planOf b)
+  pub orders : RepresentsOrder order (planOf b)
+  pub conditions : RepresentsConditions conds (planOf b)

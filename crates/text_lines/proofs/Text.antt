@@ -1,0 +1,115 @@
+-- The text of the task lines: how long it is, and that it is written line by line. Assumes nothing.
+use mathlib.Core.Path.{_≡_, refl, sym, ap, _∙_}
+use mathlib.Core.List.{List, [], _∷_, _++_, append-assoc, append-nil}
+use Prim.Native.Nat.{ℕ, suc, _+_, _*_, _<_, _≤_}
+use native.Mathlib.Numerals.{add-one}
+use native.Mathlib.Omega.{arith}
+use lib.ListN.{length, getD, take, drop, length-append}
+use lib.Seq.{take-suc, take-all, getD-take, drop-cons}
+use Rattle.plan_format.specs.Format.{nodeCount, nameChar}
+use Rattle.plan_check.proofs.Accepted.{Clean}
+use Rattle.text_decimals.specs.Decimals.{decimal, Wrote}
+use Rattle.text_decimals.proofs.Laws.{length-limit}
+use Rattle.text_decimals.proofs.Written.{written-none, wrote-then, wrote-same}
+use Rattle.wait_lengths.specs.Waits.{longestWait}
+use Rattle.wait_lengths.proofs.Bounds.{end-limit}
+use Rattle.text_order.specs.Order.{rankedTo, ranking}
+use Rattle.text_order.specs.Places.{Ranking}
+use Rattle.text_order.proofs.Order.{Among, here, there, among-at, ranked-task, ranked-length}
+use Rattle.text_lines.specs.Lines.{nameOf, ending, lineOf, linesOf}
+
+pub name-length : (b : List ℕ) (n : ℕ) → length (nameOf b n) ≡ 4
+unfolding nameOf
+name-length b n = refl
+
+pub ending-length : (n : ℕ) → length (ending n) ≡ length (decimal n) + 2
+unfolding ending
+ending-length n = omega (arith, length-append (decimal n) (10 ∷ []))
+
+pub line-length : (b : List ℕ) (t : ℕ) → length (lineOf b t) ≡ length (ending (longestWait b t)) + 4
+unfolding lineOf
+line-length b t = omega (arith, length-append (nameOf b t) (ending (longestWait b t)), name-length b t)
+
+-- a number of at most 7 digits
+pub ending-limit : (n : ℕ) → n ≤ 1290240 → length (ending n) ≤ 9
+ending-limit n l = omega (arith, ending-length n, length-limit 6 n (omega arith))
+
+lines-more : (b xs : List ℕ) (t : ℕ) → linesOf b (xs ++ (t ∷ [])) ≡ linesOf b xs ++ lineOf b t
+unfolding linesOf
+lines-more b [] t = append-nil (lineOf b t)
+lines-more b (x ∷ xs) t = rw (lines-more b xs t) (sym (append-assoc (lineOf b x) (linesOf b xs) (lineOf b t)))
+
+module _ {b : List ℕ} (ok : Clean b) where
+  pub line-limit : (t : ℕ) → t < nodeCount b → length (lineOf b t) ≤ 13
+  line-limit t l = omega (arith, line-length b t, ending-limit (longestWait b t) (omega (arith, end-limit b ok t l)))
+
+  lines-short : (xs : List ℕ) → ((u : ℕ) → Among u xs → u < nodeCount b) → length (linesOf b xs) ≤ 13 * length xs
+  unfolding linesOf
+  lines-short [] h = omega arith
+  lines-short (x ∷ xs) h = omega (arith, length-append (lineOf b x) (linesOf b xs), line-limit x (h x here), lines-short xs (λ u a. h u (there a)))
+
+  -- the first i lines
+  lines-next : (i : ℕ) → i < length (ranking b) → linesOf b (take (suc i) (ranking b)) ≡ linesOf b (take i (ranking b)) ++ lineOf b (getD (ranking b) i 0)
+  lines-next i l = ap (linesOf b) (take-suc (ranking b) i 0 l) ∙ lines-more b (take i (ranking b)) (getD (ranking b) i 0)
+
+pub ending-is : (n : ℕ) → ((32 ∷ []) ++ decimal n) ++ (10 ∷ []) ≡ ending n
+unfolding ending
+ending-is n = refl
+
+pub line-is : (b : List ℕ) (t : ℕ) → nameOf b t ++ ending (longestWait b t) ≡ lineOf b t
+unfolding lineOf
+line-is b t = refl
+
+-- a name is four bytes of the plan, one after another
+next-byte : (b : List ℕ) (i j n : ℕ) → j ≡ suc i → i < length b → take (suc n) (drop i b) ≡ getD b i 0 ∷ take n (drop j b)
+next-byte b i j n e l = ap (take (suc n)) (drop-cons b i 0 l) ∙ ap (λ (x : ℕ). getD b i 0 ∷ take n (drop x b)) (sym e)
+
+four : (b : List ℕ) (i j k l : ℕ) → j ≡ suc i → k ≡ suc j → l ≡ suc k → suc l ≤ length b → take 4 (drop i b) ≡ getD b i 0 ∷ getD b j 0 ∷ getD b k 0 ∷ getD b l 0 ∷ []
+four b i j k l e f g m =
+    next-byte b i j 3 e (omega arith)
+    ∙ ap (λ (xs : List ℕ). getD b i 0 ∷ xs)
+    (next-byte b j k 2 f (omega arith)
+    ∙ ap (λ (xs : List ℕ). getD b j 0 ∷ xs)
+    (next-byte b k l 1 g (omega arith) ∙ ap (λ (xs : List ℕ). getD b k 0 ∷ xs) (next-byte b l (suc l) 0 refl (omega arith))))
+
+pub name-bytes : (b : List ℕ) (t n : ℕ) → n ≡ 4 → 20 + 4 * t ≤ length b → take n (drop (16 + 4 * t) b) ≡ nameOf b t
+unfolding nameOf nameChar
+name-bytes b t n e l = rw e (four b (16 + 4 * t) (16 + (4 * t + 1)) (16 + (4 * t + 2)) (16 + (4 * t + 3)) (omega arith) (omega arith) (omega arith) (omega arith))
+
+-- ---- the first i lines are written
+pub record LinesTo (b out out' : List ℕ) (at a i : ℕ) : Type 0 where
+  pub inside : i ≤ length (ranking b)
+  pub wrote : Wrote out at (linesOf b (take i (ranking b))) out' a
+  pub short : a ≤ at + 13 * i
+
+module _ {b : List ℕ} (ok : Clean b) where
+  -- no more than 128
+  pub ranking-short : length (ranking b) ≤ 128
+  unfolding ranking
+  ranking-short = omega (arith, ranked-length b (nodeCount b), ok .fits .limits .nodes)
+
+  pub lines-limit : length (linesOf b (ranking b)) ≤ 1664
+  unfolding ranking
+  lines-limit = omega (arith, lines-short ok (rankedTo b (nodeCount b)) (λ u a. ranked-task b u (nodeCount b) a .0), ranking-short)
+
+  pub lines-none : {out : List ℕ} {at : ℕ} → LinesTo b out out at at 0
+  unfolding linesOf
+  lines-none {out} {at} = record { inside = omega arith; wrote = record { bytes = sym (written-none out at); next = omega arith }; short = omega arith }
+
+  -- the task of line i
+  pub line-task : {ranked : List ℕ} {k i t : ℕ} → Ranking b ranked k → i < k → t ≡ getD ranked i 0 → (t < nodeCount b) × (t ≡ getD (ranking b) i 0)
+  unfolding ranking
+  line-task {ranked} {k} {i} {t} r l e =
+      let q : t ≡ getD (rankedTo b (nodeCount b)) i 0 = e ∙ sym (getD-take k ranked i 0 l) ∙ ap (λ (xs : List ℕ). getD xs i 0) (r .is) in
+      (rw (← q) at (ranked-task b (getD (rankedTo b (nodeCount b)) i 0) (nodeCount b) (among-at (rankedTo b (nodeCount b)) i (omega (arith, r .count))) .0), q)
+
+  pub lines-turn : {out out' out″ : List ℕ} {at a a' i t : ℕ} → i < length (ranking b) → t < nodeCount b → t ≡ getD (ranking b) i 0 → Wrote out' a (lineOf b t) out″ a' → LinesTo b out out' at a i
+      → LinesTo b out out″ at a' (i + 1)
+  lines-turn {i = i} {t} l m e w h = rw add-one (record {
+    inside = omega arith;
+    wrote = wrote-same (ap (λ (x : ℕ). linesOf b (take i (ranking b)) ++ lineOf b x) e ∙ sym (lines-next ok i l)) (wrote-then (h .wrote) w);
+    short = omega (arith, h .short, w .next, line-limit ok t m);
+  })
+
+  pub lines-all : {out out' : List ℕ} {at a i : ℕ} → length (ranking b) ≤ i → LinesTo b out out' at a i → Wrote out at (linesOf b (ranking b)) out' a
+  lines-all {i = i} l h = wrote-same (ap (linesOf b) (take-all i (ranking b) l)) (h .wrote)

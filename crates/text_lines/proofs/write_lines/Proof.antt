@@ -1,0 +1,74 @@
+-- `write_lines` meets its contract: the first i lines are written. Assumes nothing.
+use Prim.Native.Nat.{_-_, _≤_}
+use Rattle.plan_check.proofs.Accepted.{clean}
+use Rattle.text_decimals.proofs.Written.{wrote-long}
+use Rattle.text_lines.proofs.Text.{LinesTo, ranking-short, lines-none, line-task, lines-turn, lines-all}
+use native.Mathlib.Omega.{arith}
+use borrow.Author.Needs.{needs}
+use Rattle.text_lines.proofs.write_lines.Statement.{statement}
+use Rattle.text_lines.proofs.write_lines.Tie as tie
+
+abbrev Inv-loop : tie.InvT-loop
+Inv-loop plan waits ranked k out₀ at a₀ i₀ out a i = (i ≤ k) × LinesTo plan out₀ out at a i
+
+abbrev μ-loop : tie.MeasureT-loop
+μ-loop plan waits ranked k out₀ at a₀ i₀ out a i = k - i
+
+loop-holds : tie.Need-loop-holds Inv-loop μ-loop
+loop-holds c = (omega arith, lines-none (clean _ (c .before .before .pre .0)))
+
+element-copy-out-wide : tie.Need-element-copy-out-wide Inv-loop μ-loop
+element-copy-out-wide c = let s = c .before .before .before .before in omega (arith, s .pre .2 .count, ranking-short (clean _ (s .pre .0)))
+
+mul-wait : tie.Need-mul-wait Inv-loop μ-loop
+mul-wait c = omega (arith, c .wide .ensures)
+
+element-copy-out-wait : tie.Need-element-copy-out-wait Inv-loop μ-loop
+element-copy-out-wait c =
+    let l = c .before .before .before in
+    let s = l .before .before .before in
+    let ok = clean _ (s .pre .0) in
+    omega (arith, line-task ok (s .pre .2) (omega arith) (c .wide .ensures .0) .0, ok .fits .limits .nodes)
+
+write-line-requires : tie.Need-write-line-requires Inv-loop μ-loop
+write-line-requires c κs =
+    let l = c .before .before .before .before .before in
+    let s = l .before .before .before in
+    let ok = clean _ (s .pre .0) in
+    let t = line-task ok (s .pre .2) (omega arith) (c .before .before .wide .ensures .0) .0 in
+    (s .pre .0, t, s .pre .1 .is _ t, omega (arith, s .pre .3, s .pre .2 .count, l .loop .inv .1 .short, ranking-short ok, wrote-long (l .loop .inv .1 .wrote)))
+
+loop-again : tie.Need-loop-again Inv-loop μ-loop
+loop-again c =
+    let l = c .before .before .before .before .before .before .before .before in
+    let s = l .before .before .before in
+    let ok = clean _ (s .pre .0) in
+    let t = line-task ok (s .pre .2) (omega arith) (c .before .before .before .before .before .wide .ensures .0) in
+    (omega arith, lines-turn ok (omega (arith, s .pre .2 .count)) (t .0) (t .1) (c .before .before .write-line .ensures) (l .loop .inv .1))
+
+same-length : tie.Need-same-length Inv-loop μ-loop
+same-length c = wrote-long (c .before .loop .inv .1 .wrote)
+
+returns : tie.Need-returns Inv-loop μ-loop
+returns c =
+    let l = c .before in
+    let s = l .before .before .before in
+    lines-all (clean _ (s .pre .0)) (omega (arith, s .pre .2 .count)) (l .loop .inv .1)
+
+pub write-lines-spec : {M : Type 1} → statement M
+write-lines-spec =
+    tie.close
+    (tie.spec
+    Inv-loop
+    μ-loop
+    loop-holds
+    element-copy-out-wide
+    (λ c κs. search needs)
+    mul-wait
+    element-copy-out-wait
+    write-line-requires
+    (λ c. omega arith)
+    (λ c. omega arith)
+    loop-again
+    same-length
+    returns)

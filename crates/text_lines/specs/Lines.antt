@@ -1,0 +1,22 @@
+-- The task lines. Definitions only.
+use Prim.Native.Nat.{ℕ, _+_, _*_}
+use mathlib.Core.List.{List, [], _∷_, _++_}
+use Rattle.plan_format.specs.Format.{nameChar}
+use Rattle.text_decimals.specs.Decimals.{decimal}
+use Rattle.wait_lengths.specs.Waits.{longestWait}
+
+-- the four characters of a name
+unfoldable pub nameOf : List ℕ → ℕ → List ℕ
+nameOf b n = nameChar b (4 * n) ∷ nameChar b (4 * n + 1) ∷ nameChar b (4 * n + 2) ∷ nameChar b (4 * n + 3) ∷ []
+
+-- a line ends in a space, a plain decimal and byte 10
+unfoldable pub ending : ℕ → List ℕ
+ending n = 32 ∷ decimal n ++ (10 ∷ [])
+
+-- name, space, longest wait
+unfoldable pub lineOf : List ℕ → ℕ → List ℕ
+lineOf b t = nameOf b t ++ ending (longestWait b t)
+
+unfoldable pub linesOf : List ℕ → List ℕ → List ℕ
+linesOf b [] = []
+linesOf b (t ∷ ts) = lineOf b t ++ linesOf b ts

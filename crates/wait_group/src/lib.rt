@@ -1,0 +1,93 @@
+// One group of an accepted plan: its length and the waits of its children, from the lengths of the children.
+ghost use mathlib.Core.Path.{_≡_};
+ghost use Prim.Native.Nat.{max, _<_};
+ghost use lib.ListN.{length};
+ghost use Rattle.plan_format.specs.Format.{nodeCount, kindOf};
+ghost use Rattle.plan_rules.specs.Rules.{refusal};
+ghost use Rattle.wait_lengths.specs.Waits.{lengthOf};
+ghost use Rattle.wait_group.specs.Spread.{FirstOrder, Raised, Tables, ChildLengths, Spread};
+use plan_format::fields::earlier;
+use plan_format::fields::later;
+use plan_format::fields::nodes;
+use plan_format::fields::orders;
+use plan_format::fields::parent;
+use plan_rules::tests::wide;
+
+// The greater of two.
+fn greater(a: u32, b: u32) -> u32
+    ensures { λ r. ⌜ r ≡ max a b ⌝ }
+{
+    if a < b { b } else { a }
+}
+
+// The first order whose earlier node is c or higher: orders rise by their earlier nodes.
+fn first_order(plan: &[u8], c: usize) -> usize
+    requires { ⌜ refusal (now plan) ≡ 0 ⌝ }
+    ensures { λ r. ⌜ FirstOrder (now (plan .entry)) c r ⌝ }
+{
+    let mut low = 0;
+    let mut high = orders(plan);
+    while low < high {
+        let middle = low + (high - low) / 2;
+        if wide(earlier(plan, middle)) < c {
+            low = middle + 1;
+        } else {
+            high = middle;
+        }
+    }
+    low
+}
+
+// Raises the waits of all that c stands before by an order to the end of c.
+fn raise(plan: &[u8], waits: &mut [u32; 128], c: usize, end: u32)
+    requires { ⌜ (refusal (now plan) ≡ 0) × (length (now waits) ≡ 128) ⌝ }
+    ensures { λ r. ⌜ Raised (now (plan .entry)) (now (waits .entry)) (now (waits .exit)) c end ⌝ }
+{
+    let k = orders(plan);
+    let mut j = first_order(plan, c);
+    while j < k {
+        if wide(earlier(plan, j)) != c {
+            return;
+        }
+        let l = wide(later(plan, j));
+        let w = waits[l];
+        waits[l] = greater(w, end);
+        j += 1;
+    }
+}
+
+// Works out the waits of the children of an all-of group, in the order of their numbers, and answers the length of the group.
+pub fn spread(plan: &[u8], lengths: &[u32; 128], waits: &mut [u32; 128], node: usize) -> u32
+    requires { ⌜ (refusal (now plan) ≡ 0) × (node < nodeCount (now plan)) × (kindOf (now plan) node ≡ 1) × Tables (now plan) (now lengths) (now waits) × ChildLengths (now plan) (now lengths) node ⌝ }
+    ensures { λ r. ⌜ Spread (now (plan .entry)) (now (lengths .entry)) (now (waits .entry)) (now (waits .exit)) node r ⌝ }
+{
+    let n = nodes(plan);
+    let mut longest = 0u32;
+    let mut c = node + 1;
+    while c < n {
+        if wide(parent(plan, c)) == node {
+            let end = waits[c] + lengths[c];
+            raise(plan, waits, c, end);
+            longest = greater(longest, end);
+        }
+        c += 1;
+    }
+    longest
+}
+
+// The length of an any-of group, from those of its children.
+pub fn longest_child(plan: &[u8], lengths: &[u32; 128], node: usize) -> u32
+    requires { ⌜ (refusal (now plan) ≡ 0) × (node < nodeCount (now plan)) × (kindOf (now plan) node ≡ 2) × ChildLengths (now plan) (now lengths) node ⌝ }
+    ensures { λ r. ⌜ r ≡ lengthOf (now (plan .entry)) node ⌝ }
+{
+    let n = nodes(plan);
+    let mut longest = 0u32;
+    let mut c = node + 1;
+    while c < n {
+        if wide(parent(plan, c)) == node {
+            longest = greater(longest, lengths[c]);
+        }
+        c += 1;
+    }
+    longest
+}

@@ -1,0 +1,39 @@
+-- What the tables of lengths and waits hold when nodes are worked out. Definitions only.
+use mathlib.Core.Path.{_≡_}
+use mathlib.Core.Bool.{true}
+use mathlib.Core.List.{List}
+use Prim.Native.Nat.{ℕ, _<_}
+use lib.ListN.{length, getD}
+use Rattle.plan_format.specs.Format.{nodeCount}
+use Rattle.plan_rules.specs.Rules.{isChild}
+use Rattle.plan_check.specs.Meaning.{planOf}
+use Rattle.runs.specs.Plan.{Under}
+use Rattle.wait_lengths.specs.Waits.{lengthOf, waitWithin, longestWait}
+use Rattle.wait_group.specs.Spread.{Tables}
+
+-- a node is worked out: its length, and the waits of its children
+pub record Done (b lengths waits : List ℕ) (n : ℕ) : Type 0 where
+  pub own : getD lengths n 0 ≡ lengthOf b n
+  pub children : (c : ℕ) → isChild b n c ≡ true → getD waits c 0 ≡ waitWithin b c
+
+-- what was worked out still is, and so is every node under n
+pub record Worked (b lengths waits lengths' waits' : List ℕ) (n : ℕ) : Type 0 where
+  pub tables : Tables b lengths' waits'
+  pub kept : (m : ℕ) → Done b lengths waits m → Done b lengths' waits' m
+  pub right : (m : ℕ) → Under (planOf b) n m → Done b lengths' waits' m
+
+-- every node's wait within its group
+pub record Within (b waits : List ℕ) : Type 0 where
+  pub long : length waits ≡ 128
+  pub is : (n : ℕ) → n < nodeCount b → getD waits n 0 ≡ waitWithin b n
+
+-- all groups are worked out
+pub record AllWorked (b lengths waits : List ℕ) : Type 0 where
+  pub lengths-long : length lengths ≡ 128
+  pub root : getD lengths 0 0 ≡ lengthOf b 0
+  pub within : Within b waits
+
+-- every node's longest wait
+pub record Longest (b waits : List ℕ) : Type 0 where
+  pub long : length waits ≡ 128
+  pub is : (n : ℕ) → n < nodeCount b → getD waits n 0 ≡ longestWait b n
