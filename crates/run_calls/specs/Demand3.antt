@@ -3,13 +3,13 @@
 use Prim.Native.Nat.{ℕ, _+_, _≤_, _<_}
 use mathlib.Core.Path.{_≡_}
 use mathlib.Core.Logic.{_≢_, _↔_, inr}
-use mathlib.Core.List.{List, _++_}
+use mathlib.Core.List.{List, _++_, List·Memᴰ as Among}
 use lib.ListN.{length, getD}
 use Rattle.plan_format.specs.Format.{nodeCount}
 use Rattle.plan_check.specs.Meaning.{planOf, startOf}
 use Rattle.runs.specs.Execution.{Complete}
 use Rattle.runs.specs.Verdict.{Verdict, CLEAR, DOOMED, Judged}
-use Rattle.runs.specs.Calls.{Call, World, fresh, Worked, Among}
+use Rattle.runs.specs.Calls.{Call, World, fresh, Worked}
 use Rattle.run_state.specs.State.{stateRefusal, worldOf}
 use Rattle.base.specs.Answers.{overlay}
 use Rattle.run_monitor.specs.declared.Progress.{Progress}
