@@ -1,6 +1,6 @@
 -- The text of the task lines: how long it is, and that it is written line by line. Assumes nothing.
 use mathlib.Core.Path.{_≡_, refl, sym, ap, _∙_}
-use mathlib.Core.List.{List, [], _∷_, _++_, append-assoc, append-nil}
+use mathlib.Core.List.{List, [], _∷_, _++_, append-assoc, append-nil, List·Memᴰ as Among, List·Memᴰ·head as here, List·Memᴰ·tail as there}
 use Prim.Native.Nat.{ℕ, suc, _+_, _*_, _<_, _≤_}
 use native.Mathlib.Numerals.{add-one}
 use native.Mathlib.Omega.{arith}
@@ -15,7 +15,7 @@ use Rattle.wait_lengths.specs.Waits.{longestWait}
 use Rattle.wait_lengths.proofs.Bounds.{end-limit}
 use Rattle.text_order.specs.Order.{rankedTo, ranking}
 use Rattle.text_order.specs.Places.{Ranking}
-use Rattle.text_order.proofs.Order.{Among, here, there, among-at, ranked-task, ranked-length}
+use Rattle.text_order.proofs.Order.{among-at, ranked-task, ranked-length}
 use Rattle.text_lines.specs.Lines.{nameOf, ending, lineOf, linesOf}
 
 pub name-length : (b : List ℕ) (n : ℕ) → length (nameOf b n) ≡ 4
@@ -46,7 +46,7 @@ module _ {b : List ℕ} (ok : Clean b) where
   lines-short : (xs : List ℕ) → ((u : ℕ) → Among u xs → u < nodeCount b) → length (linesOf b xs) ≤ 13 * length xs
   unfolding linesOf
   lines-short [] h = omega arith
-  lines-short (x ∷ xs) h = omega (arith, length-append (lineOf b x) (linesOf b xs), line-limit x (h x here), lines-short xs (λ u a. h u (there a)))
+  lines-short (x ∷ xs) h = omega (arith, length-append (lineOf b x) (linesOf b xs), line-limit x (h x (here refl)), lines-short xs (λ u a. h u (there a)))
 
   -- the first i lines
   lines-next : (i : ℕ) → i < length (ranking b) → linesOf b (take (suc i) (ranking b)) ≡ linesOf b (take i (ranking b)) ++ lineOf b (getD (ranking b) i 0)
