@@ -8,12 +8,13 @@ use native.Mathlib.Decide.{ℕ-discrete}
 use native.Mathlib.Omega.{arith}
 use lib.Dec.{ltb}
 use lib.ListN.{length}
+use lib.Seq.{length-take-le}
 use borrow.Author.Tests.{lt-ltb, le-ltb, ne-eqb}
 use Rattle.base.specs.Answers.{refusedOr}
 use Rattle.base.proofs.First.{first-some, both-none}
 use Rattle.plan_rules.specs.Rules.{refusal}
 use Rattle.text_decimals.specs.Decimals.{written, Wrote}
-use Rattle.text_decimals.proofs.Written.{wrote-same}
+use Rattle.text_decimals.proofs.Written.{wrote-long, wrote-same}
 use Rattle.plan_check.proofs.Accepted.{clean}
 use Rattle.listing.specs.Text.{textOf, refusedText, printed}
 use Rattle.listing.specs.Listing.{listingRefusal, listedOf, listingLeft, Lists, Prints}
@@ -91,16 +92,19 @@ module _ (b out : List ℕ) where
       (omega (arith, refusal-limit b), ap refusedText e ∙ printed-refused b p, h .bytes ∙ left-out (w .1))
 
 -- ---- all that is printed fits too
-pub printed-fits : (b : List ℕ) → length (printed b) ≤ 2048
+pub printed-fits : (b : List ℕ) → length (printed b) ≤ 1666
 printed-fits b =
     by-cases (ℕ-discrete (refusal b) 0)
-    (λ (e : refusal b ≡ 0). rw (← printed-text b e) (omega (arith, text-fits (clean b e))))
+    (λ (e : refusal b ≡ 0). rw (← printed-text b e) (text-fits (clean b e)))
     (λ e. rw (← printed-refused b e) (omega (arith, refused-length (refusal b) (refusal-limit b))))
 
-pub prints : (b : List ℕ) {out out' : List ℕ} {r : ℕ} → Wrote out 0 (printed b) out' r → Prints b out out' r
-prints b w = record {
-  wrote = w;
-  fits = omega (arith, w .next, printed-fits b);
-  text = λ e. rw (← printed-text b e) (is-listing b e);
-  refused = λ h. rw (← printed-refused b h) (is-refusal (refusal b));
-}
+pub prints : (b : List ℕ) {out out' : List ℕ} {r : ℕ} → 2048 ≤ length out → Wrote out 0 (printed b) out' r → Prints b out out' r
+prints b {out' = out'} {r} l w =
+    let f : r ≤ length out' = omega (arith, w .next, wrote-long w, printed-fits b) in
+    record {
+      wrote = w;
+      fits = f;
+      counts = sym (length-take-le r out' f);
+      text = λ e. rw (← printed-text b e) (is-listing b e);
+      refused = λ h. rw (← printed-refused b h) (is-refusal (refusal b));
+    }

@@ -5,7 +5,7 @@ use mathlib.Core.Logic.{_⊎_, inl, inr}
 use mathlib.Core.Bool.{cond}
 use mathlib.Core.List.{List}
 use lib.Dec.{eqb, ltb}
-use lib.ListN.{length}
+use lib.ListN.{length, take}
 use Rattle.base.specs.Answers.{first, refusedOr}
 use Rattle.plan_rules.specs.Rules.{refusal}
 use Rattle.text_decimals.specs.Decimals.{written, Wrote}
@@ -36,9 +36,10 @@ pub record Lists (b out : List ℕ) (r : Listed) (out' : List ℕ) : Type 0 wher
   pub bytes : out' ≡ listingLeft b out
   pub text : refusal b ≡ 0 → IsListing b (textOf b)
 
--- a call wrote all that the program prints from the first byte, and answered how much that is: the listing that 01 describes, or the refusal
+-- a call wrote all that the program prints from the first byte, the listing that 01 describes or the refusal, and answered how much of out' that is (`counts` follows from `fits`; `&out[..r]` asks for both)
 pub record Prints (b out out' : List ℕ) (r : ℕ) : Type 0 where
   pub wrote : Wrote out 0 (printed b) out' r
-  pub fits : r ≤ 2048
+  pub fits : r ≤ length out'
+  pub counts : r ≡ length (take r out')
   pub text : refusal b ≡ 0 → IsListing b (printed b)
   pub refused : (refusal b ≡ 0 → ⊥) → IsRefusal (refusal b) (printed b)

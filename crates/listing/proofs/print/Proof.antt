@@ -24,10 +24,12 @@ returns : tie.Need-returns
 returns c =
     let l : 2048 ≤ length (now (c .before .before .before .before .before .before .before .before .before .before .before .args .out)) = search needs in
     let w = refused-answered _ _ l (rw (c .before .before .before .before .before .before .listed .given .1) at (c .before .before .before .before .before .before .before .before .listing .ensures)) in
-    prints _ (wrote-same (refused-is _ ∙ w .1) (wrote-then (rw (w .2) at (c .before .before .write-bytes .ensures)) (c .end-line .ensures)))
+    prints _ l (wrote-same (refused-is _ ∙ w .1) (wrote-then (rw (w .2) at (c .before .before .write-bytes .ensures)) (c .end-line .ensures)))
 
 returns-2 : tie.Need-returns-2
-returns-2 c = prints _ (text-answered _ _ (rw (c .before .listed2 .given .1) at (c .before .before .before .listing .ensures)))
+returns-2 c =
+    let l : 2048 ≤ length (now (c .before .before .before .before .before .before .args .out)) = search needs in
+    prints _ l (text-answered _ _ (rw (c .before .listed2 .given .1) at (c .before .before .before .listing .ensures)))
 
 pub print-spec : {M : Type 1} → statement M
 print-spec =
