@@ -38,6 +38,6 @@ pub record NoneRequired (rows : List ℕ) (wanted : Literals) (c : ℕ) : Type 0
   pub none : (v : Bool) (f : ℕ) → f < 64 → T (bit (signWord wanted v) f)
       → ¬ (T (bit (wordAt rows c (indexOf (requires v))) f) ⊎ T (bit (wordAt rows c (indexOf (may-pre v))) f))
 
--- where the pairs with c begin: at the start, or at the end if none is required
-abbrev pub FirstPartner : List ℕ → Literals → ℕ → ℕ → ℕ → ℕ → Type 0
-FirstPartner rows wanted c start end r = (r ≡ start) ⊎ ((r ≡ end) × NoneRequired rows wanted c)
+-- where the pairs with c go on: at the next position, or at the end if none is required
+abbrev pub NextPartner : List ℕ → Literals → ℕ → ℕ → ℕ → ℕ → Type 0
+NextPartner rows wanted c next end r = (r ≡ next) ⊎ ((r ≡ end) × NoneRequired rows wanted c)

@@ -2,7 +2,7 @@
 ghost use Prim.Native.Nat.{_<_};
 ghost use lib.ListN.{getD};
 ghost use Rattle.marks_row.specs.Tables.{Position, Shaped};
-ghost use Rattle.marks_pair.specs.Pairs.{PairWord, PairWords, FirstPartner};
+ghost use Rattle.marks_pair.specs.Pairs.{PairWord, PairWords, NextPartner};
 use marks_between::passing;
 use marks_row::wide;
 use marks_row::word_at;
@@ -78,21 +78,21 @@ pub fn pair_words(
     }
 }
 
-// The position of the first child to pair with c: past them all, if c requires no wanted literal.
-pub fn first_partner(
+// The position of the next child to pair with c: the given one, or past them all, if c requires no wanted literal.
+pub fn next_partner(
     rows: &[u64; 2688],
     wanted: Literals,
     c: usize,
-    start: usize,
+    next: usize,
     end: usize,
 ) -> usize
     requires { ⌜ c < 128 ⌝ }
-    ensures { λ r. ⌜ FirstPartner (now (rows .entry)) wanted c start end r ⌝ }
+    ensures { λ r. ⌜ NextPartner (now (rows .entry)) wanted c next end r ⌝ }
 {
     let clear = word_at(rows, c, REQUIRES) | word_at(rows, c, MAY_PRE);
     let set = word_at(rows, c, REQUIRES + 1) | word_at(rows, c, MAY_PRE + 1);
     if ((wanted.clear & clear) | (wanted.set & set)) == 0 {
         return end;
     }
-    start
+    next
 }
