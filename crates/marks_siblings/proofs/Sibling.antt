@@ -34,8 +34,8 @@ module _ {w r : ℕ} {C : Type 0} {A : ℕ → Type 0} where
     says = λ f l. says-map (λ x. (x .0, λ y. (a f l) .0 (x .1 (c .1 y))), λ x. (x .0, λ y. (a f l) .1 (x .1 (c .0 y)))) (n .says f l);
   }
 
-pub narrows-taken : {w r : ℕ} (y : ℕ) {C : Type 0} → C → r ≡ bitAnd w y → Narrows w r C (λ f. T (bit y f))
-narrows-taken {w} {r} y c e = record { says = λ f l. says-map (λ x. (x .0, λ d. x .1), λ x. (x .0, x .1 c)) (says-and e (says-self w f) (says-self y f)) }
+pub narrows-taken : {w r x y : ℕ} {C : Type 0} → C → x ≡ y → r ≡ bitAnd w x → Narrows w r C (λ f. T (bit y f))
+narrows-taken {w} {r} {x} {y} c q e = record { says = λ f l. says-map (λ z. (z .0, λ d. z .1), λ z. (z .0, z .1 c)) (says-and e (says-self w f) (says-eq q (says-self y f))) }
 
 -- the flags of neither word
 pub neither : (x y f : ℕ) → f < 64 → T (bit (bitXor (bitOr x y) ones) f) ↔ (¬ (T (bit x f) ⊎ T (bit y f)))

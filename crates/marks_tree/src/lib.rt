@@ -1,7 +1,8 @@
 // The rows of a plan's nodes, by functions for all-of and any-of groups that call each other.
 ghost use mathlib.Core.Path.{_≡_};
 ghost use Prim.Native.Nat.{_≤_, _<_};
-ghost use lib.ListN.{length, getD};
+ghost use lib.ListN.{length};
+ghost use Rattle.runs.specs.Plan.{all-of, any-of};
 ghost use Rattle.marks_row.specs.Tables.{Shaped};
 ghost use Rattle.marks_tree.specs.Clobbers.{AllOfRow, ClobberWords, Ored};
 ghost use Rattle.marks_tree.specs.Filled.{Filled, TasksFilled, AllFilled};
@@ -90,7 +91,7 @@ fn all_row(
     ored(words, clobbers)
 }
 
-// Works out the rows of an all-of group and of all under it, those of the tasks excepted.
+// Works out the rows of a node and of all under it, those of the tasks excepted, if the node is an all-of group.
 fn all_of(
     kind: &[u8; 128],
     from: &[u8; 129],
@@ -100,8 +101,8 @@ fn all_of(
     n: usize,
     node: usize,
 )
-    requires { ⌜ (Shaped (now from) (now kids) n × (node < n)) × ((length (now rows) ≡ 2688) × (getD (now kind) node 0 ≡ 1)) ⌝ }
-    ensures { λ r. ⌜ Filled (now (kind .entry)) (now (from .entry)) (now (kids .entry)) (now (order .entry)) (now (rows .entry)) (now (rows .exit)) n node ⌝ }
+    requires { ⌜ (Shaped (now from) (now kids) n × (node < n)) × (length (now rows) ≡ 2688) ⌝ }
+    ensures { λ r. ⌜ Filled all-of (now (kind .entry)) (now (from .entry)) (now (kids .entry)) (now (order .entry)) (now (rows .entry)) (now (rows .exit)) n node ⌝ }
 {
     let end = wide(from[node + 1]);
     let mut i = wide(from[node]);
@@ -119,7 +120,7 @@ fn all_of(
     write_row(rows, node, words);
 }
 
-// Works out the rows of an any-of group and of all under it, those of the tasks excepted.
+// Works out the rows of a node and of all under it, those of the tasks excepted, if the node is an any-of group.
 fn any_of(
     kind: &[u8; 128],
     from: &[u8; 129],
@@ -129,8 +130,8 @@ fn any_of(
     n: usize,
     node: usize,
 )
-    requires { ⌜ (Shaped (now from) (now kids) n × (node < n)) × ((length (now rows) ≡ 2688) × (getD (now kind) node 0 ≡ 2)) ⌝ }
-    ensures { λ r. ⌜ Filled (now (kind .entry)) (now (from .entry)) (now (kids .entry)) (now (order .entry)) (now (rows .entry)) (now (rows .exit)) n node ⌝ }
+    requires { ⌜ (Shaped (now from) (now kids) n × (node < n)) × (length (now rows) ≡ 2688) ⌝ }
+    ensures { λ r. ⌜ Filled any-of (now (kind .entry)) (now (from .entry)) (now (kids .entry)) (now (order .entry)) (now (rows .entry)) (now (rows .exit)) n node ⌝ }
 {
     let end = wide(from[node + 1]);
     let mut i = wide(from[node]);
