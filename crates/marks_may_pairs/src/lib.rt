@@ -2,10 +2,10 @@
 ghost use Prim.Native.Nat.{_<_};
 ghost use Rattle.marks_row.specs.Tables.{Shaped};
 ghost use Rattle.marks_may_pairs.specs.Search.{Stands, Search, AllPairs};
+use base::wide;
 use marks_pair::Literals;
 use marks_pair::next_partner;
 use marks_pair::pair_words;
-use marks_row::wide;
 
 // The literals of the pair at which a search stopped, and the positions of its two children; with no literal, the child is past them all.
 pub struct Found {

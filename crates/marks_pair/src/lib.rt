@@ -3,19 +3,14 @@ ghost use Prim.Native.Nat.{_<_};
 ghost use lib.ListN.{getD};
 ghost use Rattle.marks_row.specs.Tables.{Position, Shaped};
 ghost use Rattle.marks_pair.specs.Pairs.{PairWord, PairWords, NextPartner};
+use base::wide;
 use marks_between::passing;
-use marks_row::wide;
+use marks_row::columns::ASSERTS;
+use marks_row::columns::MAY_POST;
+use marks_row::columns::MAY_PRE;
+use marks_row::columns::REQUIRES;
 use marks_row::word_at;
 use marks_siblings::apart;
-
-// The first word of some columns; there is a word for each sign, clear and set.
-const MAY_PRE: usize = 5;
-
-const MAY_POST: usize = 7;
-
-const REQUIRES: usize = 11;
-
-const ASSERTS: usize = 13;
 
 // Literals: the flags wanted clear, the flags wanted set.
 pub struct Literals {

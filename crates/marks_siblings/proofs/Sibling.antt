@@ -18,7 +18,7 @@ use Rattle.runs.specs.Summary.{TaskWith, Silent}
 use Rattle.runs.proofs.Reflect.{clash}
 use Rattle.marks_siblings.specs.declared.Siblings.{Siblings}
 use Rattle.marks_row.specs.Tables.{code, RepresentsOrder}
-use Rattle.marks_row.specs.Columns.{avoid, quiet, asserts, Fact, wordAt, Right}
+use Rattle.marks_row.specs.Columns.{avoid, quiet, asserts, Fact, wordIn, Right}
 use Rattle.marks_row.specs.Segments.{Every}
 use Rattle.marks_siblings.specs.Group.{Group}
 use Rattle.marks_siblings.specs.Siblings.{Apart, Narrows, Limits, SiblingWords}
@@ -80,14 +80,14 @@ silent-is p f b = (λ k e t u. quiet k e t u (signOf p e f) refl, λ s x. loud s
     loud s (inr x) = heard true s x (x .has)
 
 -- a node under which no task asserts the flag, by the words of its row
-pub silent-cell : {p : Plan} {rows : List ℕ} {b f : ℕ} → Right p rows b → f < 64 → (¬ (T (bit (wordAt rows b 13) f) ⊎ T (bit (wordAt rows b 14) f))) ↔ Silent p f b
+pub silent-cell : {p : Plan} {rows : List ℕ} {b f : ℕ} → Right p rows b → f < 64 → (¬ (T (bit (wordIn rows b (asserts false)) f) ⊎ T (bit (wordIn rows b (asserts true)) f))) ↔ Silent p f b
 silent-cell {p} {rows} {b} {f} r l = (λ k. (silent-is p f b) .0 (λ x. k (down x)), λ s x. (silent-is p f b) .1 s (up x))
   where
-    up : T (bit (wordAt rows b 13) f) ⊎ T (bit (wordAt rows b 14) f) → Fact p b f (asserts false) ⊎ Fact p b f (asserts true)
+    up : T (bit (wordIn rows b (asserts false)) f) ⊎ T (bit (wordIn rows b (asserts true)) f) → Fact p b f (asserts false) ⊎ Fact p b f (asserts true)
     up (inl t) = inl ((cell r l (asserts false)) .0 t)
     up (inr t) = inr ((cell r l (asserts true)) .0 t)
 
-    down : Fact p b f (asserts false) ⊎ Fact p b f (asserts true) → T (bit (wordAt rows b 13) f) ⊎ T (bit (wordAt rows b 14) f)
+    down : Fact p b f (asserts false) ⊎ Fact p b f (asserts true) → T (bit (wordIn rows b (asserts false)) f) ⊎ T (bit (wordIn rows b (asserts true)) f)
     down (inl x) = inl ((cell r l (asserts false)) .1 x)
     down (inr x) = inr ((cell r l (asserts true)) .1 x)
 

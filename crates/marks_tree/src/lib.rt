@@ -3,28 +3,25 @@ ghost use mathlib.Core.Path.{_≡_};
 ghost use Prim.Native.Nat.{_≤_, _<_};
 ghost use lib.ListN.{length};
 ghost use Rattle.runs.specs.Plan.{all-of, any-of};
+ghost use Rattle.marks_row.specs.Columns.{RowIs};
 ghost use Rattle.marks_row.specs.Tables.{Shaped};
-ghost use Rattle.marks_tree.specs.Clobbers.{AllOfRow, ClobberWords, Ored};
+ghost use Rattle.marks_tree.specs.Clobbers.{AllOfRow, clobberOf, Ored};
 ghost use Rattle.marks_tree.specs.Filled.{Filled, TasksFilled, AllFilled};
+use base::ALL;
+use base::wide;
 use marks_group::all_words;
 use marks_group::any_words;
 use marks_may_pairs::clobbering_pairs;
 use marks_must_pairs::must_pairs;
 use marks_pair::Literals;
+use marks_row::columns::MAY_CLOBBER;
+use marks_row::columns::MUST_CLOBBER;
 use marks_row::task_words;
-use marks_row::wide;
 use marks_row::write_row;
-
-const ALL: u64 = 18446744073709551615;
-
-// The first word of some columns; there is a word for each sign, clear and set.
-const MAY_CLOBBER: usize = 15;
-
-const MUST_CLOBBER: usize = 19;
 
 // A row with the words of may and must clobber only.
 fn clobber_words(may: Literals, must: Literals) -> [u64; 21]
-    ensures { λ r. ⌜ ClobberWords may must r ⌝ }
+    ensures { λ r. ⌜ RowIs (clobberOf may must) r ⌝ }
 {
     [
         0,

@@ -23,7 +23,7 @@ abbrev μ-search : tie.MeasureT-search
 μ-search from kids order rows n node wanted child partner end start found₀ i₀ j₀ found i j = end - i
 
 search-holds : tie.Need-search-holds Inv-loop μ-loop Inv-search μ-search
-search-holds c = (record { starts = c .wide2 .ensures; ends = c .before .before .wide .ensures }, ((refl, refl), c .before .before .before .before .pre .1))
+search-holds c = (record { starts = c .wide2 .ensures .0; ends = c .before .before .wide .ensures .0 }, ((refl, refl), c .before .before .before .before .pre .1))
 
 element-copy-out-wide-3 : tie.Need-element-copy-out-wide-3 Inv-loop μ-loop Inv-search μ-search
 element-copy-out-wide-3 c =
@@ -34,13 +34,13 @@ next-partner-requires : tie.Need-next-partner-requires Inv-loop μ-loop Inv-sear
 next-partner-requires c κs =
     let m = c .before .before .before in
     kid-small (m .before .before .before .before .before .pre .0)
-    (position (m .search .inv .0) (m .search .inv .1 .1 .child) (c .before .before .search-test .taken)) (c .wide3 .ensures)
+    (position (m .search .inv .0) (m .search .inv .1 .1 .child) (c .before .before .search-test .taken)) (c .wide3 .ensures .0)
 
 loop-holds : tie.Need-loop-holds Inv-loop μ-loop Inv-search μ-search
 loop-holds c =
     let m = c .before .before .before .before in
     let at = position (m .search .inv .0) (m .search .inv .1 .1 .child) (c .before .before .before .search-test .taken) in
-    (m .search .inv .1 .0, goes-on (m .search .inv .1 .1) (m .search .inv .0) at (c .before .wide3 .ensures) (c .next-partner .ensures))
+    (m .search .inv .1 .0, goes-on (m .search .inv .1 .1) (m .search .inv .0) at (c .before .wide3 .ensures .0) (c .next-partner .ensures))
 
 pair-words-requires : tie.Need-pair-words-requires Inv-loop μ-loop Inv-search μ-search
 pair-words-requires c κs =
@@ -49,7 +49,7 @@ pair-words-requires c κs =
     let s = m .before .before .before .before .before in
     let bounds = m .search .inv .0 in
     let at = position bounds (l .loop .inv .1 .child) (l .before .before .before .before .search-test .taken) in
-    (s .pre .0, (kid-below (s .pre .0) at (l .before .before .wide3 .ensures), position bounds (l .loop .inv .1 .partner) (c .loop-test .taken)))
+    (s .pre .0, (kid-below (s .pre .0) at (l .before .before .wide3 .ensures .0), position bounds (l .loop .inv .1 .partner) (c .loop-test .taken)))
 
 loop-again : tie.Need-loop-again Inv-loop μ-loop Inv-search μ-search
 loop-again c =
@@ -58,7 +58,7 @@ loop-again c =
     let stands = l .loop .inv .1 in
     let at = position (m .search .inv .0) (stands .child) (l .before .before .before .before .search-test .taken) in
     let to = position (m .search .inv .0) (stands .partner) (c .before .before .before .loop-test .taken) in
-    (l .loop .inv .0, partner-passed stands at to (l .before .before .wide3 .ensures) (c .before .before .pair-words .ensures) (c .if1 .left))
+    (l .loop .inv .0, partner-passed stands at to (l .before .before .wide3 .ensures .0) (c .before .before .pair-words .ensures) (c .if1 .left))
 
 search-again : tie.Need-search-again Inv-loop μ-loop Inv-search μ-search
 search-again c =
@@ -81,7 +81,7 @@ returns-2 c =
     let stands = l .loop .inv .1 in
     let at = position (m .search .inv .0) (stands .child) (l .before .before .before .before .search-test .taken) in
     let to = position (m .search .inv .0) (stands .partner) (c .before .before .before .loop-test .taken) in
-    pair-found stands at to (l .before .before .wide3 .ensures) (c .before .before .pair-words .ensures) (c .if1 .taken)
+    pair-found stands at to (l .before .before .wide3 .ensures .0) (c .before .before .pair-words .ensures) (c .if1 .taken)
 
 pub clobbering-pair-spec : {M : Type 1} → statement M
 clobbering-pair-spec =
