@@ -1,10 +1,10 @@
--- `first_partner` meets its contract. Assumes nothing.
+-- `next_partner` meets its contract. Assumes nothing.
 use mathlib.Core.Path.{refl}
 use mathlib.Core.Logic.{inl, inr}
 use Rattle.marks_pair.proofs.Pairs.{none-required}
 use borrow.Author.Needs.{needs}
-use Rattle.marks_pair.proofs.first_partner.Statement.{statement}
-use Rattle.marks_pair.proofs.first_partner.Tie as tie
+use Rattle.marks_pair.proofs.next_partner.Statement.{statement}
+use Rattle.marks_pair.proofs.next_partner.Tie as tie
 
 returns : tie.Need-returns
 returns c =
@@ -18,8 +18,8 @@ returns c =
 returns-2 : tie.Need-returns-2
 returns-2 c = inl refl
 
-pub first-partner-spec : {M : Type 1} → statement M
-first-partner-spec =
+pub next-partner-spec : {M : Type 1} → statement M
+next-partner-spec =
     tie.close
     (tie.spec
     (λ c κs. search needs)
