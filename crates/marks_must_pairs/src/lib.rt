@@ -1,7 +1,7 @@
 // Rule (b) of must clobber: the pairs of children of an all-of group that clobber a literal in every completed execution; for all flags at once.
 ghost use Prim.Native.Nat.{_<_};
 ghost use lib.ListN.{getD};
-ghost use Rattle.marks_row.specs.Tables.{Position, Shaped};
+ghost use Rattle.marks_row.specs.Tables.{AtGroup, AtPair};
 ghost use Rattle.marks_must_pairs.specs.MustPairs.{MustPairWord, WithChildWord, MustPairsWord};
 use base::ALL;
 use base::wide;
@@ -22,7 +22,7 @@ fn must_pair_word(
     c: usize,
     j: usize,
 ) -> u64
-    requires { ⌜ ((Shaped (now from) (now kids) n × (node < n)) × (sign < 2)) × ((c < n) × Position (now from) node j) ⌝ }
+    requires { ⌜ AtPair (now from) (now kids) n node c j × (sign < 2) ⌝ }
     ensures { λ r. ⌜ MustPairWord (now (from .entry)) (now (kids .entry)) (now (order .entry)) (now (rows .entry)) n node sign wanted c (getD (now (kids .entry)) j 0) r ⌝ }
 {
     let d = wide(kids[j]);
@@ -48,7 +48,7 @@ fn must_pairs_of(
     known: u64,
     c: usize,
 ) -> u64
-    requires { ⌜ ((Shaped (now from) (now kids) n × (node < n)) × (sign < 2)) × (c < n) ⌝ }
+    requires { ⌜ AtGroup (now from) (now kids) n node × ((sign < 2) × (c < n)) ⌝ }
     ensures { λ r. ⌜ WithChildWord (now (from .entry)) (now (kids .entry)) (now (order .entry)) (now (rows .entry)) n node sign known c r ⌝ }
 {
     if (known ^ ALL) & must_pre(rows, c, sign) == 0 {
@@ -75,7 +75,7 @@ pub fn must_pairs(
     sign: usize,
     known: u64,
 ) -> u64
-    requires { ⌜ (Shaped (now from) (now kids) n × (node < n)) × (sign < 2) ⌝ }
+    requires { ⌜ AtGroup (now from) (now kids) n node × (sign < 2) ⌝ }
     ensures { λ r. ⌜ MustPairsWord (now (from .entry)) (now (kids .entry)) (now (order .entry)) (now (rows .entry)) n node sign known r ⌝ }
 {
     let mut flags = known;
