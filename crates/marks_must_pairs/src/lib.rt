@@ -2,7 +2,8 @@
 ghost use Prim.Native.Nat.{_<_};
 ghost use lib.ListN.{getD};
 ghost use Rattle.marks_row.specs.Tables.{AtGroup, AtPair};
-ghost use Rattle.marks_must_pairs.specs.MustPairs.{MustPairWord, WithChildWord, MustPairsWord};
+ghost use Rattle.marks_between.specs.Passing.{PairWord};
+ghost use Rattle.marks_must_pairs.specs.MustPairs.{MustPair, WithChildWord, MustPairsWord};
 use base::ALL;
 use base::wide;
 use marks_between::passing;
@@ -23,7 +24,7 @@ fn must_pair_word(
     j: usize,
 ) -> u64
     requires { ⌜ AtPair (now from) (now kids) n node c j × (sign < 2) ⌝ }
-    ensures { λ r. ⌜ MustPairWord (now (from .entry)) (now (kids .entry)) (now (order .entry)) (now (rows .entry)) n node sign wanted c (getD (now (kids .entry)) j 0) r ⌝ }
+    ensures { λ r. ⌜ PairWord MustPair (now (from .entry)) (now (kids .entry)) (now (order .entry)) (now (rows .entry)) n node sign wanted c (getD (now (kids .entry)) j 0) r ⌝ }
 {
     let d = wide(kids[j]);
     if order[d * 128 + c] == 1 {

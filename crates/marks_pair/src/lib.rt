@@ -2,7 +2,8 @@
 ghost use Prim.Native.Nat.{_<_};
 ghost use lib.ListN.{getD};
 ghost use Rattle.marks_row.specs.Tables.{AtPair};
-ghost use Rattle.marks_pair.specs.Pairs.{PairWord, PairWords, NextPartner};
+ghost use Rattle.marks_between.specs.Passing.{PairWord};
+ghost use Rattle.marks_pair.specs.Pairs.{Pair, PairWords, NextPartner};
 use base::wide;
 use marks_between::passing;
 use marks_row::columns::ASSERTS;
@@ -32,7 +33,7 @@ fn pair_word(
     j: usize,
 ) -> u64
     requires { ⌜ AtPair (now from) (now kids) n node c j × (sign < 2) ⌝ }
-    ensures { λ r. ⌜ PairWord (now (from .entry)) (now (kids .entry)) (now (order .entry)) (now (rows .entry)) n node sign wanted c (getD (now (kids .entry)) j 0) r ⌝ }
+    ensures { λ r. ⌜ PairWord Pair (now (from .entry)) (now (kids .entry)) (now (order .entry)) (now (rows .entry)) n node sign wanted c (getD (now (kids .entry)) j 0) r ⌝ }
 {
     let d = wide(kids[j]);
     if order[d * 128 + c] == 1 {
