@@ -1,7 +1,7 @@
 -- A loop over the children of a group g: i goes through the positions of its segment. Assumes nothing.
 use mathlib.Core.Path.{_≡_}
 use mathlib.Core.List.{List}
-use Prim.Native.Nat.{ℕ, _+_, _≤_, _<_}
+use Prim.Native.Nat.{ℕ, _+_, _-_, _≤_, _<_}
 use native.Mathlib.Omega.{arith}
 use lib.ListN.{getD}
 use Rattle.marks_row.specs.Tables.{Position, Shaped}
@@ -25,6 +25,10 @@ module _ {from kids : List ℕ} {size g : ℕ} (s : Shaped from kids size × (g 
   pub kid-below : {i x : ℕ} → Position from g i → x ≡ getD kids i 0 → x < size
   kid-below {i} p e = omega (arith, e, s .0 .rises g i (s .1) p .1)
 
+  -- a child has a greater number than its group
+  pub kid-later : {i x : ℕ} → Position from g i → x ≡ getD kids i 0 → (g < x) × (x < size)
+  kid-later {i} p e = rw e (s .0 .rises g i (s .1) p)
+
   pub kid-small : {i x : ℕ} → Position from g i → x ≡ getD kids i 0 → x < 128
   kid-small p e = omega (arith, kid-below p e, s .0 .small)
 
@@ -37,3 +41,7 @@ module _ {from : List ℕ} {g end i : ℕ} (t : Turn from g end i) where
 
   pub last-turn : end ≤ i → i ≡ getD from (g + 1) 0
   last-turn l = omega (arith, l, t .high, t .ends)
+
+-- a child is nearer to n than its group
+pub nearer : {n g c t : ℕ} → n - g ≡ t → (g < c) × (c < n) → n - c < t
+nearer e l = omega (arith, e, l .0, l .1)
