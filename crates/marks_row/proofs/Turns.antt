@@ -1,7 +1,7 @@
 -- A loop over the children of a group g: i goes through the positions of its segment. Assumes nothing.
 use mathlib.Core.Path.{_≡_}
 use mathlib.Core.List.{List}
-use Prim.Native.Nat.{ℕ, _+_, _≤_, _<_}
+use Prim.Native.Nat.{ℕ, _+_, _-_, _≤_, _<_}
 use native.Mathlib.Omega.{arith}
 use lib.ListN.{getD}
 use Rattle.marks_row.specs.Tables.{Position, AtGroup, AtPair}
@@ -25,6 +25,10 @@ module _ {from kids : List ℕ} {size g : ℕ} (s : AtGroup from kids size g) wh
   pub kid-below : {i x : ℕ} → Position from g i → x ≡ getD kids i 0 → x < size
   kid-below {i} p e = omega (arith, e, s .shaped .rises g i (s .below) p .1)
 
+  -- a child has a greater number than its group
+  pub kid-later : {i x : ℕ} → Position from g i → x ≡ getD kids i 0 → (g < x) × (x < size)
+  kid-later {i} p e = rw e (s .shaped .rises g i (s .below) p)
+
   pub kid-small : {i x : ℕ} → Position from g i → x ≡ getD kids i 0 → x < 128
   kid-small p e = omega (arith, kid-below p e, s .shaped .small)
 
@@ -41,3 +45,7 @@ module _ {from : List ℕ} {g end i : ℕ} (t : Turn from g end i) where
 
   pub last-turn : end ≤ i → i ≡ getD from (g + 1) 0
   last-turn l = omega (arith, l, t .high, t .ends)
+
+-- a child is nearer to n than its group
+pub nearer : {n g c t : ℕ} → n - g ≡ t → (g < c) × (c < n) → n - c < t
+nearer e l = omega (arith, e, l .0, l .1)

@@ -2,5 +2,6 @@
 pub mod Tables
 pub mod Columns
 pub mod Segments
+pub mod Walks
 pub mod Tasks
 pub mod Musts

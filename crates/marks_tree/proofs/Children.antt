@@ -1,6 +1,6 @@
 -- The rows of a group's children, one after another, and then the group's own. Assumes nothing.
 use mathlib.Core.Path.{_≡_, refl, sym, _∙_}
-use mathlib.Core.Logic.{_≢_, _⊎_, inl, inr}
+use mathlib.Core.Logic.{_≢_}
 use mathlib.Core.List.{List}
 use Prim.Native.Nat.{ℕ, _+_, _<_}
 use native.Mathlib.Decide.{ℕ-discrete}
@@ -8,15 +8,15 @@ use native.Mathlib.Omega.{arith}
 use lib.ListN.{length, getD}
 use Rattle.base.proofs.Says.{says-eq}
 use Rattle.runs.specs.Plan.{Kind, task, all-of, any-of, Plan, Node, Under, itself, WellFormed, kindNumber}
-use Rattle.runs.proofs.Plan.Trees.{Branch, branch, under-root}
+use Rattle.runs.proofs.Plan.Trees.{under-root}
 use Rattle.runs.proofs.Execution.Final.{under-task}
-use Rattle.marks_row.specs.Tables.{Position, AtGroup, RepresentsKinds, RepresentsConditions, Represents}
+use Rattle.marks_row.specs.Tables.{Position, RepresentsKinds, RepresentsConditions, Represents}
 use Rattle.marks_row.specs.Columns.{indexOf, Right, Row, Written}
-use Rattle.marks_row.specs.Segments.{Every}
 use Rattle.marks_row.specs.Tasks.{Task}
 use Rattle.marks_siblings.specs.Group.{Group}
 use Rattle.marks_row.proofs.Rows.{index-small, written-right, written-keeps}
-use Rattle.marks_row.proofs.Segments.{listed, every-next, every-child}
+use Rattle.marks_row.proofs.Segments.{listed, every-child}
+use Rattle.marks_row.proofs.Walks.{RightTo, right-none, right-more, right-all}
 use Rattle.marks_between.specs.Passing.{Pairing}
 use Rattle.marks_tree.specs.Filled.{Given, Filled, TasksFilled, AllFilled}
 
@@ -50,30 +50,21 @@ module _ {kind : List ℕ} {c : ℕ} where
       at all-of a b = absurd (a refl)
       at any-of a b = absurd (b refl)
 
--- a child has a greater number than its group
-pub kid-later : {from kids : List ℕ} {n node i c : ℕ} → AtGroup from kids n node → Position from node i → c ≡ getD kids i 0 → (node < c) × (c < n)
-kid-later s at e = rw e (s .shaped .rises _ _ (s .below) at)
-
 module _ (kind from kids order : List ℕ) (n node : ℕ) where
   -- the children at the positions before i are worked out, with all under them
   pub record ChildrenTo (rows₀ rows : List ℕ) (i : ℕ) : Type 0 where
     pub long : length rows ≡ 2688
-    pub kept : (p : Plan) → Given kind from kids order rows₀ n node p → (m : ℕ) → Right p rows₀ m → Right p rows m
-    pub right : (p : Plan) → Given kind from kids order rows₀ n node p → Every kids (getD from node 0) i (λ c. (m : ℕ) → Under p c m → Right p rows m)
+    pub walked : (p : Plan) → Given kind from kids order rows₀ n node p → RightTo p kids (getD from node 0) (Right p rows₀) (Right p rows) i
 
   pub children-none : (rows : List ℕ) → length rows ≡ 2688 → ChildrenTo rows rows (getD from node 0)
-  children-none rows e = record { long = e; kept = λ p g m x. x; right = λ p g. record { each = λ j a b. absurd (omega arith) } }
+  children-none rows e = record { long = e; walked = λ p g. right-none refl }
 
   -- one child more
   pub child-more : {rows₀ rows rows' rows″ : List ℕ} {i c : ℕ} {k : Kind} → c ≡ getD kids i 0 → Position from node i → ChildrenTo rows₀ rows i → rows″ ≡ rows'
       → OfKind kind c k → Filled k kind from kids order rows rows' n c → ChildrenTo rows₀ rows″ (i + 1)
   child-more {rows₀} {rows} {c = c} {k = k} e at h q is x = rw q (record {
     long = x .long;
-    kept = λ p g m r. x .kept p (given p g) (kn p g) m (h .kept p g m r);
-    right = λ p g. (every-next (at .low)) .0 (
-      record { each = λ j a b m u. x .kept p (given p g) (kn p g) m (h .right p g .each j a b m u) },
-      rw e at (x .right p (given p g) (kn p g)),
-    );
+    walked = λ p g. right-more (at .low) e (h .walked p g) (x .under p (given p g) (kn p g));
   })
     where
       given : (p : Plan) → Given kind from kids order rows₀ n node p → Given kind from kids order rows n c p
@@ -83,7 +74,7 @@ module _ (kind from kids order : List ℕ) (n node : ℕ) where
         tree = g .tree;
         orders = g .orders;
         is-node = (listed (g .tree) (g .is-node) e at) .node;
-        tasks = λ t l k. h .kept p g t (g .tasks t l k);
+        tasks = λ t l k. h .walked p g .kept t (g .tasks t l k);
       }
 
       kn : (p : Plan) → Given kind from kids order rows₀ n node p → p .tree .kind c ≡ k
@@ -93,8 +84,7 @@ module _ (kind from kids order : List ℕ) (n node : ℕ) where
   pub task-filled : {rows : List ℕ} → length rows ≡ 2688 → Filled task kind from kids order rows rows n node
   task-filled e = record {
     long = e;
-    kept = λ p g k m x. x;
-    right = λ p g k m u. rw (under-task p (g .well-formed) k u) at (g .tasks node (g .is-node) k);
+    under = λ p g k. record { kept = λ m x. x; right = λ m u. rw (under-task p (g .well-formed) k u) at (g .tasks node (g .is-node) k) };
   }
 
   module _ {rows₀ rows rows' words : List ℕ} (h : ChildrenTo rows₀ rows (getD from (node + 1) 0)) (x : Written rows rows' node words) where
@@ -104,21 +94,15 @@ module _ (kind from kids order : List ℕ) (n node : ℕ) where
       well-formed = g .well-formed;
       tree = g .tree;
       node = g .is-node;
-      children = λ c hc. (every-child (g .tree) (g .is-node) (λ b hb. (λ y. y, λ y. y))) .0 (h .right p g) c hc c itself;
+      children = λ c hc. (every-child (g .tree) (g .is-node) (λ b hb. (λ y. y, λ y. y))) .0 (h .walked p g .right) c hc c itself;
     }
 
     filled : (k : Kind) → ((p : Plan) → Given kind from kids order rows₀ n node p → p .tree .kind node ≡ k → Row p node words)
         → Filled k kind from kids order rows₀ rows' n node
     filled k r = record {
       long = x .long;
-      kept = λ p g q m y. written-keeps x (r p g q) m (h .kept p g m y);
-      right = λ p g q m u. at p g (r p g q) m (branch p u);
+      under = λ p g q. right-all (g .tree) (g .is-node) (h .walked p g) (written-keeps x (r p g q)) (written-right x (r p g q));
     }
-      where
-        at : (p : Plan) → Given kind from kids order rows₀ n node p → Row p node words → (m : ℕ) → (node ≡ m) ⊎ Branch p node m → Right p rows' m
-        at p g y m (inl e) = rw e at (written-right x y)
-        at p g y m (inr b) = written-keeps x y m
-            ((every-child (g .tree) (g .is-node) (λ c hc. (λ y. y, λ y. y))) .0 (h .right p g) (b .via) (b .child) m (b .beneath))
 
     pub all-filled : ((p : Plan) → Pairing from kids order rows n node p → p .tree .kind node ≡ all-of → Row p node words)
         → Filled all-of kind from kids order rows₀ rows' n node
@@ -155,7 +139,7 @@ pub all-nodes : {kind from kids order conds rows rows' : List ℕ} {n : ℕ} {k 
     → Filled k kind from kids order rows rows' n 0 → AllFilled kind from kids order conds rows' n
 all-nodes {kind} {from} {kids} {order} {conds} {rows} {n = n} t is x = record {
   long = x .long;
-  right = λ p w r m l. x .right p (given p w r) (is p (r .kinds) (w .root-node)) m (under-root p w m l);
+  right = λ p w r m l. x .under p (given p w r) (is p (r .kinds) (w .root-node)) .right m (under-root p w m l);
 }
   where
     given : (p : Plan) → WellFormed p → Represents kind from kids order conds n p → Given kind from kids order rows n 0 p

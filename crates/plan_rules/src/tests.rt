@@ -1,4 +1,5 @@
 // The tests of single flags, characters, nodes, conditions and orders.
+use base::wide;
 use plan_codes::names::allowed;
 use plan_codes::value::value_bad;
 use plan_format::fields::condition_node;
@@ -18,12 +19,6 @@ ghost use mathlib.Core.Path.{_≡_};
 ghost use Prim.Native.Nat.{_+_, _*_, _<_};
 ghost use Rattle.plan_format.specs.Format.{nodeCount, condCount, orderCount, condNode, condValue, earlierOf, laterOf, Whole};
 ghost use Rattle.plan_rules.specs.Rules.{badStart, badChar, badEntry, badParent, badCondition, notBelow, notRising, isChild, badPair, badOrder};
-
-pub fn wide(x: u8) -> usize
-    ensures { λ r. ⌜ (r ≡ x) × (r < 256) ⌝ }
-{
-    x as usize
-}
 
 pub fn bad_start(plan: &[u8], f: usize) -> bool
     requires { ⌜ (f < 64) × Whole (now plan) ⌝ }

@@ -1,4 +1,5 @@
 // The rules that compare a place with later ones: one pass backwards over the nodes or the conditions, with a table.
+use base::wide;
 use plan_codes::value::flag_of;
 use plan_codes::value::place_of;
 use plan_codes::value::sign_of;
@@ -8,7 +9,6 @@ use plan_format::fields::conditions;
 use plan_format::fields::is_group;
 use plan_format::fields::nodes;
 use plan_format::fields::parent;
-use plan_rules::tests::wide;
 ghost use mathlib.Core.Path.{_≡_};
 ghost use mathlib.Core.Bool.{false};
 ghost use Prim.Native.Nat.{_<_};

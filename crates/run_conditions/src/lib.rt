@@ -1,11 +1,11 @@
 // The conditions of an event's task: the literals that it makes true, unmet preconditions, and inconditions of other running tasks that it breaks.
+use base::wide;
 use plan_codes::value::flag_of;
 use plan_codes::value::place_of;
 use plan_codes::value::sign_of;
 use plan_format::fields::condition_node;
 use plan_format::fields::condition_value;
 use plan_format::fields::conditions;
-use plan_rules::tests::wide;
 use run_flags::Flags;
 ghost use mathlib.Core.Path.{_≡_};
 ghost use mathlib.Core.Bool.{not, true, false};

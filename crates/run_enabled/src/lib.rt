@@ -1,11 +1,11 @@
 // Refusals 19 and 20 of a start: another branch of an any-of group above the task is begun (01: taken); an order's earlier node is not complete.
 use base::no_nodes;
+use base::wide;
 use plan_format::fields::earlier;
 use plan_format::fields::is_kind;
 use plan_format::fields::later;
 use plan_format::fields::orders;
 use plan_format::fields::parent;
-use plan_rules::tests::wide;
 use run_progress::is_begun;
 use run_progress::is_complete;
 ghost use mathlib.Core.Path.{_≡_};

@@ -1,9 +1,9 @@
 // Which nodes are complete and which are begun (01: taken): one pass over the nodes from the last to the first, which counts children.
 use base::no_nodes;
+use base::wide;
 use plan_format::fields::is_kind;
 use plan_format::fields::nodes;
 use plan_format::fields::parent;
-use plan_rules::tests::wide;
 ghost use mathlib.Core.Path.{_≡_};
 ghost use Prim.Native.Nat.{_<_};
 ghost use lib.ListN.{length, getD};

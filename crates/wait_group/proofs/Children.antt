@@ -1,109 +1,118 @@
 -- The children of a group, turn by turn. Assumes nothing.
-use mathlib.Core.Path.{_≡_, sym, ap, _∙_}
-use mathlib.Core.Logic.{by-cases}
-use mathlib.Core.Bool.{true, false}
+use mathlib.Core.Path.{_≡_, refl, sym, ap, _∙_}
+use mathlib.Core.Bool.{true}
 use mathlib.Core.List.{List}
 use Prim.Native.Nat.{ℕ, max, _+_, _<_, _≤_}
-use native.Mathlib.Decide.{ℕ-discrete}
 use native.Mathlib.Omega.{arith}
 use lib.ListN.{getD}
-use Rattle.plan_format.specs.Format.{nodeCount, orderCount, parentOf, kindOf, earlierOf, laterOf}
+use Rattle.plan_format.specs.Format.{nodeCount, orderCount, earlierOf, laterOf}
 use Rattle.plan_rules.specs.Rules.{isChild}
-use Rattle.plan_rules.proofs.Laws.{not-passed}
-use Rattle.plan_check.proofs.Accepted.{Clean}
+use Rattle.plan_check.proofs.Accepted.{Clean, clean}
+use Rattle.marks_row.specs.Tables.{Position, AtGroup}
+use Rattle.marks_row.specs.Segments.{Every}
+use Rattle.marks_row.proofs.Segments.{every-next}
+use Rattle.table_children.proofs.Listed.{listed-child, every-listed, lower-before}
 use Rattle.wait_lengths.specs.Waits.{greatest, lengthOf, waitWithin}
-use Rattle.wait_group.specs.Spread.{Raised, Tables, Spread}
-use Rattle.wait_lengths.proofs.Greatest.{greatest-more, greatest-skip, greatest-empty}
-use Rattle.wait_lengths.proofs.Laws.{child-lower, earlier-child, length-all, order-waits, waits-least}
-use Rattle.wait_lengths.proofs.Bounds.{own-child}
+use Rattle.wait_group.specs.Spread.{Raised, GroupOf, Tables, ChildLengths, Spread}
+use Rattle.wait_lengths.proofs.Greatest.{greatest-le, greatest-least}
+use Rattle.wait_lengths.proofs.Laws.{child-lower, earlier-child, length-any, length-all, order-waits, waits-least}
+use Rattle.wait_lengths.proofs.Bounds.{child-limit}
 
--- ---- the greatest over the children of g below c
-pub record GreatestTo (b : List ℕ) (g : ℕ) (f : ℕ → ℕ) (c v : ℕ) : Type 0 where
-  pub is : v ≡ greatest c (isChild b g) f
+-- ---- v is the greatest f over the children at the positions from low to i, or 0
+pub record GreatestTo (kids : List ℕ) (low : ℕ) (f : ℕ → ℕ) (i v : ℕ) : Type 0 where
+  pub bound : Every kids low i (λ c. f c ≤ v)
+  pub least : (u : ℕ) → Every kids low i (λ c. f c ≤ u) → v ≤ u
 
-module _ {b : List ℕ} (ok : Clean b) where
-  not-child : (g c : ℕ) → (parentOf b c ≡ g → ⊥) → isChild b g c ≡ false
-  not-child g c h = not-passed (isChild b g c) (λ e. h (child-lower b ok g c e .2))
+module _ {kids : List ℕ} {low : ℕ} {f : ℕ → ℕ} where
+  pub greatest-start : {i : ℕ} → i ≡ low → GreatestTo kids low f i 0
+  greatest-start e = record { bound = record { each = λ j a b. absurd (omega arith) }; least = λ u h. omega arith }
 
-  -- a node whose parent is g
-  pub a-child : {g c x : ℕ} → g < c → c < nodeCount b → x ≡ parentOf b c → x ≡ g → isChild b g c ≡ true
-  a-child {g} {c} z l e q = let r : parentOf b c ≡ g = sym e ∙ q in rw r at (own-child b ok c (omega arith) l)
+  pub greatest-turn : {i c v x y : ℕ} → low ≤ i → c ≡ getD kids i 0 → x ≡ f c → y ≡ max v x → GreatestTo kids low f i v → GreatestTo kids low f (i + 1) y
+  greatest-turn {i} {x = x} l e q z h =
+      let k : x ≡ f (getD kids i 0) = q ∙ ap f e in
+      record {
+        bound = (every-next l) .0 (record { each = λ j a b. omega (arith, h .bound .each j a b, z) }, omega (arith, k, z));
+        least = λ u w. let p = (every-next l) .1 w in omega (arith, h .least u (p .0), p .1, k, z);
+      }
 
-  -- the numbers up to g are no children of g
-  none-up-to : (g : ℕ) (f : ℕ → ℕ) → greatest (g + 1) (isChild b g) f ≡ 0
-  none-up-to g f = greatest-empty (isChild b g) f (g + 1) (λ i l. not-passed (isChild b g i) (λ e. omega (arith, child-lower b ok g i e)))
+module _ {b from kids : List ℕ} {k g : ℕ} (o : GroupOf b from kids k g) where
+  ok : Clean b
+  ok = clean b (o .accepted)
 
-  module _ {g : ℕ} {f : ℕ → ℕ} where
-    pub greatest-start : GreatestTo b g f (g + 1) 0
-    greatest-start = record { is = sym (none-up-to g f) }
+  pub at-group : AtGroup from kids (nodeCount b) g
+  at-group = record { shaped = o .tree .shaped; below = o .node }
 
-    pub greatest-turn : {v c x y : ℕ} → isChild b g c ≡ true → x ≡ f c → y ≡ max v x → GreatestTo b g f c v → GreatestTo b g f (c + 1) y
-    greatest-turn {c = c} h q z e = record { is = rw (z, e .is, q) (sym (greatest-more (isChild b g) f c h)) }
+  pub child-at : {i c : ℕ} → c ≡ getD kids i 0 → Position from g i → isChild b g c ≡ true
+  child-at = listed-child (o .tree) (o .node)
 
-    pub greatest-pass : {v c y : ℕ} → (parentOf b c ≡ g → ⊥) → y ≡ v → GreatestTo b g f c v → GreatestTo b g f (c + 1) y
-    greatest-pass {c = c} h z e = record { is = z ∙ e .is ∙ sym (greatest-skip (isChild b g) f c (not-child g c h)) }
-
--- ---- the children of an all-of group: those below c are done, and the orders of each are met
-pub record SpreadTo (b lengths waits₀ waits : List ℕ) (g c v : ℕ) : Type 0 where
-  pub tables : Tables b lengths waits
-  pub grown : (m : ℕ) → getD waits₀ m 0 ≤ getD waits m 0
-  pub met : (j : ℕ) → j < orderCount b → earlierOf b j < c → isChild b g (earlierOf b j) ≡ true → waitWithin b (earlierOf b j) + lengthOf b (earlierOf b j) ≤ getD waits (laterOf b j) 0
-  pub done : (d : ℕ) → d < c → isChild b g d ≡ true → getD waits d 0 ≡ waitWithin b d
-  pub longest : GreatestTo b g (λ d. waitWithin b d + lengthOf b d) c v
-
-module _ {b lengths waits₀ : List ℕ} {g : ℕ} (ok : Clean b) (all : kindOf b g ≡ 1) where
-  pub spread-none : Tables b lengths waits₀ → SpreadTo b lengths waits₀ waits₀ g (g + 1) 0
-  spread-none t = record {
-    tables = t;
-    grown = λ m. omega arith;
-    met = λ j l q h. absurd (omega (arith, child-lower b ok g _ h));
-    done = λ d l h. absurd (omega (arith, child-lower b ok g d h));
-    longest = greatest-start ok;
-  }
-
-  -- all orders into c are met
-  pub spread-wait : {waits : List ℕ} {c v : ℕ} → isChild b g c ≡ true → SpreadTo b lengths waits₀ waits g c v → getD waits c 0 ≡ waitWithin b c
-  spread-wait {waits} {c} h s =
-      let w = child-lower b ok g c h in
-      let up = s .tables .within c (w .1) in
-      let low = waits-least b ok g c (getD waits c 0) h all (λ j l e. let x = earlier-child b ok g c j l e h in rw e at (s .met j l (x .0) (x .1))) in
+  greatest-all : {f : ℕ → ℕ} {v : ℕ} → GreatestTo kids (getD from g 0) f (getD from (g + 1) 0) v → v ≡ greatest (nodeCount b) (isChild b g) f
+  greatest-all {f} {v} h =
+      let up = h .least (greatest (nodeCount b) (isChild b g) f) (record {
+        each = λ j l m.
+            let e = child-at refl (record { low = l; high = m }) in
+            greatest-le (isChild b g) f (nodeCount b) (getD kids j 0) (child-lower b ok g (getD kids j 0) e .1) e;
+      }) in
+      let low = greatest-least (isChild b g) f (nodeCount b) v (λ c l e. every-listed (o .tree) (o .node) (h .bound) c e) in
       omega arith
 
-  pub spread-child : {waits waits' waits″ : List ℕ} {c v x y : ℕ} → isChild b g c ≡ true → x ≡ waitWithin b c + lengthOf b c → Raised b waits waits' c x → waits″ ≡ waits' → y ≡ max v x
-      → SpreadTo b lengths waits₀ waits g c v → SpreadTo b lengths waits₀ waits″ g (c + 1) y
-  spread-child {waits} {waits'} {c = c} {x = x} h e r z m s = rw z (record {
-    tables = record { lengths-long = s .tables .lengths-long; waits-long = r .long; tasks = s .tables .tasks; within = within };
-    grown = λ i. omega (arith, s .grown i, r .grown i);
-    met = λ j l q k. by-cases (ℕ-discrete (earlierOf b j) c)
-        (λ (o : earlierOf b j ≡ c). rw o (omega (arith, r .reached j l o)))
-        (λ o. omega (arith, s .met j l (omega arith) k, r .grown (laterOf b j)));
-    done = λ d l k. by-cases (ℕ-discrete d c)
-        (λ (o : d ≡ c). rw o (still c h (spread-wait h s)))
-        (λ o. still d k (s .done d (omega arith) k));
-    longest = greatest-turn ok h e m (s .longest);
-  })
-    where
-      within : (i : ℕ) → i < nodeCount b → getD waits' i 0 ≤ waitWithin b i
-      within i l = r .only i (waitWithin b i) (s .tables .within i l) (λ j k o q. let w = order-waits b ok j k in omega (arith, ap (λ (u : ℕ). waitWithin b u + lengthOf b u) o, ap (waitWithin b) q))
+-- an any-of group
+pub any-all : {b from kids : List ℕ} {g v : ℕ} → GroupOf b from kids 2 g → GreatestTo kids (getD from g 0) (lengthOf b) (getD from (g + 1) 0) v → v ≡ lengthOf b g
+any-all {b} {g = g} o h = greatest-all o h ∙ sym (length-any b (ok o) g (o .node) (o .kind))
 
-      still : (d : ℕ) → isChild b g d ≡ true → getD waits d 0 ≡ waitWithin b d → getD waits' d 0 ≡ waitWithin b d
-      still d k o = let up = within d (child-lower b ok g d k .1) in let low = r .grown d in omega arith
+-- ---- the children of an all-of group, those at the positions before i
+-- a child's wait stands in the table, and what waits for it by an order waits long enough
+pub record ChildDone (b waits : List ℕ) (c : ℕ) : Type 0 where
+  pub wait : getD waits c 0 ≡ waitWithin b c
+  pub met : (j : ℕ) → j < orderCount b → earlierOf b j ≡ c → waitWithin b c + lengthOf b c ≤ getD waits (laterOf b j) 0
 
-  pub spread-other : {waits waits″ : List ℕ} {c v y : ℕ} → (parentOf b c ≡ g → ⊥) → waits″ ≡ waits → y ≡ v → SpreadTo b lengths waits₀ waits g c v → SpreadTo b lengths waits₀ waits″ g (c + 1) y
-  spread-other {c = c} n z m s = rw z (record {
+pub record SpreadTo (b from kids lengths waits₀ waits : List ℕ) (g i v : ℕ) : Type 0 where
+  pub tables : Tables b lengths waits
+  pub grown : (m : ℕ) → getD waits₀ m 0 ≤ getD waits m 0
+  pub done : Every kids (getD from g 0) i (ChildDone b waits)
+  pub longest : GreatestTo kids (getD from g 0) (λ c. waitWithin b c + lengthOf b c) i v
+
+module _ {b from kids lengths waits₀ : List ℕ} {g : ℕ} (o : GroupOf b from kids 1 g) where
+  pub spread-none : {i : ℕ} → i ≡ getD from g 0 → Tables b lengths waits₀ → SpreadTo b from kids lengths waits₀ waits₀ g i 0
+  spread-none e t = record { tables = t; grown = λ m. omega arith; done = record { each = λ j a k. absurd (omega arith) }; longest = greatest-start e }
+
+  module _ {waits : List ℕ} {i c v : ℕ} (e : c ≡ getD kids i 0) (p : Position from g i) (s : SpreadTo b from kids lengths waits₀ waits g i v) where
+    -- all orders into c are met: their earlier nodes have lower numbers, so they stand before it
+    spread-wait : getD waits c 0 ≡ waitWithin b c
+    spread-wait =
+        let h = child-at o e p in
+        let up = s .tables .within c (child-lower b (ok o) g c h .1) in
+        let low = waits-least b (ok o) g c (getD waits c 0) h (o .kind) (λ j l q.
+        let x = earlier-child b (ok o) g c j l q h in
+        rw q at (lower-before (o .tree) (o .node) p (s .done) (earlierOf b j) (x .1) (rw e at (x .0)) .met j l refl)) in
+        omega arith
+
+    pub spread-end : ChildLengths b lengths g → (getD waits c 0 + getD lengths c 0 ≡ waitWithin b c + lengthOf b c) × (waitWithin b c + lengthOf b c ≤ 1290240)
+    spread-end h = (omega (arith, spread-wait, h .is c (child-at o e p)), child-limit b (ok o) g c (child-at o e p))
+
+    pub spread-more : {waits' : List ℕ} {x y : ℕ} → x ≡ waitWithin b c + lengthOf b c → Raised b waits waits' c x → y ≡ max v x → SpreadTo b from kids lengths waits₀ waits' g (i + 1) y
+    spread-more {waits'} {x} q r m = record {
+      tables = record { lengths-long = s .tables .lengths-long; waits-long = r .long; tasks = s .tables .tasks; within = within };
+      grown = λ n. omega (arith, s .grown n, r .grown n);
+      done = (every-next (p .low)) .0 (record { each = λ j l k. still (getD kids j 0) (child-at o refl (record { low = l; high = omega (arith, p .high) })) (s .done .each j l k) }, rw e at own);
+      longest = greatest-turn (p .low) e q m (s .longest);
+    }
+      where
+        within : (n : ℕ) → n < nodeCount b → getD waits' n 0 ≤ waitWithin b n
+        within n l = r .only n (waitWithin b n) (s .tables .within n l) (λ j k z w. let y = order-waits b (ok o) j k in omega (arith, ap (λ (u : ℕ). waitWithin b u + lengthOf b u) z, ap (waitWithin b) w))
+
+        kept : (d : ℕ) → isChild b g d ≡ true → getD waits d 0 ≡ waitWithin b d → getD waits' d 0 ≡ waitWithin b d
+        kept d h z = let up = within d (child-lower b (ok o) g d h .1) in let low = r .grown d in omega arith
+
+        still : (d : ℕ) → isChild b g d ≡ true → ChildDone b waits d → ChildDone b waits' d
+        still d h z = record { wait = kept d h (z .wait); met = λ j l w. omega (arith, z .met j l w, r .grown (laterOf b j)) }
+
+        own : ChildDone b waits' c
+        own = record { wait = kept c (child-at o e p) spread-wait; met = λ j l w. omega (arith, r .reached j l w) }
+
+  pub spread-all : {waits : List ℕ} {v : ℕ} → SpreadTo b from kids lengths waits₀ waits g (getD from (g + 1) 0) v → Spread b lengths waits₀ waits g v
+  spread-all s = record {
     tables = s .tables;
     grown = s .grown;
-    met = λ j l q k. by-cases (ℕ-discrete (earlierOf b j) c)
-        (λ (o : earlierOf b j ≡ c). absurd (n (rw o at (child-lower b ok g (earlierOf b j) k .2))))
-        (λ o. s .met j l (omega arith) k);
-    done = λ d l k. by-cases (ℕ-discrete d c) (λ (o : d ≡ c). absurd (n (rw o at (child-lower b ok g d k .2)))) (λ o. s .done d (omega arith) k);
-    longest = greatest-pass ok n m (s .longest);
-  })
-
-  pub spread-all : {waits : List ℕ} {c v : ℕ} → g < nodeCount b → c ≡ nodeCount b → SpreadTo b lengths waits₀ waits g c v → Spread b lengths waits₀ waits g v
-  spread-all {c = c} l e s = record {
-    tables = s .tables;
-    grown = s .grown;
-    children = λ d h. s .done d (omega (arith, child-lower b ok g d h)) h;
-    greatest = s .longest .is ∙ rw e (sym (length-all b ok g l all));
+    children = λ c h. every-listed (o .tree) (o .node) (s .done) c h .wait;
+    greatest = greatest-all o (s .longest) ∙ sym (length-all b (ok o) g (o .node) (o .kind));
   }

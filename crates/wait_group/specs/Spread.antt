@@ -5,7 +5,8 @@ use mathlib.Core.List.{List}
 use Prim.Native.Nat.{ℕ, _≤_, _<_}
 use lib.ListN.{length, getD}
 use Rattle.plan_format.specs.Format.{nodeCount, orderCount, kindOf, earlierOf, laterOf}
-use Rattle.plan_rules.specs.Rules.{isChild}
+use Rattle.plan_rules.specs.Rules.{refusal, isChild}
+use Rattle.table_children.specs.Children.{TreeOf}
 use Rattle.wait_lengths.specs.Waits.{lengthOf, waitWithin}
 
 -- the orders below r have an earlier node below c, those from r on have not
@@ -20,6 +21,13 @@ pub record Raised (b waits waits' : List ℕ) (c v : ℕ) : Type 0 where
   pub grown : (m : ℕ) → getD waits m 0 ≤ getD waits' m 0
   pub reached : (j : ℕ) → j < orderCount b → earlierOf b j ≡ c → v ≤ getD waits' (laterOf b j) 0
   pub only : (m u : ℕ) → getD waits m 0 ≤ u → ((j : ℕ) → j < orderCount b → earlierOf b j ≡ c → laterOf b j ≡ m → v ≤ u) → getD waits' m 0 ≤ u
+
+-- g is a group of kind k of an accepted plan, and the table of children is the plan's
+pub record GroupOf (b from kids : List ℕ) (k g : ℕ) : Type 0 where
+  pub accepted : refusal b ≡ 0
+  pub tree : TreeOf b from kids
+  pub node : g < nodeCount b
+  pub kind : kindOf b g ≡ k
 
 -- the tables before and while the groups are worked out: the lengths of the tasks stand, and no wait is beyond the one within its group
 pub record Tables (b lengths waits : List ℕ) : Type 0 where

@@ -1,17 +1,14 @@
 // One group of an accepted plan: its length and the waits of its children, from the lengths of the children.
 ghost use mathlib.Core.Path.{_≡_};
-ghost use Prim.Native.Nat.{max, _<_};
+ghost use Prim.Native.Nat.{max};
 ghost use lib.ListN.{length};
-ghost use Rattle.plan_format.specs.Format.{nodeCount, kindOf};
 ghost use Rattle.plan_rules.specs.Rules.{refusal};
 ghost use Rattle.wait_lengths.specs.Waits.{lengthOf};
-ghost use Rattle.wait_group.specs.Spread.{FirstOrder, Raised, Tables, ChildLengths, Spread};
+ghost use Rattle.wait_group.specs.Spread.{FirstOrder, Raised, GroupOf, Tables, ChildLengths, Spread};
+use base::wide;
 use plan_format::fields::earlier;
 use plan_format::fields::later;
-use plan_format::fields::nodes;
 use plan_format::fields::orders;
-use plan_format::fields::parent;
-use plan_rules::tests::wide;
 
 // The greater of two.
 fn greater(a: u32, b: u32) -> u32
@@ -57,37 +54,47 @@ fn raise(plan: &[u8], waits: &mut [u32; 128], c: usize, end: u32)
 }
 
 // Works out the waits of the children of an all-of group, in the order of their numbers, and answers the length of the group.
-pub fn spread(plan: &[u8], lengths: &[u32; 128], waits: &mut [u32; 128], node: usize) -> u32
-    requires { ⌜ (refusal (now plan) ≡ 0) × (node < nodeCount (now plan)) × (kindOf (now plan) node ≡ 1) × Tables (now plan) (now lengths) (now waits) × ChildLengths (now plan) (now lengths) node ⌝ }
+pub fn spread(
+    plan: &[u8],
+    from: &[u8; 129],
+    kids: &[u8; 128],
+    lengths: &[u32; 128],
+    waits: &mut [u32; 128],
+    node: usize,
+) -> u32
+    requires { ⌜ GroupOf (now plan) (now from) (now kids) 1 node × Tables (now plan) (now lengths) (now waits) × ChildLengths (now plan) (now lengths) node ⌝ }
     ensures { λ r. ⌜ Spread (now (plan .entry)) (now (lengths .entry)) (now (waits .entry)) (now (waits .exit)) node r ⌝ }
 {
-    let n = nodes(plan);
     let mut longest = 0u32;
-    let mut c = node + 1;
-    while c < n {
-        if wide(parent(plan, c)) == node {
-            let end = waits[c] + lengths[c];
-            raise(plan, waits, c, end);
-            longest = greater(longest, end);
-        }
-        c += 1;
+    let end = wide(from[node + 1]);
+    let mut i = wide(from[node]);
+    while i < end {
+        let child = wide(kids[i]);
+        let child_end = waits[child] + lengths[child];
+        raise(plan, waits, child, child_end);
+        longest = greater(longest, child_end);
+        i += 1;
     }
     longest
 }
 
 // The length of an any-of group, from those of its children.
-pub fn longest_child(plan: &[u8], lengths: &[u32; 128], node: usize) -> u32
-    requires { ⌜ (refusal (now plan) ≡ 0) × (node < nodeCount (now plan)) × (kindOf (now plan) node ≡ 2) × ChildLengths (now plan) (now lengths) node ⌝ }
+pub fn longest_child(
+    plan: &[u8],
+    from: &[u8; 129],
+    kids: &[u8; 128],
+    lengths: &[u32; 128],
+    node: usize,
+) -> u32
+    requires { ⌜ GroupOf (now plan) (now from) (now kids) 2 node × ChildLengths (now plan) (now lengths) node ⌝ }
     ensures { λ r. ⌜ r ≡ lengthOf (now (plan .entry)) node ⌝ }
 {
-    let n = nodes(plan);
     let mut longest = 0u32;
-    let mut c = node + 1;
-    while c < n {
-        if wide(parent(plan, c)) == node {
-            longest = greater(longest, lengths[c]);
-        }
-        c += 1;
+    let end = wide(from[node + 1]);
+    let mut i = wide(from[node]);
+    while i < end {
+        longest = greater(longest, lengths[wide(kids[i])]);
+        i += 1;
     }
     longest
 }

@@ -2,9 +2,8 @@
 use mathlib.Core.Path.{_≡_, refl}
 use mathlib.Core.Logic.{⊎-elim, by-cases}
 use mathlib.Core.Bool.{Bool, true, false}
-use Prim.Native.Nat.{ℕ, zero, suc, max, _+_, _<_, _≤_}
+use Prim.Native.Nat.{ℕ, zero, suc, _<_, _≤_}
 use native.Mathlib.Decide.{ℕ-discrete}
-use native.Mathlib.Numerals.{add-one}
 use native.Mathlib.Omega.{arith}
 use Rattle.plan_rules.proofs.Laws.{either}
 use Rattle.wait_lengths.specs.Waits.{greatest}
@@ -21,18 +20,6 @@ greatest-same (suc n) p f g h =
     (either (p n))
 
 module _ (p : ℕ → Bool) (f : ℕ → ℕ) where
-  pub greatest-none : greatest 0 p f ≡ 0
-  unfolding greatest
-  greatest-none = refl
-
-  pub greatest-more : (n : ℕ) → p n ≡ true → greatest (n + 1) p f ≡ max (greatest n p f) (f n)
-  unfolding greatest
-  greatest-more n e = rw (add-one n, e)
-
-  pub greatest-skip : (n : ℕ) → p n ≡ false → greatest (n + 1) p f ≡ greatest n p f
-  unfolding greatest
-  greatest-skip n e = rw (add-one n, e)
-
   -- none below n passes
   pub greatest-empty : (n : ℕ) → ((i : ℕ) → i < n → p i ≡ false) → greatest n p f ≡ 0
   unfolding greatest

@@ -1,6 +1,6 @@
 -- The groups, worked out from the children up. Assumes nothing.
-use mathlib.Core.Path.{_≡_, _∙_}
-use mathlib.Core.Logic.{_⊎_, inl, inr, ⊎-elim, by-cases}
+use mathlib.Core.Path.{_≡_, sym, _∙_}
+use mathlib.Core.Logic.{⊎-elim, by-cases}
 use mathlib.Core.Bool.{true}
 use mathlib.Core.List.{List}
 use Prim.Native.Nat.{ℕ, _+_, _<_, _≤_}
@@ -11,15 +11,20 @@ use lib.Seq.{getD-set-same, getD-set-other}
 use Rattle.plan_format.specs.Format.{nodeCount, parentOf, kindOf}
 use Rattle.plan_rules.specs.Rules.{refusal, isChild}
 use Rattle.runs.specs.Plan.{Under, itself}
-use Rattle.runs.proofs.Plan.Trees.{Branch, branch, under-root}
+use Rattle.runs.proofs.Plan.Trees.{under-root}
 use Rattle.runs.proofs.Execution.Final.{under-task}
 use Rattle.plan_check.specs.Meaning.{planOf}
 use Rattle.plan_check.proofs.Accepted.{Clean, clean}
 use Rattle.plan_rules.proofs.Causes.{parent-group}
 use Rattle.plan_check.proofs.Meaning.{kind-limit, kind-task, means-well-formed}
-use Rattle.plan_check.proofs.Nodes.{child-test, is-node, plan-kind}
-use Rattle.wait_lengths.specs.Waits.{greatest, lengthOf, waitWithin}
-use Rattle.wait_group.specs.Spread.{Tables, ChildLengths, Spread}
+use Rattle.plan_check.proofs.Nodes.{is-node, plan-kind}
+use Rattle.marks_row.specs.Tables.{Position}
+use Rattle.marks_row.proofs.Turns.{kid-below}
+use Rattle.marks_row.proofs.Walks.{RightTo, right-none, right-more, right-all}
+use Rattle.table_children.proofs.Listed.{every-listed}
+use Rattle.wait_lengths.specs.Waits.{lengthOf, waitWithin}
+use Rattle.wait_group.specs.Spread.{GroupOf, Tables, ChildLengths, Spread}
+use Rattle.wait_group.proofs.Children.{at-group}
 use Rattle.wait_tree.specs.Filled.{Done, Worked, AllWorked}
 use Rattle.wait_lengths.proofs.Laws.{child-lower}
 use Rattle.wait_lengths.proofs.Bounds.{own-child, group-kind, wait-any, wait-root}
@@ -50,12 +55,6 @@ module _ {b : List ℕ} (ok : Clean b) where
     done-written : {m : ℕ} → Done b lengths waits m → Done b (set lengths g v) waits m
     done-written {m} d = record { own = length-kept m (d .own); children = d .children }
 
--- ---- the children of g below c, with all under them
-pub record ChildrenTo (b lengths₀ waits₀ lengths waits : List ℕ) (g c : ℕ) : Type 0 where
-  pub tables : Tables b lengths waits
-  pub kept : (m : ℕ) → Done b lengths₀ waits₀ m → Done b lengths waits m
-  pub right : (d : ℕ) → d < c → isChild b g d ≡ true → (m : ℕ) → Under (planOf b) d m → Done b lengths waits m
-
 -- a task, and all under it
 task-done : {b lengths waits : List ℕ} → refusal b ≡ 0 → (t m : ℕ) → t < nodeCount b → kindOf b t ≡ 0 → Tables b lengths waits → Under (planOf b) t m → Done b lengths waits m
 task-done {b} {lengths} {waits} e t m l k s u = rw (under-task (planOf b) (means-well-formed b e) (plan-kind b t ∙ kind-task (kindOf b t) k) u) at own
@@ -66,68 +65,53 @@ task-done {b} {lengths} {waits} e t m l k s u = rw (under-task (planOf b) (means
       children = λ c h. ⊎-elim (λ (q : kindOf b t ≡ 1). absurd (omega arith)) (λ (q : kindOf b t ≡ 2). absurd (omega arith)) (group-kind b (clean b e) t c h);
     }
 
-module _ {b lengths₀ waits₀ : List ℕ} {g : ℕ} (e : refusal b ≡ 0) where
-  pub children-none : Tables b lengths₀ waits₀ → ChildrenTo b lengths₀ waits₀ lengths₀ waits₀ g (g + 1)
-  children-none t = record { tables = t; kept = λ m d. d; right = λ d l h. absurd (omega (arith, child-lower b (clean b e) g d h)) }
+-- a child that is a task: its length stands
+pub task-worked : {b lengths waits : List ℕ} {t : ℕ} → refusal b ≡ 0 → t < nodeCount b → (kindOf b t ≡ 1 → ⊥) → (kindOf b t ≡ 2 → ⊥) → Tables b lengths waits
+    → Worked b lengths waits lengths waits t
+task-worked {b} {t = t} e l n o s = record {
+  tables = s;
+  under = record { kept = λ m d. d; right = λ m u. task-done e t m l (omega (arith, kind-limit b (clean b e) t l)) s u };
+}
 
-  -- no child of g
-  pub children-other : {lengths waits l' w' : List ℕ} {c : ℕ} → (parentOf b c ≡ g → ⊥) → l' ≡ lengths → w' ≡ waits → ChildrenTo b lengths₀ waits₀ lengths waits g c
-      → ChildrenTo b lengths₀ waits₀ l' w' g (c + 1)
-  children-other {c = c} n y z s = rw (y, z) (record {
-    tables = s .tables;
-    kept = s .kept;
-    right = λ d l h m u. by-cases (ℕ-discrete d c) (λ (o : d ≡ c). absurd (n (rw o at (child-lower b (clean b e) g d h .2)))) (λ o. s .right d (omega arith) h m u);
-  })
+-- ---- the children of g at the positions before i, with all under them
+pub record ChildrenTo (b from kids lengths₀ waits₀ lengths waits : List ℕ) (g i : ℕ) : Type 0 where
+  pub tables : Tables b lengths waits
+  pub walked : RightTo (planOf b) kids (getD from g 0) (Done b lengths₀ waits₀) (Done b lengths waits) i
 
-  -- a group
-  pub children-group : {lengths waits lengths' waits' l' w' : List ℕ} {c : ℕ} → Worked b lengths waits lengths' waits' c → l' ≡ lengths' → w' ≡ waits'
-      → ChildrenTo b lengths₀ waits₀ lengths waits g c → ChildrenTo b lengths₀ waits₀ l' w' g (c + 1)
-  children-group {c = c} x y z s = rw (y, z) (record {
-    tables = x .tables;
-    kept = λ m d. x .kept m (s .kept m d);
-    right = λ d l h m u. by-cases (ℕ-discrete d c) (λ (o : d ≡ c). x .right m (rw o at u)) (λ o. x .kept m (s .right d (omega arith) h m u));
-  })
+module _ {b from kids lengths₀ waits₀ : List ℕ} {g : ℕ} where
+  pub children-none : {i : ℕ} → i ≡ getD from g 0 → Tables b lengths₀ waits₀ → ChildrenTo b from kids lengths₀ waits₀ lengths₀ waits₀ g i
+  children-none e t = record { tables = t; walked = right-none e }
 
-  -- a task
-  pub children-task : {lengths waits l' w' : List ℕ} {c : ℕ} → c < nodeCount b → (kindOf b c ≡ 1 → ⊥) → (kindOf b c ≡ 2 → ⊥) → l' ≡ lengths → w' ≡ waits
-      → ChildrenTo b lengths₀ waits₀ lengths waits g c → ChildrenTo b lengths₀ waits₀ l' w' g (c + 1)
-  children-task {c = c} a n o y z s = rw (y, z) (record {
-    tables = s .tables;
-    kept = s .kept;
-    right = λ d l h m u. by-cases (ℕ-discrete d c) (λ (q : d ≡ c). task-done e c m a (omega (arith, kind-limit b (clean b e) c a)) (s .tables) (rw q at u)) (λ q. s .right d (omega arith) h m u);
-  })
+  pub child-more : {lengths waits lengths' waits' l' w' : List ℕ} {i c : ℕ} → c ≡ getD kids i 0 → Position from g i → ChildrenTo b from kids lengths₀ waits₀ lengths waits g i
+      → l' ≡ lengths' → w' ≡ waits' → Worked b lengths waits lengths' waits' c → ChildrenTo b from kids lengths₀ waits₀ l' w' g (i + 1)
+  child-more e p s y z x = rw (y, z) (record { tables = x .tables; walked = right-more (p .low) e (s .walked) (x .under) })
 
-  module _ {lengths waits : List ℕ} {c : ℕ} (last : c ≡ nodeCount b) (s : ChildrenTo b lengths₀ waits₀ lengths waits g c) where
-    under-child : (d m : ℕ) → isChild b g d ≡ true → Under (planOf b) d m → Done b lengths waits m
-    under-child d m h u = s .right d (omega (arith, child-lower b (clean b e) g d h)) h m u
+-- a child that is a group
+pub child-group : {b from kids : List ℕ} {k g i c x k' : ℕ} → GroupOf b from kids k g → Position from g i → c ≡ getD kids i 0 → x ≡ kindOf b c → x ≡ k' → GroupOf b from kids k' c
+child-group o p e q z = record { accepted = o .accepted; tree = o .tree; node = kid-below (at-group o) p e; kind = sym q ∙ z }
 
-    pub child-lengths : ChildLengths b lengths g
-    child-lengths = record { is = λ d h. under-child d d h itself .own }
+module _ {b from kids lengths₀ waits₀ lengths waits : List ℕ} {k g : ℕ} (o : GroupOf b from kids k g) (s : ChildrenTo b from kids lengths₀ waits₀ lengths waits g (getD from (g + 1) 0)) where
+  pub child-lengths : ChildLengths b lengths g
+  child-lengths = record { is = λ c h. every-listed (o .tree) (o .node) (s .walked .right) c h c itself .own }
 
-    -- the group itself
-    worked : {waits' : List ℕ} {v : ℕ} → g < nodeCount b → v ≡ lengthOf b g → Tables b lengths waits' → ((i : ℕ) → getD waits i 0 ≤ getD waits' i 0)
-        → ((d : ℕ) → isChild b g d ≡ true → getD waits' d 0 ≡ waitWithin b d) → Worked b lengths₀ waits₀ (set lengths g v) waits' g
-    worked {waits'} {v} l q t up h = record {
-      tables = tables-written (clean b e) l q t;
-      kept = λ m d. still m (s .kept m d);
-      right = λ m u. at m (branch (planOf b) u);
-    }
-      where
-        still : (m : ℕ) → Done b lengths waits m → Done b (set lengths g v) waits' m
-        still m d = done-written (clean b e) l q t (done-grown (clean b e) t up d)
+  -- the group itself
+  worked : {waits' : List ℕ} {v : ℕ} → v ≡ lengthOf b g → Tables b lengths waits' → ((i : ℕ) → getD waits i 0 ≤ getD waits' i 0)
+      → ((c : ℕ) → isChild b g c ≡ true → getD waits' c 0 ≡ waitWithin b c) → Worked b lengths₀ waits₀ (set lengths g v) waits' g
+  worked q t up h =
+      let ok = clean b (o .accepted) in
+      record {
+        tables = tables-written ok (o .node) q t;
+        under = right-all (o .tree .tree) (is-node b g (o .node)) (s .walked) (λ m d. done-written ok (o .node) q t (done-grown ok t up d))
+            (record { own = written ok (o .node) q t; children = h });
+      }
 
-        own : Done b (set lengths g v) waits' g
-        own = record { own = written (clean b e) l q t; children = h }
+  pub all-worked : {waits' : List ℕ} {v : ℕ} → Spread b lengths waits waits' g v → Worked b lengths₀ waits₀ (set lengths g v) waits' g
+  all-worked x = worked (x .greatest) (x .tables) (x .grown) (x .children)
 
-        at : (m : ℕ) → (g ≡ m) ⊎ Branch (planOf b) g m → Done b (set lengths g v) waits' m
-        at m (inl y) = rw (← y) own
-        at m (inr y) = still m (under-child (y .via) m (child-test b g (y .via) (y .child)) (y .beneath))
-
-    pub all-worked : {waits' : List ℕ} {v : ℕ} → g < nodeCount b → Spread b lengths waits waits' g v → Worked b lengths₀ waits₀ (set lengths g v) waits' g
-    all-worked l x = worked l (x .greatest) (x .tables) (x .grown) (x .children)
-
-    pub any-worked : {v : ℕ} → g < nodeCount b → kindOf b g ≡ 2 → v ≡ lengthOf b g → Worked b lengths₀ waits₀ (set lengths g v) waits g
-    any-worked l k q = worked l q (s .tables) (λ i. omega arith) (λ d h. let w = child-lower b (clean b e) g d h in omega (arith, s .tables .within d (w .1), wait-any b (clean b e) g d h k))
+  pub any-worked : {v : ℕ} → kindOf b g ≡ 2 → v ≡ lengthOf b g → Worked b lengths₀ waits₀ (set lengths g v) waits g
+  any-worked e q =
+      let ok = clean b (o .accepted) in
+      worked q (s .tables) (λ i. omega arith) (λ c h. omega (arith, s .tables .within c (child-lower b ok g c h .1), wait-any b ok g c h e))
 
 -- ---- all nodes
 module _ {b lengths waits : List ℕ} (e : refusal b ≡ 0) where
@@ -146,7 +130,7 @@ module _ {b lengths waits : List ℕ} (e : refusal b ≡ 0) where
   }
 
   pub root-worked : {lengths₀ waits₀ : List ℕ} → Worked b lengths₀ waits₀ lengths waits 0 → AllWorked b lengths waits
-  root-worked x = all-done (x .tables) (x .right)
+  root-worked x = all-done (x .tables) (x .under .right)
 
   pub root-task : Tables b lengths waits → (kindOf b 0 ≡ 1 → ⊥) → (kindOf b 0 ≡ 2 → ⊥) → AllWorked b lengths waits
-  root-task t n o = all-done t (λ m u. let l = clean b e .fits .limits .some-node in task-done e 0 m l (omega (arith, kind-limit b (clean b e) 0 l)) t u)
+  root-task t n o = root-worked (task-worked e (clean b e .fits .limits .some-node) n o t)

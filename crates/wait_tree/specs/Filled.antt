@@ -7,7 +7,7 @@ use lib.ListN.{length, getD}
 use Rattle.plan_format.specs.Format.{nodeCount}
 use Rattle.plan_rules.specs.Rules.{isChild}
 use Rattle.plan_check.specs.Meaning.{planOf}
-use Rattle.runs.specs.Plan.{Under}
+use Rattle.marks_row.specs.Walks.{RightUnder}
 use Rattle.wait_lengths.specs.Waits.{lengthOf, waitWithin, longestWait}
 use Rattle.wait_group.specs.Spread.{Tables}
 
@@ -19,8 +19,7 @@ pub record Done (b lengths waits : List ℕ) (n : ℕ) : Type 0 where
 -- what was worked out still is, and so is every node under n
 pub record Worked (b lengths waits lengths' waits' : List ℕ) (n : ℕ) : Type 0 where
   pub tables : Tables b lengths' waits'
-  pub kept : (m : ℕ) → Done b lengths waits m → Done b lengths' waits' m
-  pub right : (m : ℕ) → Under (planOf b) n m → Done b lengths' waits' m
+  pub under : RightUnder (planOf b) (Done b lengths waits) (Done b lengths' waits') n
 
 -- every node's wait within its group
 pub record Within (b waits : List ℕ) : Type 0 where

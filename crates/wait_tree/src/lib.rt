@@ -1,63 +1,77 @@
 // Lengths and longest waits of an accepted plan, by functions for all-of and any-of groups that call each other.
 ghost use mathlib.Core.Path.{_≡_};
-ghost use Prim.Native.Nat.{_<_};
 ghost use lib.ListN.{length};
-ghost use Rattle.plan_format.specs.Format.{nodeCount, kindOf};
 ghost use Rattle.plan_rules.specs.Rules.{refusal};
 ghost use Rattle.base.specs.Zeros.{Zeros};
+ghost use Rattle.table_children.specs.Children.{TreeOf};
 ghost use Rattle.wait_lengths.specs.Waits.{lengthOf};
-ghost use Rattle.wait_group.specs.Spread.{Tables};
+ghost use Rattle.wait_group.specs.Spread.{GroupOf, Tables};
 ghost use Rattle.wait_tree.specs.Filled.{Worked, AllWorked, Within, Longest};
+use base::no_nodes;
+use base::no_starts;
 use base::no_times;
+use base::wide;
 use plan_format::fields::kind;
 use plan_format::fields::minutes;
 use plan_format::fields::nodes;
 use plan_format::fields::parent;
-use plan_rules::tests::wide;
+use table_children::fill_children;
 use wait_group::longest_child;
 use wait_group::spread;
 
 // Works out an all-of group and all groups under it: the lengths, and the waits of the children.
-fn all_length(plan: &[u8], lengths: &mut [u32; 128], waits: &mut [u32; 128], node: usize)
-    requires { ⌜ ((refusal (now plan) ≡ 0) × (node < nodeCount (now plan))) × ((kindOf (now plan) node ≡ 1) × Tables (now plan) (now lengths) (now waits)) ⌝ }
+fn all_length(
+    plan: &[u8],
+    from: &[u8; 129],
+    kids: &[u8; 128],
+    lengths: &mut [u32; 128],
+    waits: &mut [u32; 128],
+    node: usize,
+)
+    requires { ⌜ GroupOf (now plan) (now from) (now kids) 1 node × Tables (now plan) (now lengths) (now waits) ⌝ }
     ensures { λ r. ⌜ Worked (now (plan .entry)) (now (lengths .entry)) (now (waits .entry)) (now (lengths .exit)) (now (waits .exit)) node ⌝ }
 {
-    let n = nodes(plan);
-    let mut c = node + 1;
-    while c < n {
-        if wide(parent(plan, c)) == node {
-            let k = kind(plan, c);
-            if k == 1 {
-                all_length(plan, lengths, waits, c);
-            } else if k == 2 {
-                any_length(plan, lengths, waits, c);
-            }
+    let end = wide(from[node + 1]);
+    let mut i = wide(from[node]);
+    while i < end {
+        let child = wide(kids[i]);
+        let k = kind(plan, child);
+        if k == 1 {
+            all_length(plan, from, kids, lengths, waits, child);
+        } else if k == 2 {
+            any_length(plan, from, kids, lengths, waits, child);
         }
-        c += 1;
+        i += 1;
     }
-    let longest = spread(plan, lengths, waits, node);
+    let longest = spread(plan, from, kids, lengths, waits, node);
     lengths[node] = longest;
 }
 
 // Works out an any-of group and all groups under it.
-fn any_length(plan: &[u8], lengths: &mut [u32; 128], waits: &mut [u32; 128], node: usize)
-    requires { ⌜ ((refusal (now plan) ≡ 0) × (node < nodeCount (now plan))) × ((kindOf (now plan) node ≡ 2) × Tables (now plan) (now lengths) (now waits)) ⌝ }
+fn any_length(
+    plan: &[u8],
+    from: &[u8; 129],
+    kids: &[u8; 128],
+    lengths: &mut [u32; 128],
+    waits: &mut [u32; 128],
+    node: usize,
+)
+    requires { ⌜ GroupOf (now plan) (now from) (now kids) 2 node × Tables (now plan) (now lengths) (now waits) ⌝ }
     ensures { λ r. ⌜ Worked (now (plan .entry)) (now (lengths .entry)) (now (waits .entry)) (now (lengths .exit)) (now (waits .exit)) node ⌝ }
 {
-    let n = nodes(plan);
-    let mut c = node + 1;
-    while c < n {
-        if wide(parent(plan, c)) == node {
-            let k = kind(plan, c);
-            if k == 1 {
-                all_length(plan, lengths, waits, c);
-            } else if k == 2 {
-                any_length(plan, lengths, waits, c);
-            }
+    let end = wide(from[node + 1]);
+    let mut i = wide(from[node]);
+    while i < end {
+        let child = wide(kids[i]);
+        let k = kind(plan, child);
+        if k == 1 {
+            all_length(plan, from, kids, lengths, waits, child);
+        } else if k == 2 {
+            any_length(plan, from, kids, lengths, waits, child);
         }
-        c += 1;
+        i += 1;
     }
-    let longest = longest_child(plan, lengths, node);
+    let longest = longest_child(plan, from, kids, lengths, node);
     lengths[node] = longest;
 }
 
@@ -77,16 +91,22 @@ fn task_lengths(plan: &[u8], lengths: &mut [u32; 128], waits: &[u32; 128])
 }
 
 // All groups.
-fn work_out(plan: &[u8], lengths: &mut [u32; 128], waits: &mut [u32; 128])
-    requires { ⌜ (refusal (now plan) ≡ 0) × (length (now lengths) ≡ 128) × Zeros 128 (now waits) ⌝ }
+fn work_out(
+    plan: &[u8],
+    from: &[u8; 129],
+    kids: &[u8; 128],
+    lengths: &mut [u32; 128],
+    waits: &mut [u32; 128],
+)
+    requires { ⌜ (refusal (now plan) ≡ 0) × TreeOf (now plan) (now from) (now kids) × (length (now lengths) ≡ 128) × Zeros 128 (now waits) ⌝ }
     ensures { λ r. ⌜ AllWorked (now (plan .entry)) (now (lengths .exit)) (now (waits .exit)) ⌝ }
 {
     task_lengths(plan, lengths, waits);
     let root = kind(plan, 0);
     if root == 1 {
-        all_length(plan, lengths, waits, 0);
+        all_length(plan, from, kids, lengths, waits, 0);
     } else if root == 2 {
-        any_length(plan, lengths, waits, 0);
+        any_length(plan, from, kids, lengths, waits, 0);
     }
 }
 
@@ -111,8 +131,11 @@ pub fn longest_waits(plan: &[u8], waits: &mut [u32; 128]) -> u32
     requires { ⌜ (refusal (now plan) ≡ 0) × Zeros 128 (now waits) ⌝ }
     ensures { λ r. ⌜ Longest (now (plan .entry)) (now (waits .exit)) × (r ≡ lengthOf (now (plan .entry)) 0) ⌝ }
 {
+    let mut from = no_starts();
+    let mut kids = no_nodes();
+    fill_children(plan, &mut from, &mut kids);
     let mut lengths = no_times();
-    work_out(plan, &mut lengths, waits);
+    work_out(plan, &from, &kids, &mut lengths, waits);
     add_waits(plan, waits);
     lengths[0]
 }

@@ -1,16 +1,15 @@
 -- `all_of` and `any_of` meet their contracts, n - node falling: the children before i are worked out, with all under them. Assumes nothing.
-use mathlib.Core.Path.{_≡_}
 use mathlib.Core.Logic.{⊎-elim}
 use Prim.Native.Nat.{ℕ, _-_, _<_}
 use native.Mathlib.Omega.{arith}
 use borrow.Author.Needs.{needs}
 use borrow.Fn.Kinds.{In}
 use borrow.Fn.PlainCycle.{Measures, is, falls, and}
-use Rattle.marks_row.proofs.Turns.{Turn, first-turn, position-small, kid-small, position, next-turn, last-turn}
+use Rattle.marks_row.proofs.Turns.{Turn, first-turn, position-small, kid-small, kid-later, nearer, position, next-turn, last-turn}
 use Rattle.base.proofs.wide.Reads as wide-reads
 use Rattle.marks_row.proofs.write_row.Reads as write-row-reads
 use Rattle.marks_group.proofs.any_words.Reads as any-words-reads
-use Rattle.marks_tree.proofs.Children.{is-task, is-all, is-any, kid-later, ChildrenTo, children-none, child-more, task-filled, all-filled, any-filled}
+use Rattle.marks_tree.proofs.Children.{is-task, is-all, is-any, ChildrenTo, children-none, child-more, task-filled, all-filled, any-filled}
 use Rattle.marks_tree.proofs.all_row.Reads as all-row-reads
 use Rattle.marks_tree.proofs.all_of.Reads as all-of
 use Rattle.marks_tree.proofs.all_of.Kinds as all-of-kinds
@@ -20,10 +19,6 @@ use Rattle.marks_tree.proofs.any_of.Kinds as any-of-kinds
 use Rattle.marks_tree.proofs.+all_of+any_of.Lts-any_of as any-of-lts
 use Rattle.marks_tree.proofs.+all_of+any_of.{statement}
 use Rattle.marks_tree.proofs.+all_of+any_of.Tie.{close}
-
--- a child is nearer to n than its group
-nearer : {n node child t : ℕ} → n - node ≡ t → (node < child) × (child < n) → n - child < t
-nearer e l = omega (arith, e, l .0, l .1)
 
 abbrev μ-all-of : Measures 5 all-of-kinds.ps ℕ
 μ-all-of κs a = a .1 .1 .1 .1 .1 .0 - a .1 .1 .1 .1 .1 .1 .0

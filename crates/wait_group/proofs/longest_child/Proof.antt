@@ -1,62 +1,61 @@
--- `longest_child` meets its contract: the greatest length of the children below c. Assumes nothing.
-use mathlib.Core.Path.{_≡_, sym, _∙_}
-use mathlib.Core.Logic.{⊎-elim}
-use Prim.Native.Nat.{_-_, _<_, _≤_}
-use Rattle.plan_format.specs.Format.{nodeCount}
-use Rattle.plan_check.proofs.Accepted.{clean}
+-- `longest_child` meets its contract: the greatest length of the children before i. Assumes nothing.
+use Prim.Native.Nat.{_-_}
+use Rattle.marks_row.proofs.Turns.{Turn, first-turn, position-small, kid-small, position, next-turn, last-turn}
 use Rattle.wait_lengths.specs.Waits.{lengthOf}
-use Rattle.wait_lengths.proofs.Laws.{length-any}
-use Rattle.wait_group.proofs.Children.{a-child, GreatestTo, greatest-start, greatest-turn, greatest-pass}
+use Rattle.wait_group.proofs.Children.{at-group, child-at, GreatestTo, greatest-start, greatest-turn, any-all}
 use native.Mathlib.Omega.{arith}
 use borrow.Author.Needs.{needs}
+use lib.ListN.{getD}
 use Rattle.wait_group.proofs.longest_child.Statement.{statement}
 use Rattle.wait_group.proofs.longest_child.Tie as tie
 
 abbrev Inv-loop : tie.InvT-loop
-Inv-loop plan lengths node n longest₀ c₀ longest c = ((n ≡ nodeCount plan) × (n ≤ 128)) × (((node < c) × (c ≤ n)) × GreatestTo plan node (lengthOf plan) c longest)
+Inv-loop plan from kids lengths node longest₀ end i₀ longest i = Turn from node end i × GreatestTo kids (getD from node 0) (lengthOf plan) i longest
 
 abbrev μ-loop : tie.MeasureT-loop
-μ-loop plan lengths node n longest₀ c₀ longest c = n - c
+μ-loop plan from kids lengths node longest₀ end i₀ longest i = end - i
 
-nodes-requires : tie.Need-nodes-requires Inv-loop μ-loop
-nodes-requires c κs = clean _ (c .before .pre .0) .fits .limits .long
+add-wide : tie.Need-add-wide Inv-loop μ-loop
+add-wide c = let o = at-group (c .before .pre .0) in omega (arith, o .shaped .small, o .below)
 
-add-c : tie.Need-add-c Inv-loop μ-loop
-add-c c = omega (arith, clean _ (c .before .before .pre .0) .fits .limits .nodes, c .before .before .pre .1)
+element-copy-out-wide : tie.Need-element-copy-out-wide Inv-loop μ-loop
+element-copy-out-wide c = let o = at-group (c .before .pre .0) in omega (arith, o .shaped .small, o .below)
+
+element-copy-out-wide-2 : tie.Need-element-copy-out-wide-2 Inv-loop μ-loop
+element-copy-out-wide-2 c = let o = at-group (c .before .before .before .pre .0) in omega (arith, o .shaped .small, o .below)
 
 loop-holds : tie.Need-loop-holds Inv-loop μ-loop
 loop-holds c =
-    let s = c .before .before in
-    let ok = clean _ (s .pre .0) in
-    ((c .nodes .ensures, omega (arith, ok .fits .limits .nodes, c .nodes .ensures)), ((omega arith, omega (arith, s .pre .1, c .nodes .ensures)), greatest-start ok))
+    let s = c .before .before .before .before .before in
+    (first-turn (at-group (s .pre .0)) (c .before .before .wide .ensures .0) (c .wide2 .ensures .0), greatest-start (c .wide2 .ensures .0))
 
-parent-requires : tie.Need-parent-requires Inv-loop μ-loop
-parent-requires c κs = (omega arith, clean _ (c .before .before .before .before .pre .0) .fits)
+element-copy-out-wide-3 : tie.Need-element-copy-out-wide-3 Inv-loop μ-loop
+element-copy-out-wide-3 c =
+    position-small (at-group (c .before .before .before .before .before .before .before .pre .0)) (position (c .before .loop .inv .0) (c .loop-test .taken))
+
+mul-greater : tie.Need-mul-greater Inv-loop μ-loop
+mul-greater c =
+    let l = c .before .before .before in
+    omega (arith, kid-small (at-group (l .before .before .before .before .before .before .pre .0)) (position (l .loop .inv .0) (c .before .before .loop-test .taken)) (c .wide3 .ensures .0))
+
+element-copy-out-greater : tie.Need-element-copy-out-greater Inv-loop μ-loop
+element-copy-out-greater c =
+    let l = c .before .before .before in
+    kid-small (at-group (l .before .before .before .before .before .before .pre .0)) (position (l .loop .inv .0) (c .before .before .loop-test .taken)) (c .wide3 .ensures .0)
 
 loop-again : tie.Need-loop-again Inv-loop μ-loop
 loop-again c =
-    let l = c .before .before .before .before in
-    let s = l .before .before .before in
-    let ok = clean _ (s .pre .0) in
-    let e = c .before .wide .ensures .0 ∙ c .before .before .parent .ensures in (
-      l .loop .inv .0,
-      (
-        omega arith,
-        ⊎-elim
-            (λ w.
-            let h = a-child ok {g = s .args .node} (l .loop .inv .1 .0 .0) (omega arith) e (w .0 .taken) in
-            greatest-turn ok h (s .pre .3 .is (l .loop .c) h) (w .3 ∙ w .2 .ensures) (l .loop .inv .1 .1))
-            (λ w. greatest-pass ok (λ z. w .0 .left (e ∙ z)) (w .1) (l .loop .inv .1 .1))
-            (c .if1 .came),
-      ),
-    )
+    let l = c .before .before .before .before .before in
+    let s = l .before .before .before .before .before .before in
+    let turn = l .loop .inv .0 in
+    let test = c .before .before .before .before .loop-test .taken in
+    let e = c .before .before .wide3 .ensures .0 in
+    (next-turn turn test, greatest-turn (turn .low) e (s .pre .1 .is _ (child-at (s .pre .0) e (position turn test))) (c .greater .ensures) (l .loop .inv .1))
 
 returns : tie.Need-returns Inv-loop μ-loop
 returns c =
     let l = c .before in
-    let s = l .before .before .before in
-    let e : l .loop .c ≡ nodeCount (s .args .plan .now) = omega arith in
-    l .loop .inv .1 .1 .is ∙ rw e (sym (length-any _ (clean _ (s .pre .0)) _ (s .pre .1) (s .pre .2)))
+    any-all (l .before .before .before .before .before .before .pre .0) (rw (last-turn (l .loop .inv .0) (c .loop-test .left)) at (l .loop .inv .1))
 
 pub longest-child-spec : {M : Type 1} → statement M
 longest-child-spec =
@@ -64,13 +63,16 @@ longest-child-spec =
     (tie.spec
     Inv-loop
     μ-loop
-    nodes-requires
-    add-c
-    loop-holds
-    parent-requires
+    add-wide
+    element-copy-out-wide
     (λ c κs. search needs)
-    (λ c. omega arith)
-    (λ c. omega arith)
+    element-copy-out-wide-2
+    (λ c κs. search needs)
+    loop-holds
+    element-copy-out-wide-3
+    (λ c κs. search needs)
+    mul-greater
+    element-copy-out-greater
     (λ c κs. search needs)
     (λ c. omega arith)
     (λ c. omega arith)

@@ -10,10 +10,10 @@ kind-requires : tie.Need-kind-requires
 kind-requires c κs = let ok = clean _ (c .before .before .before .before .pre .0) in (ok .fits .limits .some-node, ok .fits)
 
 all-length-requires : tie.Need-all-length-requires
-all-length-requires c κs = let s = c .before .before .before .before .before .before .before .before in ((s .pre .0, clean _ (s .pre .0) .fits .limits .some-node), (sym (c .before .before .before .kind .ensures) ∙ c .before .before .if1 .taken, c .before .before .before .before .task-lengths .ensures))
+all-length-requires c κs = let s = c .before .before .before .before .before .before .before .before in (record { accepted = s .pre .0; tree = s .pre .1; node = clean _ (s .pre .0) .fits .limits .some-node; kind = sym (c .before .before .before .kind .ensures) ∙ c .before .before .if1 .taken }, c .before .before .before .before .task-lengths .ensures)
 
 any-length-requires : tie.Need-any-length-requires
-any-length-requires c κs = let s = c .before .before .before .before .before .before .before .before .before in ((s .pre .0, clean _ (s .pre .0) .fits .limits .some-node), (sym (c .before .before .before .before .kind .ensures) ∙ c .before .before .if2 .taken, c .before .before .before .before .before .task-lengths .ensures))
+any-length-requires c κs = let s = c .before .before .before .before .before .before .before .before .before in (record { accepted = s .pre .0; tree = s .pre .1; node = clean _ (s .pre .0) .fits .limits .some-node; kind = sym (c .before .before .before .before .kind .ensures) ∙ c .before .before .if2 .taken }, c .before .before .before .before .before .task-lengths .ensures)
 
 returns : tie.Need-returns
 returns c = root-worked (c .before .before .before .before .before .before .before .before .before .pre .0) (c .all-length .ensures)
