@@ -27,7 +27,8 @@ module _ {kids : List ℕ} {low : ℕ} {f : ℕ → ℕ} where
   pub greatest-start : {i : ℕ} → i ≡ low → GreatestTo kids low f i 0
   greatest-start e = record { bound = record { each = λ j a b. absurd (omega arith) }; least = λ u h. omega arith }
 
-  pub greatest-turn : {i c v x y : ℕ} → low ≤ i → c ≡ getD kids i 0 → x ≡ f c → y ≡ max v x → GreatestTo kids low f i v → GreatestTo kids low f (i + 1) y
+  pub greatest-turn : {i c v x y : ℕ} → low ≤ i → c ≡ getD kids i 0 → x ≡ f c → y ≡ max v x
+      → GreatestTo kids low f i v → GreatestTo kids low f (i + 1) y
   greatest-turn {i} {x = x} l e q z h =
       let k : x ≡ f (getD kids i 0) = q ∙ ap f e in
       record {
@@ -45,7 +46,8 @@ module _ {b from kids : List ℕ} {k g : ℕ} (o : GroupOf b from kids k g) wher
   pub child-at : {i c : ℕ} → c ≡ getD kids i 0 → Position from g i → isChild b g c ≡ true
   child-at = listed-child (o .tree) (o .node)
 
-  greatest-all : {f : ℕ → ℕ} {v : ℕ} → GreatestTo kids (getD from g 0) f (getD from (g + 1) 0) v → v ≡ greatest (nodeCount b) (isChild b g) f
+  greatest-all : {f : ℕ → ℕ} {v : ℕ} → GreatestTo kids (getD from g 0) f (getD from (g + 1) 0) v
+      → v ≡ greatest (nodeCount b) (isChild b g) f
   greatest-all {f} {v} h =
       let up = h .least (greatest (nodeCount b) (isChild b g) f) (record {
         each = λ j l m.
@@ -56,7 +58,8 @@ module _ {b from kids : List ℕ} {k g : ℕ} (o : GroupOf b from kids k g) wher
       omega arith
 
 -- an any-of group
-pub any-all : {b from kids : List ℕ} {g v : ℕ} → GroupOf b from kids 2 g → GreatestTo kids (getD from g 0) (lengthOf b) (getD from (g + 1) 0) v → v ≡ lengthOf b g
+pub any-all : {b from kids : List ℕ} {g v : ℕ} → GroupOf b from kids 2 g
+    → GreatestTo kids (getD from g 0) (lengthOf b) (getD from (g + 1) 0) v → v ≡ lengthOf b g
 any-all {b} {g = g} o h = greatest-all o h ∙ sym (length-any b (ok o) g (o .node) (o .kind))
 
 -- ---- the children of an all-of group, those at the positions before i
@@ -72,8 +75,14 @@ pub record SpreadTo (b from kids lengths waits₀ waits : List ℕ) (g i v : ℕ
   pub longest : GreatestTo kids (getD from g 0) (λ c. waitWithin b c + lengthOf b c) i v
 
 module _ {b from kids lengths waits₀ : List ℕ} {g : ℕ} (o : GroupOf b from kids 1 g) where
-  pub spread-none : {i : ℕ} → i ≡ getD from g 0 → Tables b lengths waits₀ → SpreadTo b from kids lengths waits₀ waits₀ g i 0
-  spread-none e t = record { tables = t; grown = λ m. omega arith; done = record { each = λ j a k. absurd (omega arith) }; longest = greatest-start e }
+  pub spread-none : {i : ℕ} → i ≡ getD from g 0 → Tables b lengths waits₀
+      → SpreadTo b from kids lengths waits₀ waits₀ g i 0
+  spread-none e t = record {
+    tables = t;
+    grown = λ m. omega arith;
+    done = record { each = λ j a k. absurd (omega arith) };
+    longest = greatest-start e;
+  }
 
   module _ {waits : List ℕ} {i c v : ℕ} (e : c ≡ getD kids i 0) (p : Position from g i) (s : SpreadTo b from kids lengths waits₀ waits g i v) where
     -- all orders into c are met: their earlier nodes have lower numbers, so they stand before it
@@ -86,30 +95,39 @@ module _ {b from kids lengths waits₀ : List ℕ} {g : ℕ} (o : GroupOf b from
         rw q at (lower-before (o .tree) (o .node) p (s .done) (earlierOf b j) (x .1) (rw e at (x .0)) .met j l refl)) in
         omega arith
 
-    pub spread-end : ChildLengths b lengths g → (getD waits c 0 + getD lengths c 0 ≡ waitWithin b c + lengthOf b c) × (waitWithin b c + lengthOf b c ≤ 1290240)
+    pub spread-end : ChildLengths b lengths g
+        → (getD waits c 0 + getD lengths c 0 ≡ waitWithin b c + lengthOf b c) × (waitWithin b c + lengthOf b c ≤ 1290240)
     spread-end h = (omega (arith, spread-wait, h .is c (child-at o e p)), child-limit b (ok o) g c (child-at o e p))
 
-    pub spread-more : {waits' : List ℕ} {x y : ℕ} → x ≡ waitWithin b c + lengthOf b c → Raised b waits waits' c x → y ≡ max v x → SpreadTo b from kids lengths waits₀ waits' g (i + 1) y
+    pub spread-more : {waits' : List ℕ} {x y : ℕ} → x ≡ waitWithin b c + lengthOf b c → Raised b waits waits' c x
+        → y ≡ max v x → SpreadTo b from kids lengths waits₀ waits' g (i + 1) y
     spread-more {waits'} {x} q r m = record {
       tables = record { lengths-long = s .tables .lengths-long; waits-long = r .long; tasks = s .tables .tasks; within = within };
       grown = λ n. omega (arith, s .grown n, r .grown n);
-      done = (every-next (p .low)) .0 (record { each = λ j l k. still (getD kids j 0) (child-at o refl (record { low = l; high = omega (arith, p .high) })) (s .done .each j l k) }, rw e at own);
+      done = (every-next (p .low)) .0 (record { each = λ j l k. still j l k (s .done .each j l k) }, rw e at own);
       longest = greatest-turn (p .low) e q m (s .longest);
     }
       where
         within : (n : ℕ) → n < nodeCount b → getD waits' n 0 ≤ waitWithin b n
-        within n l = r .only n (waitWithin b n) (s .tables .within n l) (λ j k z w. let y = order-waits b (ok o) j k in omega (arith, ap (λ (u : ℕ). waitWithin b u + lengthOf b u) z, ap (waitWithin b) w))
+        within n l = r .only n (waitWithin b n) (s .tables .within n l) (λ j k z w.
+            let y = order-waits b (ok o) j k in
+            omega (arith, ap (λ (u : ℕ). waitWithin b u + lengthOf b u) z, ap (waitWithin b) w))
 
         kept : (d : ℕ) → isChild b g d ≡ true → getD waits d 0 ≡ waitWithin b d → getD waits' d 0 ≡ waitWithin b d
         kept d h z = let up = within d (child-lower b (ok o) g d h .1) in let low = r .grown d in omega arith
 
-        still : (d : ℕ) → isChild b g d ≡ true → ChildDone b waits d → ChildDone b waits' d
-        still d h z = record { wait = kept d h (z .wait); met = λ j l w. omega (arith, z .met j l w, r .grown (laterOf b j)) }
+        still : (j : ℕ) → getD from g 0 ≤ j → j < i → ChildDone b waits (getD kids j 0)
+            → ChildDone b waits' (getD kids j 0)
+        still j l k z = record {
+          wait = kept (getD kids j 0) (child-at o refl (record { low = l; high = omega (arith, p .high) })) (z .wait);
+          met = λ n m w. omega (arith, z .met n m w, r .grown (laterOf b n));
+        }
 
         own : ChildDone b waits' c
         own = record { wait = kept c (child-at o e p) spread-wait; met = λ j l w. omega (arith, r .reached j l w) }
 
-  pub spread-all : {waits : List ℕ} {v : ℕ} → SpreadTo b from kids lengths waits₀ waits g (getD from (g + 1) 0) v → Spread b lengths waits₀ waits g v
+  pub spread-all : {waits : List ℕ} {v : ℕ} → SpreadTo b from kids lengths waits₀ waits g (getD from (g + 1) 0) v
+      → Spread b lengths waits₀ waits g v
   spread-all s = record {
     tables = s .tables;
     grown = s .grown;

@@ -31,7 +31,8 @@ use Rattle.wait_lengths.proofs.Bounds.{own-child, group-kind, wait-any, wait-ro
 
 -- ---- a node that is done stays done while the waits grow, and when a right length is written
 module _ {b : List ℕ} (ok : Clean b) where
-  done-grown : {lengths waits waits' : List ℕ} {m : ℕ} → Tables b lengths waits' → ((i : ℕ) → getD waits i 0 ≤ getD waits' i 0) → Done b lengths waits m → Done b lengths waits' m
+  done-grown : {lengths waits waits' : List ℕ} {m : ℕ} → Tables b lengths waits'
+      → ((i : ℕ) → getD waits i 0 ≤ getD waits' i 0) → Done b lengths waits m → Done b lengths waits' m
   done-grown {m = m} t up d = record {
     own = d .own;
     children = λ c h. let e = d .children c h in let a = up c in let z = t .within c (child-lower b ok m c h .1) in omega arith;
@@ -56,7 +57,8 @@ module _ {b : List ℕ} (ok : Clean b) where
     done-written {m} d = record { own = length-kept m (d .own); children = d .children }
 
 -- a task, and all under it
-task-done : {b lengths waits : List ℕ} → refusal b ≡ 0 → (t m : ℕ) → t < nodeCount b → kindOf b t ≡ 0 → Tables b lengths waits → Under (planOf b) t m → Done b lengths waits m
+task-done : {b lengths waits : List ℕ} → refusal b ≡ 0 → (t m : ℕ) → t < nodeCount b → kindOf b t ≡ 0
+    → Tables b lengths waits → Under (planOf b) t m → Done b lengths waits m
 task-done {b} {lengths} {waits} e t m l k s u = rw (under-task (planOf b) (means-well-formed b e) (plan-kind b t ∙ kind-task (kindOf b t) k) u) at own
   where
     own : Done b lengths waits t
@@ -66,7 +68,8 @@ task-done {b} {lengths} {waits} e t m l k s u = rw (under-task (planOf b) (means
     }
 
 -- a child that is a task: its length stands
-pub task-worked : {b lengths waits : List ℕ} {t : ℕ} → refusal b ≡ 0 → t < nodeCount b → (kindOf b t ≡ 1 → ⊥) → (kindOf b t ≡ 2 → ⊥) → Tables b lengths waits
+pub task-worked : {b lengths waits : List ℕ} {t : ℕ} → refusal b ≡ 0 → t < nodeCount b → (kindOf b t ≡ 1 → ⊥)
+    → (kindOf b t ≡ 2 → ⊥) → Tables b lengths waits
     → Worked b lengths waits lengths waits t
 task-worked {b} {t = t} e l n o s = record {
   tables = s;
@@ -79,15 +82,19 @@ pub record ChildrenTo (b from kids lengths₀ waits₀ lengths waits : List ℕ)
   pub walked : RightTo (planOf b) kids (getD from g 0) (Done b lengths₀ waits₀) (Done b lengths waits) i
 
 module _ {b from kids lengths₀ waits₀ : List ℕ} {g : ℕ} where
-  pub children-none : {i : ℕ} → i ≡ getD from g 0 → Tables b lengths₀ waits₀ → ChildrenTo b from kids lengths₀ waits₀ lengths₀ waits₀ g i
+  pub children-none : {i : ℕ} → i ≡ getD from g 0 → Tables b lengths₀ waits₀
+      → ChildrenTo b from kids lengths₀ waits₀ lengths₀ waits₀ g i
   children-none e t = record { tables = t; walked = right-none e }
 
-  pub child-more : {lengths waits lengths' waits' l' w' : List ℕ} {i c : ℕ} → c ≡ getD kids i 0 → Position from g i → ChildrenTo b from kids lengths₀ waits₀ lengths waits g i
-      → l' ≡ lengths' → w' ≡ waits' → Worked b lengths waits lengths' waits' c → ChildrenTo b from kids lengths₀ waits₀ l' w' g (i + 1)
+  pub child-more : {lengths waits lengths' waits' l' w' : List ℕ} {i c : ℕ} → c ≡ getD kids i 0 → Position from g i
+      → ChildrenTo b from kids lengths₀ waits₀ lengths waits g i
+      → l' ≡ lengths' → w' ≡ waits' → Worked b lengths waits lengths' waits' c
+      → ChildrenTo b from kids lengths₀ waits₀ l' w' g (i + 1)
   child-more e p s y z x = rw (y, z) (record { tables = x .tables; walked = right-more (p .low) e (s .walked) (x .under) })
 
 -- a child that is a group
-pub child-group : {b from kids : List ℕ} {k g i c x k' : ℕ} → GroupOf b from kids k g → Position from g i → c ≡ getD kids i 0 → x ≡ kindOf b c → x ≡ k' → GroupOf b from kids k' c
+pub child-group : {b from kids : List ℕ} {k g i c x k' : ℕ} → GroupOf b from kids k g → Position from g i
+    → c ≡ getD kids i 0 → x ≡ kindOf b c → x ≡ k' → GroupOf b from kids k' c
 child-group o p e q z = record { accepted = o .accepted; tree = o .tree; node = kid-below (at-group o) p e; kind = sym q ∙ z }
 
 module _ {b from kids lengths₀ waits₀ lengths waits : List ℕ} {k g : ℕ} (o : GroupOf b from kids k g) (s : ChildrenTo b from kids lengths₀ waits₀ lengths waits g (getD from (g + 1) 0)) where
@@ -95,8 +102,10 @@ module _ {b from kids lengths₀ waits₀ lengths waits : List ℕ} {k g : ℕ} 
   child-lengths = record { is = λ c h. every-listed (o .tree) (o .node) (s .walked .right) c h c itself .own }
 
   -- the group itself
-  worked : {waits' : List ℕ} {v : ℕ} → v ≡ lengthOf b g → Tables b lengths waits' → ((i : ℕ) → getD waits i 0 ≤ getD waits' i 0)
-      → ((c : ℕ) → isChild b g c ≡ true → getD waits' c 0 ≡ waitWithin b c) → Worked b lengths₀ waits₀ (set lengths g v) waits' g
+  worked : {waits' : List ℕ} {v : ℕ} → v ≡ lengthOf b g → Tables b lengths waits'
+      → ((i : ℕ) → getD waits i 0 ≤ getD waits' i 0)
+      → ((c : ℕ) → isChild b g c ≡ true → getD waits' c 0 ≡ waitWithin b c)
+      → Worked b lengths₀ waits₀ (set lengths g v) waits' g
   worked q t up h =
       let ok = clean b (o .accepted) in
       record {
@@ -105,7 +114,8 @@ module _ {b from kids lengths₀ waits₀ lengths waits : List ℕ} {k g : ℕ} 
             (record { own = written ok (o .node) q t; children = h });
       }
 
-  pub all-worked : {waits' : List ℕ} {v : ℕ} → Spread b lengths waits waits' g v → Worked b lengths₀ waits₀ (set lengths g v) waits' g
+  pub all-worked : {waits' : List ℕ} {v : ℕ} → Spread b lengths waits waits' g v
+      → Worked b lengths₀ waits₀ (set lengths g v) waits' g
   all-worked x = worked (x .greatest) (x .tables) (x .grown) (x .children)
 
   pub any-worked : {v : ℕ} → kindOf b g ≡ 2 → v ≡ lengthOf b g → Worked b lengths₀ waits₀ (set lengths g v) waits g
@@ -115,7 +125,8 @@ module _ {b from kids lengths₀ waits₀ lengths waits : List ℕ} {k g : ℕ} 
 
 -- ---- all nodes
 module _ {b lengths waits : List ℕ} (e : refusal b ≡ 0) where
-  all-done : Tables b lengths waits → ((m : ℕ) → Under (planOf b) 0 m → Done b lengths waits m) → AllWorked b lengths waits
+  all-done : Tables b lengths waits → ((m : ℕ) → Under (planOf b) 0 m → Done b lengths waits m)
+      → AllWorked b lengths waits
   all-done t h = record {
     lengths-long = t .lengths-long;
     root = h 0 itself .own;

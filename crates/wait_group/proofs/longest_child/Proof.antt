@@ -10,7 +10,8 @@ use Rattle.wait_group.proofs.longest_child.Statement.{statement}
 use Rattle.wait_group.proofs.longest_child.Tie as tie
 
 abbrev Inv-loop : tie.InvT-loop
-Inv-loop plan from kids lengths node longest₀ end i₀ longest i = Turn from node end i × GreatestTo kids (getD from node 0) (lengthOf plan) i longest
+Inv-loop plan from kids lengths node longest₀ end i₀ longest i =
+    Turn from node end i × GreatestTo kids (getD from node 0) (lengthOf plan) i longest
 
 abbrev μ-loop : tie.MeasureT-loop
 μ-loop plan from kids lengths node longest₀ end i₀ longest i = end - i
@@ -27,21 +28,25 @@ element-copy-out-wide-2 c = let o = at-group (c .before .before .before .pre .0)
 loop-holds : tie.Need-loop-holds Inv-loop μ-loop
 loop-holds c =
     let s = c .before .before .before .before .before in
-    (first-turn (at-group (s .pre .0)) (c .before .before .wide .ensures .0) (c .wide2 .ensures .0), greatest-start (c .wide2 .ensures .0))
+    let t = first-turn (at-group (s .pre .0)) (c .before .before .wide .ensures .0) (c .wide2 .ensures .0) in
+    (t, greatest-start (c .wide2 .ensures .0))
 
 element-copy-out-wide-3 : tie.Need-element-copy-out-wide-3 Inv-loop μ-loop
 element-copy-out-wide-3 c =
-    position-small (at-group (c .before .before .before .before .before .before .before .pre .0)) (position (c .before .loop .inv .0) (c .loop-test .taken))
+    let o = at-group (c .before .before .before .before .before .before .before .pre .0) in
+    position-small o (position (c .before .loop .inv .0) (c .loop-test .taken))
 
 mul-greater : tie.Need-mul-greater Inv-loop μ-loop
 mul-greater c =
     let l = c .before .before .before in
-    omega (arith, kid-small (at-group (l .before .before .before .before .before .before .pre .0)) (position (l .loop .inv .0) (c .before .before .loop-test .taken)) (c .wide3 .ensures .0))
+    let o = at-group (l .before .before .before .before .before .before .pre .0) in
+    omega (arith, kid-small o (position (l .loop .inv .0) (c .before .before .loop-test .taken)) (c .wide3 .ensures .0))
 
 element-copy-out-greater : tie.Need-element-copy-out-greater Inv-loop μ-loop
 element-copy-out-greater c =
     let l = c .before .before .before in
-    kid-small (at-group (l .before .before .before .before .before .before .pre .0)) (position (l .loop .inv .0) (c .before .before .loop-test .taken)) (c .wide3 .ensures .0)
+    let o = at-group (l .before .before .before .before .before .before .pre .0) in
+    kid-small o (position (l .loop .inv .0) (c .before .before .loop-test .taken)) (c .wide3 .ensures .0)
 
 loop-again : tie.Need-loop-again Inv-loop μ-loop
 loop-again c =
@@ -50,12 +55,14 @@ loop-again c =
     let turn = l .loop .inv .0 in
     let test = c .before .before .before .before .loop-test .taken in
     let e = c .before .before .wide3 .ensures .0 in
-    (next-turn turn test, greatest-turn (turn .low) e (s .pre .1 .is _ (child-at (s .pre .0) e (position turn test))) (c .greater .ensures) (l .loop .inv .1))
+    let x = s .pre .1 .is _ (child-at (s .pre .0) e (position turn test)) in
+    (next-turn turn test, greatest-turn (turn .low) e x (c .greater .ensures) (l .loop .inv .1))
 
 returns : tie.Need-returns Inv-loop μ-loop
 returns c =
     let l = c .before in
-    any-all (l .before .before .before .before .before .before .pre .0) (rw (last-turn (l .loop .inv .0) (c .loop-test .left)) at (l .loop .inv .1))
+    let e = last-turn (l .loop .inv .0) (c .loop-test .left) in
+    any-all (l .before .before .before .before .before .before .pre .0) (rw e at (l .loop .inv .1))
 
 pub longest-child-spec : {M : Type 1} → statement M
 longest-child-spec =

@@ -8,7 +8,8 @@ use Rattle.wait_group.proofs.spread.Statement.{statement}
 use Rattle.wait_group.proofs.spread.Tie as tie
 
 abbrev Inv-loop : tie.InvT-loop
-Inv-loop plan from kids lengths waits₀ node longest₀ end i₀ waits longest i = Turn from node end i × SpreadTo plan from kids lengths waits₀ waits node i longest
+Inv-loop plan from kids lengths waits₀ node longest₀ end i₀ waits longest i =
+    Turn from node end i × SpreadTo plan from kids lengths waits₀ waits node i longest
 
 abbrev μ-loop : tie.MeasureT-loop
 μ-loop plan from kids lengths waits₀ node longest₀ end i₀ waits longest i = end - i
@@ -25,37 +26,44 @@ element-copy-out-wide-2 c = let o = at-group (c .before .before .before .pre .0)
 loop-holds : tie.Need-loop-holds Inv-loop μ-loop
 loop-holds c =
     let s = c .before .before .before .before .before in
-    (first-turn (at-group (s .pre .0)) (c .before .before .wide .ensures .0) (c .wide2 .ensures .0), spread-none (s .pre .0) (c .wide2 .ensures .0) (s .pre .1))
+    let t = first-turn (at-group (s .pre .0)) (c .before .before .wide .ensures .0) (c .wide2 .ensures .0) in
+    (t, spread-none (s .pre .0) (c .wide2 .ensures .0) (s .pre .1))
 
 element-copy-out-wide-3 : tie.Need-element-copy-out-wide-3 Inv-loop μ-loop
 element-copy-out-wide-3 c =
-    position-small (at-group (c .before .before .before .before .before .before .before .pre .0)) (position (c .before .loop .inv .0) (c .loop-test .taken))
+    let o = at-group (c .before .before .before .before .before .before .before .pre .0) in
+    position-small o (position (c .before .loop .inv .0) (c .loop-test .taken))
 
 mul-child-end : tie.Need-mul-child-end Inv-loop μ-loop
 mul-child-end c =
     let l = c .before .before .before in
-    omega (arith, kid-small (at-group (l .before .before .before .before .before .before .pre .0)) (position (l .loop .inv .0) (c .before .before .loop-test .taken)) (c .wide3 .ensures .0))
+    let o = at-group (l .before .before .before .before .before .before .pre .0) in
+    omega (arith, kid-small o (position (l .loop .inv .0) (c .before .before .loop-test .taken)) (c .wide3 .ensures .0))
 
 element-copy-out-child-end : tie.Need-element-copy-out-child-end Inv-loop μ-loop
 element-copy-out-child-end c =
     let l = c .before .before .before in
-    kid-small (at-group (l .before .before .before .before .before .before .pre .0)) (position (l .loop .inv .0) (c .before .before .loop-test .taken)) (c .wide3 .ensures .0)
+    let o = at-group (l .before .before .before .before .before .before .pre .0) in
+    kid-small o (position (l .loop .inv .0) (c .before .before .loop-test .taken)) (c .wide3 .ensures .0)
 
 mul-child-end-2 : tie.Need-mul-child-end-2 Inv-loop μ-loop
 mul-child-end-2 c =
     let l = c .before .before .before .before in
-    omega (arith, kid-small (at-group (l .before .before .before .before .before .before .pre .0)) (position (l .loop .inv .0) (c .before .before .before .loop-test .taken)) (c .before .wide3 .ensures .0))
+    let o = at-group (l .before .before .before .before .before .before .pre .0) in
+    omega (arith, kid-small o (position (l .loop .inv .0) (c .before .before .before .loop-test .taken)) (c .before .wide3 .ensures .0))
 
 element-copy-out-child-end-2 : tie.Need-element-copy-out-child-end-2 Inv-loop μ-loop
 element-copy-out-child-end-2 c =
     let l = c .before .before .before .before in
-    kid-small (at-group (l .before .before .before .before .before .before .pre .0)) (position (l .loop .inv .0) (c .before .before .before .loop-test .taken)) (c .before .wide3 .ensures .0)
+    let o = at-group (l .before .before .before .before .before .before .pre .0) in
+    kid-small o (position (l .loop .inv .0) (c .before .before .before .loop-test .taken)) (c .before .wide3 .ensures .0)
 
 add-child-end : tie.Need-add-child-end Inv-loop μ-loop
 add-child-end c =
     let l = c .before .before .before .before .before in
     let s = l .before .before .before .before .before .before in
-    let e = spread-end (s .pre .0) (c .before .before .wide3 .ensures .0) (position (l .loop .inv .0) (c .before .before .before .before .loop-test .taken)) (l .loop .inv .1) (s .pre .2) in
+    let at = position (l .loop .inv .0) (c .before .before .before .before .loop-test .taken) in
+    let e = spread-end (s .pre .0) (c .before .before .wide3 .ensures .0) at (l .loop .inv .1) (s .pre .2) in
     omega (arith, e .0, e .1)
 
 raise-requires : tie.Need-raise-requires Inv-loop μ-loop
@@ -77,7 +85,8 @@ loop-again c =
 returns : tie.Need-returns Inv-loop μ-loop
 returns c =
     let l = c .before in
-    spread-all (l .before .before .before .before .before .before .pre .0) (rw (last-turn (l .loop .inv .0) (c .loop-test .left)) at (l .loop .inv .1))
+    let e = last-turn (l .loop .inv .0) (c .loop-test .left) in
+    spread-all (l .before .before .before .before .before .before .pre .0) (rw e at (l .loop .inv .1))
 
 pub spread-spec : {M : Type 1} → statement M
 spread-spec =
