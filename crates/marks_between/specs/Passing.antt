@@ -8,7 +8,7 @@ use lib.Dec.{T}
 use Rattle.base.specs.Bits.{bit, Says}
 use Rattle.runs.specs.Plan.{Plan, Child, Before}
 use Rattle.runs.specs.Summary.{Silent}
-use Rattle.marks_row.specs.Tables.{code, RepresentsOrder}
+use Rattle.marks_row.specs.Tables.{beforeCode, afterCode, code, RepresentsOrder}
 use Rattle.marks_row.specs.Columns.{avoid, asserts, Fact, wordIn}
 use Rattle.marks_row.specs.Musts.{SaysOf}
 use Rattle.marks_row.specs.Segments.{Every}
@@ -30,14 +30,14 @@ module _ (p : Plan) (n f : ℕ) where
 
 -- by the table of orders, b stands after d and before c
 abbrev pub StandsBetween : List ℕ → ℕ → ℕ → ℕ → Type 0
-StandsBetween order b c d = (code order d b ≡ 1) × (code order b c ≡ 1)
+StandsBetween order b c d = (code order d b ≡ beforeCode) × (code order b c ≡ beforeCode)
 
 -- b is neither c nor d, and stands neither before d nor after c
 pub record Disturbs (order : List ℕ) (b c d : ℕ) : Type 0 where
   pub not-c : b ≢ c
   pub not-d : b ≢ d
-  pub not-before : code order b d ≢ 1
-  pub not-after : code order b c ≢ 2
+  pub not-before : code order b d ≢ beforeCode
+  pub not-after : code order b c ≢ afterCode
 
 -- b is one of the children that the flags have to pass
 abbrev pub InTheWay : List ℕ → Bool → ℕ → ℕ → ℕ → Type 0

@@ -8,6 +8,8 @@ ghost use Rattle.base.specs.Bits.{bit};
 ghost use Rattle.marks_row.specs.Tables.{AtPair};
 ghost use Rattle.marks_between.specs.Passing.{StandsBetween, Disturbs, InTheWay, LetsPass, Part, PassingPart, PassingWord};
 use base::wide;
+use marks_row::codes::AFTER;
+use marks_row::codes::BEFORE;
 use marks_row::columns::ASSERTS;
 use marks_row::columns::AVOID;
 use marks_row::neither;
@@ -19,8 +21,8 @@ fn stands_between(order: &[u8; 16384], b: usize, c: usize, d: usize) -> bool
     requires { ⌜ (b < 128) × ((c < 128) × (d < 128)) ⌝ }
     ensures { λ r. ⌜ T r ↔ StandsBetween (now (order .entry)) b c d ⌝ }
 {
-    if order[d * 128 + b] == 1 {
-        return order[b * 128 + c] == 1;
+    if order[d * 128 + b] == BEFORE {
+        return order[b * 128 + c] == BEFORE;
     }
     false
 }
@@ -36,10 +38,10 @@ fn disturbs(order: &[u8; 16384], b: usize, c: usize, d: usize) -> bool
     if b == d {
         return false;
     }
-    if order[b * 128 + d] == 1 {
+    if order[b * 128 + d] == BEFORE {
         return false;
     }
-    order[b * 128 + c] != 2
+    order[b * 128 + c] != AFTER
 }
 
 // The child b is one of those that the flags have to pass.

@@ -17,7 +17,7 @@ use Rattle.runs.proofs.Summary.MayMust.{may-any, must-any}
 use Rattle.runs.proofs.Summary.Clobber.{clobber-any}
 use Rattle.runs.proofs.Summary.ReflectClobber.{must-clobber-any}
 use Rattle.marks_row.specs.Columns.{Column, avoid, quiet, covered, may-pre, may-post, may-inc, requires, asserts, may-clobber, must-inc, must-clobber}
-use Rattle.marks_row.specs.Columns.{indexOf, Fact}
+use Rattle.marks_row.specs.Columns.{indexOf, firstOf, Fact}
 use Rattle.runs.proofs.Plan.Numbers.{sign-small}
 
 module _ (p : Plan) (w : WellFormed p) where
@@ -38,7 +38,7 @@ module _ (p : Plan) (w : WellFormed p) where
   group-any k e = clash cc
 
   module _ {n : ℕ} (k : p .tree .kind n ≡ any-of) (f : ℕ) where
-    pub some-branch : (c : Column) → indexOf c < 17 → Fact p n f c ↔ ((b : ℕ) × Child p n b × Fact p b f c)
+    pub some-branch : (c : Column) → indexOf c < firstOf must-inc → Fact p n f c ↔ ((b : ℕ) × Child p n b × Fact p b f c)
     some-branch avoid l = may-any p w (λ h. lastAsserted p h f ≡ none) k
     some-branch (quiet v) l = may-any p w (All (Neutral p f v)) k
     some-branch (covered v) l = meet-any p w (Neutral p f v) (Covers p f v) k
@@ -51,7 +51,7 @@ module _ (p : Plan) (w : WellFormed p) where
     some-branch (must-inc v) l = absurd (omega arith)
     some-branch (must-clobber v) l = absurd (omega arith)
 
-    pub every-branch : (c : Column) → 17 ≤ indexOf c → Fact p n f c ↔ ((b : ℕ) → Child p n b → Fact p b f c)
+    pub every-branch : (c : Column) → firstOf must-inc ≤ indexOf c → Fact p n f c ↔ ((b : ℕ) → Child p n b → Fact p b f c)
     every-branch avoid l = absurd (omega arith)
     every-branch (quiet v) l = absurd (omega (arith, sign-small v))
     every-branch (covered v) l = absurd (omega (arith, sign-small v))

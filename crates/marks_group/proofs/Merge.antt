@@ -11,7 +11,7 @@ use Rattle.base.specs.Bits.{ones, Says}
 use Rattle.base.proofs.Says.{says-map, says-and, says-all}
 use Rattle.runs.specs.Plan.{all-of, any-of, Plan}
 use Rattle.marks_row.specs.Tables.{Position}
-use Rattle.marks_row.specs.Columns.{Column, indexOf, Fact, wordAt, Right, Row}
+use Rattle.marks_row.specs.Columns.{Column, avoid, covered, must-inc, indexOf, firstOf, Fact, wordAt, Right, Row}
 use Rattle.marks_siblings.specs.Group.{Group}
 use Rattle.marks_group.specs.Groups.{Others, WithinRow, Merged, Unmerged, Joined}
 use Rattle.marks_group.proofs.Any.{some-branch, every-branch}
@@ -84,28 +84,28 @@ module _ {from kids rows : List ℕ} {size n : ℕ} {p : Plan} (g : Group from k
 
   -- the words of an any-of group, over all its children
   abbrev pub AnyWords : ℕ → List ℕ → Type 0
-  AnyWords i r = Joined 17 21 kids (getD from n 0) i (λ k f c. Fact p c f k) (λ k f c. Unit {0}) r
+  AnyWords i r = Joined (firstOf must-inc) 21 kids (getD from n 0) i (λ k f c. Fact p c f k) (λ k f c. Unit {0}) r
 
   pub any-row : p .tree .kind n ≡ any-of → {r : List ℕ} → AnyWords (getD from (n + 1) 0) r → Row p n r
   any-row kn j = record {
-    says = λ k f l. by-cases (decLt (indexOf k) 17)
+    says = λ k f l. by-cases (decLt (indexOf k) (firstOf must-inc))
         (λ s. says-map (Iff·trans (some-child (g .tree) (g .node) (λ c hc. (λ x. x .0, λ x. (x, tt)))) (Iff·symm (some-branch p (g .well-formed) kn f k s)))
         (j .some k (inl s) f l))
-        (λ ns. let s : 17 ≤ indexOf k = omega (arith, ns) in
+        (λ ns. let s : firstOf must-inc ≤ indexOf k = omega (arith, ns) in
         says-map (Iff·trans (every-child (g .tree) (g .node) (λ c hc. (λ x. x, λ x. x))) (Iff·symm (every-branch p (g .well-formed) kn f k s)))
         (j .every k s (index-small k) f l));
   }
 
   -- the words of an all-of group, over all its children
   abbrev pub AllWords : ℕ → List ℕ → Type 0
-  AllWords i r = Joined 0 3 kids (getD from n 0) i (λ k f c. Fact p c f k) (λ k f c. Others p n c f k) r
+  AllWords i r = Joined (indexOf avoid) (firstOf covered) kids (getD from n 0) i (λ k f c. Fact p c f k) (λ k f c. Others p n c f k) r
 
   pub all-row : p .tree .kind n ≡ all-of → {r : List ℕ} → AllWords (getD from (n + 1) 0) r → WithinRow p n r
   all-row kn j = record {
-    says = λ k f l. by-cases (decLt (indexOf k) 3)
+    says = λ k f l. by-cases (decLt (indexOf k) (firstOf covered))
         (λ s. says-map (Iff·trans (every-child (g .tree) (g .node) (λ c hc. (λ x. x, λ x. x))) (Iff·symm (every-part p (g .well-formed) (g .node) kn f k s)))
         (j .every k (omega arith) s f l))
-        (λ ns. let s : 3 ≤ indexOf k = omega (arith, ns) in
+        (λ ns. let s : firstOf covered ≤ indexOf k = omega (arith, ns) in
         says-map (Iff·trans (some-child (g .tree) (g .node) (λ c hc. (λ x. x, λ x. x))) (Iff·symm (some-part p (g .well-formed) (g .node) kn f k s)))
         (j .some k (inr s) f l));
   }

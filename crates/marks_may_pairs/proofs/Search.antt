@@ -17,6 +17,7 @@ use Rattle.marks_row.specs.Columns.{may-pre, requires, indexOf, wordAt}
 use Rattle.marks_row.specs.Segments.{Every}
 use Rattle.marks_row.proofs.Rows.{cell}
 use Rattle.marks_row.proofs.Segments.{every-next, every-child}
+use Rattle.marks_row.proofs.Turns.{Turn, turn-at}
 use Rattle.marks_between.specs.Passing.{Pairing}
 use Rattle.marks_between.proofs.Laws.{kid}
 use Rattle.marks_pair.specs.declared.Literals.{Literals}
@@ -32,11 +33,8 @@ pub record Bounds (from : List ℕ) (n start end : ℕ) : Type 0 where
   pub starts : start ≡ getD from n 0
   pub ends : end ≡ getD from (n + 1) 0
 
-pub position : {from : List ℕ} {n start end i : ℕ} → Bounds from n start end → Reached from n i → i < end → Position from n i
-position b r l = record { low = r .low; high = omega (arith, b .ends, l) }
-
-pub last : {from : List ℕ} {n start end i : ℕ} → Bounds from n start end → Reached from n i → end ≤ i → i ≡ getD from (n + 1) 0
-last b r l = omega (arith, b .ends, r .high, l)
+pub turn : {from : List ℕ} {n start end i : ℕ} → Bounds from n start end → Reached from n i → Turn from n end i
+turn b r = turn-at (b .ends) (r .low) (r .high)
 
 next : {from : List ℕ} {n i : ℕ} → Position from n i → Reached from n (i + 1)
 next at = record { low = omega (arith, at .low); high = omega (arith, at .high) }

@@ -7,6 +7,7 @@ ghost use Rattle.marks_must_pairs.specs.MustPairs.{MustPair, WithChildWo
 use base::ALL;
 use base::wide;
 use marks_between::passing;
+use marks_row::codes::BEFORE;
 use marks_row::must_post;
 use marks_row::must_pre;
 
@@ -27,7 +28,7 @@ fn must_pair_word(
     ensures { λ r. ⌜ PairWord MustPair (now (from .entry)) (now (kids .entry)) (now (order .entry)) (now (rows .entry)) n node sign wanted c (getD (now (kids .entry)) j 0) r ⌝ }
 {
     let d = wide(kids[j]);
-    if order[d * 128 + c] == 1 {
+    if order[d * 128 + c] == BEFORE {
         let shared = wanted & (must_post(rows, d, 1 - sign) & must_pre(rows, c, sign));
         if shared == 0 {
             return 0;

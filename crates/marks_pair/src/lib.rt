@@ -6,6 +6,7 @@ ghost use Rattle.marks_between.specs.Passing.{PairWord};
 ghost use Rattle.marks_pair.specs.Pairs.{Pair, PairWords, NextPartner};
 use base::wide;
 use marks_between::passing;
+use marks_row::codes::BEFORE;
 use marks_row::columns::ASSERTS;
 use marks_row::columns::MAY_POST;
 use marks_row::columns::MAY_PRE;
@@ -36,7 +37,7 @@ fn pair_word(
     ensures { λ r. ⌜ PairWord Pair (now (from .entry)) (now (kids .entry)) (now (order .entry)) (now (rows .entry)) n node sign wanted c (getD (now (kids .entry)) j 0) r ⌝ }
 {
     let d = wide(kids[j]);
-    if order[d * 128 + c] == 1 {
+    if order[d * 128 + c] == BEFORE {
         let passed = word_at(rows, d, MAY_POST + (1 - sign)) & word_at(rows, c, MAY_PRE + sign);
         let shared = wanted & passed;
         if shared == 0 {

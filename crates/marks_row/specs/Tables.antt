@@ -24,7 +24,13 @@ pub record Listed (from kids : List ℕ) (g c : ℕ) : Type 0 where
 abbrev pub condition : List ℕ → ℕ → Place → Bool → ℕ
 condition conds t k v = getD conds (t * 6 + (2 * placeNumber k + signNumber v)) 0
 
--- the code of a and b: 1 where a stands before b, 2 where a stands after b
+-- the codes of the table of orders; the code of a and b says that a stands before b, or after b
+abbrev pub beforeCode : ℕ
+beforeCode = 1
+
+abbrev pub afterCode : ℕ
+afterCode = 2
+
 abbrev pub code : List ℕ → ℕ → ℕ → ℕ
 code order a b = getD order (a * 128 + b) 0
 
@@ -54,8 +60,8 @@ pub record RepresentsTree (from kids : List ℕ) (n : ℕ) (p : Plan) : Type 0 w
   pub children : (g c : ℕ) → Node p g → Child p g c ↔ Listed from kids g c
 
 pub record RepresentsOrder (order : List ℕ) (p : Plan) : Type 0 where
-  pub before : (a b : ℕ) → Node p a → Node p b → (code order a b ≡ 1) ↔ Before p a b
-  pub after : (a b : ℕ) → Node p a → Node p b → (code order a b ≡ 2) ↔ Before p b a
+  pub before : (a b : ℕ) → Node p a → Node p b → (code order a b ≡ beforeCode) ↔ Before p a b
+  pub after : (a b : ℕ) → Node p a → Node p b → (code order a b ≡ afterCode) ↔ Before p b a
 
 -- bit f of a task's word says whether it has the literal at the place
 pub record RepresentsConditions (conds : List ℕ) (p : Plan) : Type 0 where

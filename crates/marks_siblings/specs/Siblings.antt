@@ -9,14 +9,14 @@ use Rattle.base.specs.Bits.{bit, Says}
 use Rattle.runs.specs.Plan.{Plan, Child, Before, Unordered}
 use Rattle.runs.specs.Summary.{Silent}
 use Rattle.marks_siblings.specs.declared.Siblings.{Siblings}
-use Rattle.marks_row.specs.Tables.{code, RepresentsOrder}
+use Rattle.marks_row.specs.Tables.{beforeCode, afterCode, code, RepresentsOrder}
 use Rattle.marks_row.specs.Columns.{avoid, quiet, asserts, Fact, wordIn}
 use Rattle.marks_siblings.specs.Group.{Group}
 
 -- by the table, a and b are unordered
 pub record Apart (order : List ℕ) (a b : ℕ) : Type 0 where
-  pub not-before : code order a b ≢ 1
-  pub not-after : code order a b ≢ 2
+  pub not-before : code order a b ≢ beforeCode
+  pub not-after : code order a b ≢ afterCode
   pub distinct : a ≢ b
 
 -- bit f of r is set if that of w is and, where C holds, A does
@@ -25,10 +25,10 @@ pub record Narrows (w r : ℕ) (C : Type 0) (A : ℕ → Type 0) : Type 0 where
 
 -- the words r are the words s with one sibling more
 pub record Limits (order rows : List ℕ) (child sibling : ℕ) (s r : Siblings) : Type 0 where
-  pub avoid-before : Narrows (s .«avoid_before») (r .«avoid_before») (code order sibling child ≡ 1) (λ f. T (bit (wordIn rows sibling avoid) f))
-  pub clear-before : Narrows (s .«clear_before») (r .«clear_before») (code order sibling child ≡ 1) (λ f. T (bit (wordIn rows sibling (quiet false)) f))
-  pub set-before : Narrows (s .«set_before») (r .«set_before») (code order sibling child ≡ 1) (λ f. T (bit (wordIn rows sibling (quiet true)) f))
-  pub avoid-after : Narrows (s .«avoid_after») (r .«avoid_after») (code order sibling child ≡ 2) (λ f. T (bit (wordIn rows sibling avoid) f))
+  pub avoid-before : Narrows (s .«avoid_before») (r .«avoid_before») (code order sibling child ≡ beforeCode) (λ f. T (bit (wordIn rows sibling avoid) f))
+  pub clear-before : Narrows (s .«clear_before») (r .«clear_before») (code order sibling child ≡ beforeCode) (λ f. T (bit (wordIn rows sibling (quiet false)) f))
+  pub set-before : Narrows (s .«set_before») (r .«set_before») (code order sibling child ≡ beforeCode) (λ f. T (bit (wordIn rows sibling (quiet true)) f))
+  pub avoid-after : Narrows (s .«avoid_after») (r .«avoid_after») (code order sibling child ≡ afterCode) (λ f. T (bit (wordIn rows sibling avoid) f))
   pub silent-apart : Narrows (s .«silent_apart») (r .«silent_apart») (Apart order sibling child)
       (λ f. ¬ (T (bit (wordIn rows sibling (asserts false)) f) ⊎ T (bit (wordIn rows sibling (asserts true)) f)))
 

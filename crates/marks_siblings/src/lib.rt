@@ -7,6 +7,8 @@ ghost use Rattle.marks_row.specs.Tables.{AtGroup};
 ghost use Rattle.marks_siblings.specs.Siblings.{Apart, Narrows, Limits, SiblingsOf};
 use base::ALL;
 use base::wide;
+use marks_row::codes::AFTER;
+use marks_row::codes::BEFORE;
 use marks_row::columns::ASSERTS;
 use marks_row::columns::AVOID;
 use marks_row::columns::QUIET;
@@ -29,10 +31,10 @@ pub fn apart(order: &[u8; 16384], a: usize, b: usize) -> bool
     ensures { λ r. ⌜ T r ↔ Apart (now (order .entry)) a b ⌝ }
 {
     let code = order[a * 128 + b];
-    if code == 1 {
+    if code == BEFORE {
         return false;
     }
-    if code == 2 {
+    if code == AFTER {
         return false;
     }
     a != b
@@ -59,7 +61,7 @@ fn with_sibling(
     ensures { λ r. ⌜ Limits (now (order .entry)) (now (rows .entry)) child sibling s r ⌝ }
 {
     let stands = order[sibling * 128 + child];
-    if stands == 1 {
+    if stands == BEFORE {
         return Siblings {
             avoid_before: s.avoid_before & word_at(rows, sibling, AVOID),
             clear_before: s.clear_before & word_at(rows, sibling, QUIET),
@@ -68,7 +70,7 @@ fn with_sibling(
             silent_apart: s.silent_apart,
         };
     }
-    if stands == 2 {
+    if stands == AFTER {
         return Siblings {
             avoid_before: s.avoid_before,
             clear_before: s.clear_before,

@@ -64,16 +64,16 @@ module _ (p : Plan) (w : WellFormed p) {n : ℕ} (kn : p .tree .kind n ≡ all-o
 module _ {p : Plan} {n : ℕ} (w : WellFormed p) (kn : p .tree .kind n ≡ all-of) {words : List ℕ} (h : WithinRow p n words) {may must : Literals} where
   module _
       (a : (v : Bool) (f : ℕ) → f < 64 → Says (signWord may v) f
-      (T (bit (signWord (record { clear = bitXor (getD words 15 0) ones; set = bitXor (getD words 16 0) ones }) v) f) × SomePair p n (Pair p n f v)))
+      (T (bit (signWord (record { clear = bitXor (getD words (indexOf (may-clobber false)) 0) ones; set = bitXor (getD words (indexOf (may-clobber true)) 0) ones }) v) f) × SomePair p n (Pair p n f v)))
       (b : (v : Bool) (f : ℕ) → f < 64 → Says (signWord must v) f
-      (T (bit (signWord (record { clear = getD words 19 0; set = getD words 20 0 }) v) f) ⊎ SomePair p n (MustPair p n f v))) where
+      (T (bit (signWord (record { clear = getD words (indexOf (must-clobber false)) 0; set = getD words (indexOf (must-clobber true)) 0 }) v) f) ⊎ SomePair p n (MustPair p n f v))) where
     -- the literals that no child may clobber were wanted
     wanted : (v : Bool) (f : ℕ) → f < 64
-        → T (bit (signWord (record { clear = bitXor (getD words 15 0) ones; set = bitXor (getD words 16 0) ones }) v) f) ↔ (¬ Within p n f (may-clobber v))
-    wanted false f l = let s = says-not {x = getD words 15 0} l refl (h .says (may-clobber false) f l) in (s .to, s .from)
-    wanted true f l = let s = says-not {x = getD words 16 0} l refl (h .says (may-clobber true) f l) in (s .to, s .from)
+        → T (bit (signWord (record { clear = bitXor (getD words (indexOf (may-clobber false)) 0) ones; set = bitXor (getD words (indexOf (may-clobber true)) 0) ones }) v) f) ↔ (¬ Within p n f (may-clobber v))
+    wanted false f l = let s = says-not {x = getD words (indexOf (may-clobber false)) 0} l refl (h .says (may-clobber false) f l) in (s .to, s .from)
+    wanted true f l = let s = says-not {x = getD words (indexOf (may-clobber true)) 0} l refl (h .says (may-clobber true) f l) in (s .to, s .from)
 
-    known : (v : Bool) (f : ℕ) → f < 64 → T (bit (signWord (record { clear = getD words 19 0; set = getD words 20 0 }) v) f) ↔ Within p n f (must-clobber v)
+    known : (v : Bool) (f : ℕ) → f < 64 → T (bit (signWord (record { clear = getD words (indexOf (must-clobber false)) 0; set = getD words (indexOf (must-clobber true)) 0 }) v) f) ↔ Within p n f (must-clobber v)
     known false f l = let s = h .says (must-clobber false) f l in (s .to, s .from)
     known true f l = let s = h .says (must-clobber true) f l in (s .to, s .from)
 

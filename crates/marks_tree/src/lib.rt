@@ -14,6 +14,9 @@ use marks_group::any_words;
 use marks_may_pairs::clobbering_pairs;
 use marks_must_pairs::must_pairs;
 use marks_pair::Literals;
+use marks_row::codes::ALL_OF;
+use marks_row::codes::ANY_OF;
+use marks_row::codes::TASK;
 use marks_row::columns::MAY_CLOBBER;
 use marks_row::columns::MUST_CLOBBER;
 use marks_row::task_words;
@@ -106,9 +109,9 @@ fn all_of(
     while i < end {
         let child = wide(kids[i]);
         let k = kind[child];
-        if k == 1 {
+        if k == ALL_OF {
             all_of(kind, from, kids, order, rows, n, child);
-        } else if k == 2 {
+        } else if k == ANY_OF {
             any_of(kind, from, kids, order, rows, n, child);
         }
         i += 1;
@@ -135,9 +138,9 @@ fn any_of(
     while i < end {
         let child = wide(kids[i]);
         let k = kind[child];
-        if k == 1 {
+        if k == ALL_OF {
             all_of(kind, from, kids, order, rows, n, child);
-        } else if k == 2 {
+        } else if k == ANY_OF {
             any_of(kind, from, kids, order, rows, n, child);
         }
         i += 1;
@@ -153,7 +156,7 @@ fn task_rows(kind: &[u8; 128], conds: &[u64; 768], rows: &mut [u64; 2688], n: us
 {
     let mut i = 0;
     while i < n {
-        if kind[i] == 0 {
+        if kind[i] == TASK {
             let words = task_words(conds, i);
             write_row(rows, i, words);
         }
@@ -176,9 +179,9 @@ pub fn node_rows(
 {
     task_rows(kind, conds, rows, n);
     let root = kind[0];
-    if root == 1 {
+    if root == ALL_OF {
         all_of(kind, from, kids, order, rows, n, 0);
-    } else if root == 2 {
+    } else if root == ANY_OF {
         any_of(kind, from, kids, order, rows, n, 0);
     }
 }
