@@ -10,7 +10,7 @@ use native.Mathlib.Omega.{arith}
 use lib.Dec.{T, eqb, ltb, leb, ltb→lt, lt→ltb}
 use borrow.Author.Tests.{lt-ltb, eq-eqb, eqb-true, ltb-true, ltb-false, leb-false, not-false}
 use Rattle.plan_codes.proofs.Values.{value-parts}
-use Rattle.plan_codes.specs.Values.{flagOf, signOf, placeOf, valueBad}
+use Rattle.plan_codes.specs.Values.{valueOf, flagOf, signOf, placeOf, valueBad}
 use Rattle.plan_format.specs.Format.{nodeCount, condCount, orderCount, flagCount, parentOf, kindOf, minutesOf, condNode, condValue, earlierOf, laterOf, isKind, isGroup}
 use Rattle.plan_rules.specs.Rules.{refusal, badEntry, cause6, childless, cause8, bothSigns, cause11, noPost, postOf, cause12, isChild, badPair, badOrder, cause13}
 use Rattle.plan_rules.specs.Search.{someBelow}
@@ -47,7 +47,7 @@ module _ (b : List ℕ) (p t f s : ℕ) where
   has i r = some-yes (condCount b) (conditionIs b p t f s) i (r .below) (simp (eq-eqb _ _ (r .node), eq-eqb _ _ (r .place), eq-eqb _ _ (r .flag), eq-eqb _ _ (r .sign)))
 
 -- a value's parts
-parts : (v f s p : ℕ) → f < 64 → s < 2 → v ≡ f + 64 * s + 128 * p → (flagOf v ≡ f) × (signOf v ≡ s) × (placeOf v ≡ p)
+parts : (v f s p : ℕ) → f < 64 → s < 2 → v ≡ valueOf f s p → (flagOf v ≡ f) × (signOf v ≡ s) × (placeOf v ≡ p)
 unfolding flagOf signOf placeOf
 parts v f s p l m e = (omega arith, omega arith, omega arith)
 
@@ -94,12 +94,12 @@ module _ (b : List ℕ) (k : Place) (t f : ℕ) where
     sign-has false h = rw (one-sign h, h)
 
     -- 01's form of a value
-    pub condition-pair : (v : Bool) → signIn b k t f ≡ some v → ConditionPair b t (f + 64 * signNumber v + 128 * placeNumber k)
+    pub condition-pair : (v : Bool) → signIn b k t f ≡ some v → ConditionPair b t (valueOf f (signNumber v) (placeNumber k))
     condition-pair v e =
         let w = is b (placeNumber k) t f (signNumber v) (sign-is v e) in
         record { at = w .0; below = w .1 .below; node = w .1 .node; value = omega (arith, value-parts (condValue b (w .0)), w .1 .place, w .1 .flag, w .1 .sign) }
 
-    pub pair-condition : (v : Bool) → f < 64 → ConditionPair b t (f + 64 * signNumber v + 128 * placeNumber k) → signIn b k t f ≡ some v
+    pub pair-condition : (v : Bool) → f < 64 → ConditionPair b t (valueOf f (signNumber v) (placeNumber k)) → signIn b k t f ≡ some v
     pair-condition v l r =
         let w = parts (condValue b (r .at)) f (signNumber v) (placeNumber k) l (sign-small v) (r .value) in
         sign-has v (has b (placeNumber k) t f (signNumber v) (r .at) (record { below = r .below; node = r .node; place = w .2; flag = w .0; sign = w .1 }))

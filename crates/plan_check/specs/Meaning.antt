@@ -1,12 +1,12 @@
 -- The meaning of a plan's bytes: the plan of `runs`, and the flags at the start. (Its minutes are `minutesOf`.)
-use Prim.Native.Nat.{ℕ, _+_, _*_, _<_}
+use Prim.Native.Nat.{ℕ, _<_}
 use mathlib.Core.Path.{_≡_}
 use mathlib.Core.Logic.{_↔_}
 use mathlib.Core.Bool.{Bool, true, false, cond, _&&_}
 use mathlib.Core.List.{List}
 use mathlib.Core.Option.{Option, some, none}
 use lib.Dec.{T, eqb, ltb}
-use Rattle.plan_codes.specs.Values.{flagOf, signOf, placeOf}
+use Rattle.plan_codes.specs.Values.{valueOf, flagOf, signOf, placeOf}
 use Rattle.plan_format.specs.Format.{nodeCount, condCount, orderCount, flagCount, parentOf, kindOf, condNode, condValue, earlierOf, laterOf, startFlag}
 use Rattle.plan_rules.specs.Search.{someBelow}
 use Rattle.runs.specs.Plan.{Kind, task, all-of, any-of, Place, Plan, Accepted, kindNumber, placeNumber, signNumber}
@@ -64,6 +64,6 @@ pub record Means (b : List ℕ) (p : Plan) : Type 0 where
   pub flags : p .cond .flags ≡ flagCount b
   pub kind : (n : ℕ) → n < nodeCount b → kindNumber (p .tree .kind n) ≡ kindOf b n
   pub parent : (n : ℕ) → n < nodeCount b → p .tree .parent n ≡ parentOf b n
-  pub condition : (k : Place) (t f : ℕ) (v : Bool) → f < 64 → p .cond .sign k t f ≡ some v ↔ ConditionPair b t (f + 64 * signNumber v + 128 * placeNumber k)
+  pub condition : (k : Place) (t f : ℕ) (v : Bool) → f < 64 → p .cond .sign k t f ≡ some v ↔ ConditionPair b t (valueOf f (signNumber v) (placeNumber k))
   pub order : (x y : ℕ) → T (p .order x y) ↔ OrderPair b x y
   pub accepted : Accepted p

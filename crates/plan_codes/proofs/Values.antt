@@ -7,9 +7,9 @@ use mathlib.Core.Logic.{by-cases}
 use borrow.Author.Tests.{le-leb, lt-leb}
 use Rattle.plan_codes.specs.declared.value.Parsed.the-variants as parsed
 use Rattle.plan_codes.specs.declared.value.Condition.{Condition}
-use Rattle.plan_codes.specs.Values.{parsedOf, placeAt, signAt, placeOf, signOf, flagOf, placeNum, signNum, valueNum}
+use Rattle.plan_codes.specs.Values.{valueOf, parsedOf, placeAt, signAt, placeOf, signOf, flagOf, placeNum, signNum, valueNum}
 
-pub parse-at : (v flag sign place : ℕ) → v ≡ flag + 64 * sign + 128 * place → flag < 64 → sign < 2 → place < 3
+pub parse-at : (v flag sign place : ℕ) → v ≡ valueOf flag sign place → flag < 64 → sign < 2 → place < 3
     → parsed.Accepted (record { place = placeAt place; sign = signAt sign; flag = flag }) ≡ parsedOf v
 unfolding parsedOf placeOf signOf flagOf
 parse-at v flag sign place e f s p =
@@ -75,6 +75,6 @@ unfolding placeOf signOf flagOf
 value-back v c e = let s = says v c e in omega (arith, s .place, s .sign, s .flag)
 
 -- every value is made up of its parts
-pub value-parts : (v : ℕ) → v ≡ flagOf v + 64 * signOf v + 128 * placeOf v
+pub value-parts : (v : ℕ) → v ≡ valueOf (flagOf v) (signOf v) (placeOf v)
 unfolding placeOf flagOf signOf
 value-parts v = omega arith

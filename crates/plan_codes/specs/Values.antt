@@ -1,4 +1,4 @@
--- The value of a condition: flag + 64 × sign + 128 × place.
+-- The value of a condition.
 use Prim.Native.Nat.{ℕ, _+_, _*_, _/_, _%_}
 use mathlib.Core.Bool.{Bool, cond, _||_}
 use lib.Dec.{eqb, leb, ltb}
@@ -10,7 +10,11 @@ use Rattle.plan_codes.specs.declared.value.Condition.{Condition}
 use Rattle.plan_codes.specs.declared.value.Parsed.{Parsed}
 use Rattle.plan_codes.specs.declared.value.Parsed.the-variants as parsed
 
--- the three parts of a value, as 01's numbers
+-- the value of a flag, a sign and a place, by 01's numbers
+abbrev pub valueOf : ℕ → ℕ → ℕ → ℕ
+valueOf flag sign place = flag + 64 * sign + 128 * place
+
+-- the three parts of a value
 unfoldable pub flagOf : ℕ → ℕ
 flagOf v = v % 64
 
@@ -31,7 +35,7 @@ signNum Clear = 0
 signNum Set = 1
 
 abbrev pub valueNum : Condition → ℕ
-valueNum c = c .flag + 64 * signNum (c .sign) + 128 * placeNum (c .place)
+valueNum c = valueOf (c .flag) (signNum (c .sign)) (placeNum (c .place))
 
 -- and the cases of these numbers
 abbrev pub placeAt : ℕ → Place

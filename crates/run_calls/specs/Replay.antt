@@ -1,14 +1,14 @@
 -- What `replay` returns and leaves: it makes fresh and then a list of calls.
 use Prim.Native.Nat.{ℕ, _+_}
 use mathlib.Core.Path.{_≡_}
-use mathlib.Core.Bool.{Bool, true, false, cond}
+use mathlib.Core.Bool.{Bool, cond}
 use mathlib.Core.List.{List, [], _∷_, _++_}
 use lib.ListN.{length, drop}
 use lib.Dec.{eqb}
 use Rattle.base.specs.Answers.{overlay}
 use Rattle.plan_format.specs.Format.{nodeCount}
 use Rattle.plan_check.specs.Meaning.{planOf, startOf}
-use Rattle.runs.specs.Execution.{Event, start, finish}
+use Rattle.runs.specs.Execution.{start, finish}
 use Rattle.runs.specs.Calls.{Call, one, fresh}
 use Rattle.runs.specs.Model.Monitor.{returns, states}
 use Rattle.run_state.specs.State.{roomRefusal}
@@ -16,16 +16,12 @@ use Rattle.run_calls.specs.Shown.{shownByte}
 use Rattle.run_calls.specs.Lists.{Listed}
 use Rattle.run_calls.specs.Demand3.{Follows}
 
-abbrev pub eventFor : Bool → ℕ → Event
-eventFor true t = finish t
-eventFor false t = start t
-
 -- the calls that the slices give, as many as all three have: whether it finishes, its task, room for its return
 unfoldable pub callsOf : List Bool → List ℕ → List ℕ → List Call
 callsOf [] ts out = []
 callsOf (k ∷ ks) [] out = []
 callsOf (k ∷ ks) (t ∷ ts) [] = []
-callsOf (k ∷ ks) (t ∷ ts) (x ∷ out) = one (eventFor k t) ∷ callsOf ks ts out
+callsOf (k ∷ ks) (t ∷ ts) (x ∷ out) = one (cond k (finish t) (start t)) ∷ callsOf ks ts out
 
 -- from the plan and the calls alone: what the calls return, and the state after them in the bytes s
 unfoldable pub listReturns : List ℕ → List Call → List ℕ

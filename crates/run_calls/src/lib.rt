@@ -3,9 +3,11 @@ use run_monitor::finish;
 use run_monitor::start;
 use run_state::fresh;
 ghost use mathlib.Core.Path.{_≡_};
+ghost use mathlib.Core.Bool.{cond};
 ghost use Prim.Native.Nat.{min};
+ghost use Rattle.runs.specs.Execution as execution;
 ghost use Rattle.run_monitor.specs.Events.{Called};
-ghost use Rattle.run_calls.specs.Replay.{eventFor, Replayed};
+ghost use Rattle.run_calls.specs.Replay.{Replayed};
 
 fn least(a: usize, b: usize) -> usize
     ensures { λ r. ⌜ r ≡ min a b ⌝ }
@@ -15,7 +17,7 @@ fn least(a: usize, b: usize) -> usize
 
 // Starts or finishes the task.
 fn make(plan: &[u8], state: &mut [u8], finishes: bool, task: usize) -> u32
-    ensures { λ r. ⌜ Called (now (plan .entry)) (now (state .entry)) (eventFor finishes task) r (now (state .exit)) ⌝ }
+    ensures { λ r. ⌜ Called (now (plan .entry)) (now (state .entry)) (cond finishes (execution.finish task) (execution.start task)) r (now (state .exit)) ⌝ }
 {
     if finishes {
         return finish(plan, state, task);

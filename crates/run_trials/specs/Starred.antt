@@ -4,12 +4,13 @@ use mathlib.Core.Bool.{Bool, true, false}
 use mathlib.Core.List.{List, [], _∷_}
 use lib.ListN.{replicate}
 use lib.Dec.{eqb}
-use Rattle.runs.specs.Plan.{task, all-of, any-of, pre, inc, post}
+use Rattle.runs.specs.Plan.{task, all-of, any-of, Place, pre, inc, post, placeNumber, signNumber}
+use Rattle.plan_codes.specs.Values.{valueOf}
 use Rattle.runs.specs.Execution.{Status, waiting, running, done, start, finish}
 use Rattle.runs.specs.Summary.{must-pre}
 use Rattle.runs.specs.Verdict.{Verdict, CLEAR, OPEN, DOOMED}
 use Rattle.runs.specs.Calls.{Call, one, no-task, wrong-status, branch-begun, order-open, pre-unmet, inc-broken, number}
-use Rattle.run_trials.specs.Written.{Entry, Order, then, Written, valueOf}
+use Rattle.run_trials.specs.Written.{Entry, Order, then, Written}
 use Rattle.run_trials.specs.Trial.{Trial, Shown, shown, stateBytes}
 
 -- ---- names
@@ -47,14 +48,17 @@ off = false
 abbrev on : Bool
 on = true
 
+abbrev condition : Place → ℕ → Bool → ℕ
+condition k f v = valueOf f (signNumber v) (placeNumber k)
+
 abbrev needs : ℕ → Bool → ℕ
-needs f v = valueOf pre f v
+needs f v = condition pre f v
 
 abbrev holds : ℕ → Bool → ℕ
-holds f v = valueOf inc f v
+holds f v = condition inc f v
 
 abbrev leaves : ℕ → Bool → ℕ
-leaves f v = valueOf post f v
+leaves f v = condition post f v
 
 -- ---- nodes: the root, which is all-of; a choice under the root; a task under node u
 abbrev root : List ℕ → Entry

@@ -1,9 +1,9 @@
 -- A plan written down in pieces, and its bytes as 01 lays them out. Definitions only.
-use Prim.Native.Nat.{ℕ, suc, _+_, _*_, _/_, _%_}
+use Prim.Native.Nat.{ℕ, suc, _/_, _%_}
 use mathlib.Core.Bool.{Bool}
 use mathlib.Core.List.{List, [], _∷_, _++_}
 use lib.ListN.{length, replicate}
-use Rattle.runs.specs.Plan.{Kind, Place, kindNumber, placeNumber, signNumber}
+use Rattle.runs.specs.Plan.{Kind, kindNumber}
 use Rattle.run_calls.specs.Shown.{flagByte}
 
 -- a node: four characters, kind, parent, minutes, and the values of its conditions, rising
@@ -23,10 +23,6 @@ pub record Written : Type 0 where
   pub start : ℕ → Bool
   pub entries : List Entry
   pub orders : List Order
-
--- 01's value of a condition
-unfoldable pub valueOf : Place → ℕ → Bool → ℕ
-valueOf k f v = f + 64 * signNumber v + 128 * placeNumber k
 
 -- a number of 2 bytes
 unfoldable pub two : ℕ → List ℕ

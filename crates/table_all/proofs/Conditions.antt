@@ -12,6 +12,7 @@ use lib.Seq.{getD-set-same, getD-set-other}
 use Rattle.base.specs.Bits.{Says}
 use Rattle.base.proofs.Equations.{one-shl}
 use Rattle.base.proofs.Says.{says-map, says-eq, says-none, says-set}
+use Rattle.plan_codes.specs.Values.{valueOf}
 use Rattle.plan_format.specs.Format.{condCount, condNode, condValue}
 use Rattle.plan_rules.specs.Rules.{refusal}
 use Rattle.runs.specs.Plan.{Place, placeNumber, signNumber}
@@ -89,7 +90,7 @@ module _ {b c c' : List ℕ} {i x v : ℕ} (ex : x ≡ condNode b i) (ev : v ≡
 word-small : (k : Place) (v : Bool) → 2 * placeNumber k + signNumber v < 6
 word-small k v = omega (arith, place-small k, sign-small v)
 
-word-value : (k : Place) (v : Bool) (f : ℕ) → f + 64 * (2 * placeNumber k + signNumber v) ≡ f + 64 * signNumber v + 128 * placeNumber k
+word-value : (k : Place) (v : Bool) (f : ℕ) → f + 64 * (2 * placeNumber k + signNumber v) ≡ valueOf f (signNumber v) (placeNumber k)
 word-value k v f = omega arith
 
 pub noted-all : {b conds : List ℕ} → refusal b ≡ 0 → Noted b conds (condCount b) → RepresentsConditions conds (planOf b)

@@ -1,5 +1,5 @@
 -- The tests of tree and orders reflect them, so all of it can be decided.
-use Rattle.runs.proofs.Base.{_≡_, refl, _⊎_, inl, inr, Bool, ℕ, zero, suc, _+_, _<_, _≤_, arith, T}
+use Rattle.runs.proofs.Base.{_≡_, refl, _⊎_, inl, inr, Bool, ℕ, zero, suc, _+_, _<_, _≤_, arith, T, ℕ-discrete}
 use Rattle.runs.specs.Plan.{Kind, task, all-of, any-of, Picks, Plan, itself, below, Node, Child, Under, Before, direct, chain, Unordered}
 use Rattle.runs.specs.Plan.{WellFormed}
 use Rattle.runs.specs.Model.Trees.{kindB, picksB, byKind, childB, someChildB, everyChildB, underIn, underB, someTaskB, beforeIn, beforeB}
@@ -8,6 +8,13 @@ use Rattle.runs.proofs.Reflect.{clash, Reflects, r-map, decided, reflec
 use Rattle.runs.proofs.Reflect.{r-T, r-eq, r-lt, r-decide}
 use Rattle.runs.proofs.Plan.Trees.{under-node}
 use Rattle.runs.proofs.Plan.Chains.{before-node, before-rank}
+
+-- two nodes: the same, one before the other, or unordered
+pub data Standing (p : Plan) (a b : ℕ) : Type 0 where
+  same : a ≡ b → Standing p a b
+  earlier : Before p a b → Standing p a b
+  later : Before p b a → Standing p a b
+  unordered : Unordered p a b → Standing p a b
 
 pub r-kind : (k j : Kind) → Reflects (kindB k j) (k ≡ j)
 unfolding kindB
@@ -126,6 +133,16 @@ module _ (p : Plan) where
 
     pub decBefore : (a c : ℕ) → Dec (Before p a c)
     decBefore a c = decided (r-before a c)
+
+    -- how two nodes stand to each other
+    pub standing : (a b : ℕ) → Standing p a b
+    standing a b = go (ℕ-discrete a b) (decBefore a b) (decBefore b a)
+      where
+        go : Dec (a ≡ b) → Dec (Before p a b) → Dec (Before p b a) → Standing p a b
+        go (yes e) x y = same e
+        go (no k) (yes q) y = earlier q
+        go (no k) (no x) (yes q) = later q
+        go (no k) (no x) (no y) = unordered (record { distinct = k; not-before = x; not-after = y })
 
     pub r-unordered : (a b : ℕ) → Reflects (unorderedB p a b) (Unordered p a b)
     unfolding unorderedB

@@ -1,11 +1,11 @@
 -- An all-of group that may clobber has a pair: the children are read off the execution by projection.
-use Rattle.runs.proofs.Base.{_≡_, sym, _∙_, _≢_, _⊎_, inl, inr, Bool, not, some, [], _∷_, _++_, append-nil, ℕ, ℕ-discrete}
+use Rattle.runs.proofs.Base.{_≡_, sym, _∙_, _≢_, _⊎_, inl, inr, Bool, not, some, [], _∷_, _++_, append-nil, ℕ}
 use Rattle.runs.specs.Plan.{task, all-of, inc, Plan, Child, Under, Before, WellFormed, pre, post}
 use Rattle.runs.specs.Execution.{running, Event, start, finish, History, nodeOf, statusAfter, Execution, Completed, preOf, asserts}
 use Rattle.runs.specs.Execution.{lastAsserted}
 use Rattle.runs.specs.Summary.{Clobbers, precondition, incondition, TaskWith, ClobberByPairs, in-child, unordered-pair, passed-on, MayClobber}
 use Rattle.runs.proofs.Reflect.{clash}
-use Rattle.runs.proofs.Plan.{child-under, Branch, branch, one-branch, before-irrefl, decBefore}
+use Rattle.runs.proofs.Plan.{child-under, Branch, branch, one-branch, before-irrefl, Standing, same, earlier, later, unordered, standing}
 use Rattle.runs.specs.Classes.{All, Unasserted, here}
 use Rattle.runs.proofs.Execution.{after-nil, earlier-append, OfTask, enabled-of-task, all-of-rests, branch-of, part, part-in, part-out}
 use Rattle.runs.proofs.Execution.{after-part, part-execution, execution-tail, execution-last, earlier-execution, part-append, part-all, apart}
@@ -37,7 +37,7 @@ module _ (p : Plan) (w : WellFormed p) where
 
     pre-to-pairs : (ev : Event) (g : History) (e : Event) (r : History) → Execution p n (ev ∷ (g ++ (e ∷ r))) → preOf (p .cond) ev f ≡ some v
         → All (Unasserted p f) g → asserts p e f ≡ some (not v) → ClobberByPairs p f v n
-    pre-to-pairs ev g e r fr nd a wr = go (ℕ-discrete d c) (decBefore p w c d) (decBefore p w d c)
+    pre-to-pairs ev g e r fr nd a wr = go (standing p w c d)
       where
         h : History
         h = g ++ (e ∷ r)
@@ -70,15 +70,15 @@ module _ (p : Plan) (w : WellFormed p) where
         not-nil [] q = clash cc
         not-nil (x ∷ k) q = clash cc
 
-        go : Dec (d ≡ c) → Dec (Before p c d) → Dec (Before p d c) → ClobberByPairs p f v n
-        go (yes q) x y = in-child c (bt .child) (record {
+        go : Standing p c d → ClobberByPairs p f v n
+        go (same q) = in-child c (bt .child) (record {
           history = part p w c h;
           event = ev;
           execution = free-c;
-          clobbers = precondition nd (rw (← q) last-d);
+          clobbers = precondition nd (rw q last-d);
         })
-        go (no k) (yes q) y = absurd (not-nil (part p w d g) (sym part-d ∙ apart p w fr (be .child) q (bt .beneath)))
-        go (no k) (no x) (yes q) = passed-on c d (bt .child) (be .child) q
+        go (earlier q) = absurd (not-nil (part p w d g) (sym part-d ∙ apart p w fr (be .child) q (bt .beneath)))
+        go (later q) = passed-on c d (bt .child) (be .child) q
             (record { history = part p w d h; completed = completed-before p w ev h (bt .child) fr (bt .beneath) q; holds = last-d })
             ((may-pre-is-meet p w f v (bt .child .node)) .1
             (record {
@@ -93,13 +93,13 @@ module _ (p : Plan) (w : WellFormed p) where
               completed = completed-before p w ev h (bt .child) fr (bt .beneath) q₂;
               holds = all-unasserted p f (nothing-after g e r hb (be .child) fe (be .beneath) q₁ a);
             })
-        go (no k) (no x) (no y) = unordered-pair c d (bt .child) (be .child) (record { distinct = λ q. k (sym q); not-before = x; not-after = y })
+        go (unordered u) = unordered-pair c d (bt .child) (be .child) u
             (need-of c ev (enabled-of-task p (execution-last p w fr)) (bt .beneath) nd)
             (assertion-of d e (enabled-of-task p (execution-last p w fe)) (be .beneath) wr)
 
     inc-to-pairs : (e : Event) (h : History) (t : ℕ) → Execution p n (e ∷ h) → nodeOf e ≢ t → p .cond .sign inc t f ≡ some v → statusAfter h t ≡ running
         → asserts p e f ≡ some (not v) → ClobberByPairs p f v n
-    inc-to-pairs e h t fr other ho ru br = go (ℕ-discrete d c) (decBefore p w c d) (decBefore p w d c)
+    inc-to-pairs e h t fr other ho ru br = go (standing p w c d)
       where
         kt : p .tree .kind t ≡ task
         kt = running-task p w (execution-tail p w fr) t ru
@@ -126,17 +126,17 @@ module _ (p : Plan) (w : WellFormed p) where
         runs-c : statusAfter (part p w c h) t ≡ running
         runs-c = after-part p w c h t (bt .beneath) ∙ ru
 
-        go : Dec (d ≡ c) → Dec (Before p c d) → Dec (Before p d c) → ClobberByPairs p f v n
-        go (yes q) y z = in-child c (bt .child) (record {
+        go : Standing p c d → ClobberByPairs p f v n
+        go (same q) = in-child c (bt .child) (record {
           history = part p w c h;
           event = e;
           clobbers = incondition t other ho runs-c br;
-          execution = rw (part-in p w c e h (rw q at (be .beneath))) at (part-execution p w (child-under p (bt .child)) fr);
+          execution = rw (part-in p w c e h (rw (← q) at (be .beneath))) at (part-execution p w (child-under p (bt .child)) fr);
         })
-        go (no k) (yes q) z = let wc : Completed p c (part p w c h) = completed-before p w e h (be .child) fr (be .beneath) q in
+        go (earlier q) = let wc : Completed p c (part p w c h) = completed-before p w e h (be .child) fr (be .beneath) q in
             absurd (none-runs p w (bt .child .node) (wc .execution) (wc .complete) t runs-c)
-        go (no k) (no y) (yes q) = absurd (running-moved runs-c (rw (apart p w fr (bt .child) q (be .beneath)) (after-nil t)))
-        go (no k) (no y) (no z) = unordered-pair c d (bt .child) (be .child) (record { distinct = λ q. k (sym q); not-before = y; not-after = z })
+        go (later q) = absurd (running-moved runs-c (rw (apart p w fr (bt .child) q (be .beneath)) (after-nil t)))
+        go (unordered u) = unordered-pair c d (bt .child) (be .child) u
             (record { who = t; is-task = kt; beneath = bt .beneath; has = inr ho })
             (assertion-of d e (enabled-of-task p (execution-last p w fr)) (be .beneath) br)
 
