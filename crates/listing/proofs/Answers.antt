@@ -19,7 +19,7 @@ use Rattle.plan_check.proofs.Accepted.{clean}
 use Rattle.listing.specs.Text.{textOf, refusedText, printed}
 use Rattle.listing.specs.Listing.{listingRefusal, listedOf, listingLeft, Lists, Prints}
 use Rattle.listing.specs.declared.Listed.the-variants.{Refused, Text}
-use Rattle.listing.proofs.Sentences.{is-listing, is-refusal}
+use Rattle.listing.proofs.Sentences.{listing-is, refusal-is}
 use Rattle.listing.proofs.Text.{text-fits, refusal-limit, refused-length, printed-text, printed-refused}
 
 -- what an answer says of the refusal
@@ -48,7 +48,7 @@ module _ (b out : List ℕ) where
   refused-is : (r n : ℕ) → listingRefusal b out ≡ r → n ≡ r → (r ≡ 0 → ⊥) → Lists b out (Refused n) out
   unfolding listedOf listingLeft
   refused-is zero n e q h = absurd (h refl)
-  refused-is (suc r) n e q h = record { answer = rw (e, q); bytes = rw (e, ne-eqb (suc r) 0 h); text = is-listing b }
+  refused-is (suc r) n e q h = record { answer = rw (e, q); bytes = rw (e, ne-eqb (suc r) 0 h); text = listing-is b }
 
   pub lists-refused : {n : ℕ} → n ≡ refusal b → (refusal b ≡ 0 → ⊥) → Lists b out (Refused n) out
   lists-refused {n} e h = refused-is (refusal b) n (refused-first h) e h
@@ -70,7 +70,7 @@ module _ (b out : List ℕ) where
   lists-text {r} e l w =
       let z = refused-none e l in
       let q : r ≡ length (textOf b) = omega (arith, w .next) in
-      record { answer = rw (z, q); bytes = w .bytes ∙ sym (left-text z); text = is-listing b }
+      record { answer = rw (z, q); bytes = w .bytes ∙ sym (left-text z); text = listing-is b }
 
   -- ---- what was answered where there is room
   accepted-plan : listingRefusal b out ≡ 0 → refusal b ≡ 0
@@ -105,6 +105,6 @@ prints b {out' = out'} {r} l w =
       wrote = w;
       fits = f;
       counts = sym (length-take-le r out' f);
-      text = λ e. rw (← printed-text b e) (is-listing b e);
-      refused = λ h. rw (← printed-refused b h) (is-refusal (refusal b));
+      text = λ e. rw (← printed-text b e) (listing-is b e);
+      refused = λ h. rw (← printed-refused b h) (refusal-is (refusal b));
     }

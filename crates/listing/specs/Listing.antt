@@ -1,7 +1,7 @@
 -- What the listing call answers, and every byte that it leaves. Definitions only.
 use Prim.Native.Nat.{ℕ, _≤_}
 use mathlib.Core.Path.{_≡_}
-use mathlib.Core.Logic.{_⊎_, inl, inr}
+use mathlib.Core.Logic.{_⊎_, inl, inr, _↔_}
 use mathlib.Core.Bool.{cond}
 use mathlib.Core.List.{List}
 use lib.Dec.{eqb, ltb}
@@ -30,16 +30,17 @@ listedOf b out = refusedOr (listingRefusal b out) (length (textOf b))
 unfoldable pub listingLeft : List ℕ → List ℕ → List ℕ
 listingLeft b out = cond (eqb (listingRefusal b out) 0) (written out 0 (textOf b)) out
 
--- a call answered and left these, and the text of an accepted plan is the listing that 01 describes
+-- a call answered and left these; 01's words hold of the text of an accepted plan, and of no other
 pub record Lists (b out : List ℕ) (r : Listed) (out' : List ℕ) : Type 0 where
   pub answer : told r ≡ listedOf b out
   pub bytes : out' ≡ listingLeft b out
-  pub text : refusal b ≡ 0 → IsListing b (textOf b)
+  pub text : refusal b ≡ 0 → (s : List ℕ) → IsListing b s ↔ (s ≡ textOf b)
 
--- a call wrote all that the program prints from the first byte, the listing that 01 describes or the refusal, and answered how much of out' that is (`counts` follows from `fits`; `&out[..r]` asks for both)
+-- a call wrote all that the program prints from the first byte, and answered how much of out' that is (`counts` follows from `fits`; `&out[..r]` asks for both);
+-- 01's words for an accepted plan or a refused one hold of it, and of nothing else
 pub record Prints (b out out' : List ℕ) (r : ℕ) : Type 0 where
   pub wrote : Wrote out 0 (printed b) out' r
   pub fits : r ≤ length out'
   pub counts : r ≡ length (take r out')
-  pub text : refusal b ≡ 0 → IsListing b (printed b)
-  pub refused : (refusal b ≡ 0 → ⊥) → IsRefusal (refusal b) (printed b)
+  pub text : refusal b ≡ 0 → (s : List ℕ) → IsListing b s ↔ (s ≡ printed b)
+  pub refused : (refusal b ≡ 0 → ⊥) → (s : List ℕ) → IsRefusal (refusal b) s ↔ (s ≡ printed b)

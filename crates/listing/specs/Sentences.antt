@@ -1,4 +1,4 @@
--- The listing in 01's words: a text with what is to be believed of each of its parts. Definitions only.
+-- The listing, and what is printed of a refused plan, in 01's words. Definitions only.
 use Prim.Native.Nat.{ℕ}
 use mathlib.Core.Path.{_≡_}
 use mathlib.Core.List.{List, [], _∷_, _++_}

@@ -1,7 +1,7 @@
 -- The laws of `decimal`. Assumes nothing.
 use mathlib.Core.Path.{_≡_, refl, sym, ap, _∙_}
 use mathlib.Core.Logic.{by-cases}
-use mathlib.Core.List.{List, [], _∷_, _++_}
+use mathlib.Core.List.{List, [], _∷_, _++_, append-assoc, append-nil}
 use Prim.Native.Nat.{ℕ, zero, suc, _+_, _-_, _*_, _/_, _%_, _^_, _<_, _≤_}
 use native.Mathlib.Decide.{decLt}
 use native.Mathlib.Nat.{pow-suc}
@@ -99,3 +99,35 @@ plain-in (suc k) n l =
 
 pub plain : (n : ℕ) → Plain n (decimal n)
 plain n = plain-in (suc n) n (omega arith)
+
+-- ---- and nothing else is
+decimal-join : (v x : ℕ) → 0 < v → 48 ≤ x → x ≤ 57 → decimal (10 * v + (x - 48)) ≡ decimal v ++ (x ∷ [])
+decimal-join v x z l m =
+    let q : (10 * v + (x - 48)) / 10 ≡ v = omega arith in
+    let r : 48 + (10 * v + (x - 48)) % 10 ≡ x = omega arith in
+    decimal-more (10 * v + (x - 48)) (omega arith)
+    ∙ ap (λ (u : ℕ). decimal u ++ ((48 + (10 * v + (x - 48)) % 10) ∷ [])) q
+    ∙ ap (λ (y : ℕ). decimal v ++ (y ∷ [])) r
+
+-- digits after those of v
+decimal-then : (s : List ℕ) (v : ℕ) → 0 < v → Digits s → decimal (valueFrom v s) ≡ decimal v ++ s
+unfolding valueFrom
+decimal-then [] v z d = sym (append-nil (decimal v))
+decimal-then (x ∷ s) v z d =
+    let w = d 0 (omega arith) in
+    decimal-then s (10 * v + (x - 48)) (omega arith) (λ i l. d (suc i) (omega arith))
+    ∙ ap (λ (xs : List ℕ). xs ++ s) (decimal-join v x z (w .0) (w .1))
+    ∙ append-assoc (decimal v) (x ∷ []) s
+
+decimal-of : (n x : ℕ) → 48 ≤ x → x ≤ 57 → n ≡ x - 48 → decimal n ≡ x ∷ []
+decimal-of n x l m e = let r : 48 + n % 10 ≡ x = omega arith in decimal-digit n (omega arith) ∙ ap (λ (y : ℕ). y ∷ []) r
+
+pub plain-only : {n : ℕ} {s : List ℕ} → Plain n s → s ≡ decimal n
+unfolding valueFrom
+plain-only {s = []} p = absurd (omega (arith, p .some))
+plain-only {n} {s = x ∷ []} p = let w = p .digits 0 (omega arith) in sym (decimal-of n x (w .0) (w .1) (omega (arith, p .value)))
+plain-only {n} {s = x ∷ y ∷ s} p =
+    let w = p .digits 0 (omega arith) in
+    let z : x ≡ 48 → ⊥ = λ e. omega (arith, p .no-leading-zero e) in
+    let t = decimal-then (y ∷ s) (10 * 0 + (x - 48)) (omega arith) (λ i l. p .digits (suc i) (omega arith)) in
+    sym (ap decimal (sym (p .value)) ∙ t ∙ ap (λ (xs : List ℕ). xs ++ y ∷ s) (decimal-of (10 * 0 + (x - 48)) x (w .0) (w .1) (omega arith)))

@@ -9,7 +9,7 @@ use lib.Seq.{take-suc, take-all, getD-take, drop-cons}
 use Rattle.plan_format.specs.Format.{nodeCount, nameChar}
 use Rattle.plan_check.proofs.Accepted.{Clean}
 use Rattle.text_decimals.specs.Decimals.{decimal, Wrote}
-use Rattle.text_decimals.proofs.Laws.{length-limit, plain}
+use Rattle.text_decimals.proofs.Laws.{length-limit, plain, plain-only}
 use Rattle.text_decimals.proofs.Written.{written-none, wrote-then, wrote-same}
 use Rattle.wait_lengths.specs.Waits.{longestWait}
 use Rattle.wait_lengths.proofs.Bounds.{end-limit}
@@ -73,6 +73,15 @@ pub task-lines : (b ts : List ℕ) → TaskLines b (longestWait b) ts (linesOf b
 unfolding linesOf
 task-lines b [] = none
 task-lines b (t ∷ ts) = rw (line-then b t (linesOf b ts)) (line (plain (longestWait b t)) (task-lines b ts))
+
+-- and no other text is
+pub lines-only : {b : List ℕ} {longest : ℕ → ℕ} {ts s : List ℕ} → ((u : ℕ) → Among u ts → longest u ≡ longestWait b u) → TaskLines b longest ts s → s ≡ linesOf b ts
+unfolding linesOf
+lines-only f none = refl
+lines-only {b} {ts = t ∷ ts} f (line {digits = d} p r) =
+    ap (λ (xs : List ℕ). nameOf b t ++ 32 ∷ d ++ 10 ∷ xs) (lines-only (λ u a. f u (there a)) r)
+    ∙ ap (λ (xs : List ℕ). nameOf b t ++ 32 ∷ xs ++ 10 ∷ linesOf b ts) (plain-only p ∙ ap decimal (f t here))
+    ∙ sym (line-then b t (linesOf b ts))
 
 -- ---- a name is four bytes of the plan, one after another
 next-byte : (b : List ℕ) (i j n : ℕ) → j ≡ suc i → i < length b → take (suc n) (drop i b) ≡ getD b i 0 ∷ take n (drop j b)

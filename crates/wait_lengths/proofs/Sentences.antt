@@ -12,7 +12,6 @@ use Rattle.plan_format.specs.Format.{nodeCount, orderCount, parentOf, kindOf, e
 use Rattle.plan_rules.specs.Rules.{isChild}
 use Rattle.plan_rules.specs.Search.{someBelow}
 use Rattle.plan_rules.proofs.Laws.{either, found-at, none-at}
-use Rattle.plan_rules.proofs.Causes.{parent-group}
 use Rattle.plan_check.proofs.Accepted.{Clean}
 use Rattle.plan_check.proofs.Meaning.{kind-is, kind-of, kind-limit, kind-group, group-of, child-of}
 use Rattle.wait_lengths.specs.Waits.{greatest, lengthOf, waitWithin, longestWait}

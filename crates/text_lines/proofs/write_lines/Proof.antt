@@ -1,5 +1,5 @@
 -- `write_lines` meets its contract: the first i lines are written. Assumes nothing.
-use Prim.Native.Nat.{_-_, _≤_}
+use Prim.Native.Nat.{_-_}
 use Rattle.plan_check.proofs.Accepted.{clean}
 use Rattle.text_decimals.proofs.Written.{wrote-long}
 use Rattle.text_order.proofs.Order.{ranking-length}
@@ -10,13 +10,13 @@ use Rattle.text_lines.proofs.write_lines.Statement.{statement}
 use Rattle.text_lines.proofs.write_lines.Tie as tie
 
 abbrev Inv-loop : tie.InvT-loop
-Inv-loop plan waits ranked k out₀ at a₀ i₀ out a i = (i ≤ k) × LinesTo plan out₀ out at a i
+Inv-loop plan waits ranked k out₀ at a₀ i₀ out a i = LinesTo plan out₀ out at a i
 
 abbrev μ-loop : tie.MeasureT-loop
 μ-loop plan waits ranked k out₀ at a₀ i₀ out a i = k - i
 
 loop-holds : tie.Need-loop-holds Inv-loop μ-loop
-loop-holds c = (omega arith, lines-none (clean _ (c .before .before .pre .0)))
+loop-holds c = lines-none (clean _ (c .before .before .pre .0))
 
 element-copy-out-wide : tie.Need-element-copy-out-wide Inv-loop μ-loop
 element-copy-out-wide c = let s = c .before .before .before .before in omega (arith, s .pre .2 .count, ranking-length _ (clean _ (s .pre .0)))
@@ -37,7 +37,7 @@ write-line-requires c κs =
     let s = l .before .before .before in
     let ok = clean _ (s .pre .0) in
     let t = line-task ok (s .pre .2) (omega arith) (c .before .before .wide .ensures .0) .0 in
-    (s .pre .0, t, s .pre .1 .is _ t, omega (arith, s .pre .3, s .pre .2 .count, l .loop .inv .1 .short, ranking-length _ ok, wrote-long (l .loop .inv .1 .wrote)))
+    (s .pre .0, t, s .pre .1 .is _ t, omega (arith, s .pre .3, s .pre .2 .count, l .loop .inv .short, ranking-length _ ok, wrote-long (l .loop .inv .wrote)))
 
 loop-again : tie.Need-loop-again Inv-loop μ-loop
 loop-again c =
@@ -45,16 +45,16 @@ loop-again c =
     let s = l .before .before .before in
     let ok = clean _ (s .pre .0) in
     let t = line-task ok (s .pre .2) (omega arith) (c .before .before .before .before .before .wide .ensures .0) in
-    (omega arith, lines-turn ok (omega (arith, s .pre .2 .count)) (t .0) (t .1) (c .before .before .write-line .ensures) (l .loop .inv .1))
+    lines-turn ok (omega (arith, s .pre .2 .count)) (t .0) (t .1) (c .before .before .write-line .ensures) (l .loop .inv)
 
 same-length : tie.Need-same-length Inv-loop μ-loop
-same-length c = wrote-long (c .before .loop .inv .1 .wrote)
+same-length c = wrote-long (c .before .loop .inv .wrote)
 
 returns : tie.Need-returns Inv-loop μ-loop
 returns c =
     let l = c .before in
     let s = l .before .before .before in
-    lines-all (clean _ (s .pre .0)) (omega (arith, s .pre .2 .count)) (l .loop .inv .1)
+    lines-all (clean _ (s .pre .0)) (omega (arith, s .pre .2 .count)) (l .loop .inv)
 
 pub write-lines-spec : {M : Type 1} → statement M
 write-lines-spec =
