@@ -6,9 +6,9 @@ use std::io::Write;
 use std::path::{Path, PathBuf};
 use std::process::{Command, Stdio};
 
-use reference::generate::{any_plan, plan, Shape, LIMITS};
-use reference::listing::printed;
-use reference::random::Random;
+use reference::model::listing::printed;
+use reference::tools::generate::{any_plan, plan, Shape, LIMITS};
+use reference::tools::random::Random;
 
 fn root() -> PathBuf {
     Path::new(env!("CARGO_MANIFEST_DIR")).join("..")

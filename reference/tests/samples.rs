@@ -5,10 +5,10 @@ use std::ffi::OsStr;
 use std::fs;
 use std::path::{Path, PathBuf};
 
-use reference::archive;
-use reference::calls::Call;
-use reference::rules::refusal;
-use reference::text::{make, show, Error, Source};
+use reference::model::calls::Call;
+use reference::model::rules::refusal;
+use reference::tools::archive;
+use reference::tools::text::{make, show, Error, Source};
 
 /// Each sample with its length and its refusal.
 const SAMPLES: [(&str, usize, u32); 18] = [

@@ -7,9 +7,9 @@ use std::env::{var, VarError};
 use std::panic::{catch_unwind, resume_unwind, AssertUnwindSafe};
 use std::time::{Duration, Instant};
 
-use reference::random::Random;
-use reference::scenario::stream::{any_bytes, every_call, Damage};
-use reference::scenario::tally::Tally;
+use reference::tools::random::Random;
+use reference::tools::scenario::stream::{any_bytes, every_call, Damage};
+use reference::tools::scenario::tally::Tally;
 
 /// The plans of a run by default.
 const PLANS: usize = 250;

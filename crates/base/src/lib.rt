@@ -1,5 +1,17 @@
-// Tables of zeros.
+// A number, a conversion and tables of zeros that many crates use.
+ghost use mathlib.Core.Path.{_≡_};
+ghost use Prim.Native.Nat.{_<_};
 ghost use Rattle.base.specs.Zeros.{Zeros};
+
+// The word with every bit set.
+pub const ALL: u64 = 18446744073709551615;
+
+// A byte as an index.
+pub fn wide(x: u8) -> usize
+    ensures { λ r. ⌜ (r ≡ x) × (r < 256) ⌝ }
+{
+    x as usize
+}
 
 // A byte for each node.
 pub fn no_nodes() -> [u8; 128]

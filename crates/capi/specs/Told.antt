@@ -1,31 +1,30 @@
--- What the C calls return whose answers are told by numbers. Definitions only.
+-- What the C calls return whose answers are told by numbers: an equation for the number, and what it tells in 01's words. Definitions only.
 use mathlib.Core.Path.{_≡_}
+use mathlib.Core.Logic.{inr, _↔_}
 use mathlib.Core.List.{List}
 use Prim.Native.Nat.{ℕ}
-use Rattle.verdict.specs.declared.Answer.{Answer}
-use Rattle.verdict.specs.Verdict as summary
-use Rattle.verdict.specs.Verdict.{Assessed}
-use Rattle.listing.specs.declared.Listed.{Listed}
-use Rattle.listing.specs.Listing.{told, Lists}
-use Rattle.run_monitor.specs.declared.Progress.{Progress}
-use Rattle.run_monitor.specs.Status as monitor
-use Rattle.run_monitor.specs.Status.{Told}
+use Rattle.plan_rules.specs.Rules.{refusal}
+use Rattle.plan_check.specs.Meaning.{planOf, startOf}
+use Rattle.runs.specs.Execution.{Complete}
+use Rattle.runs.specs.Verdict.{Verdict, Judged}
+use Rattle.run_state.specs.State.{stateRefusal, statusIn}
+use Rattle.run_monitor.specs.Status.{COMPLETE, statusAnswer}
+use Rattle.verdict.specs.Verdict.{answerOf}
+use Rattle.listing.specs.Listing.{listedOf, listingLeft, TellsVerdict}
 use Rattle.capi_numbers.specs.Numbers.{verdictNumber, statusNumber, listingNumber}
 
--- r is the number of the answer that `assess` promises
+-- r is the number of the answer for the plan; accepted, it is the number of the verdict that 01 defines
 pub record VerdictNumber (b : List ℕ) (r : ℕ) : Type 0 where
-  pub answer : Answer
-  pub assessed : Assessed b answer
-  pub number : r ≡ verdictNumber (summary.said answer)
+  pub number : r ≡ verdictNumber (answerOf b)
+  pub judged : refusal b ≡ 0 → (v : Verdict) → (r ≡ verdictNumber (inr v)) ↔ Judged (planOf b) (startOf b) v
 
--- r is the number of the answer that `status` promises
+-- r is the number of the answer for the state; accepted, it is the number of COMPLETE exactly if the state shows the root complete
 pub record StatusNumber (b s : List ℕ) (r : ℕ) : Type 0 where
-  pub answer : Progress
-  pub told : Told b s answer
-  pub number : r ≡ statusNumber (monitor.said answer)
+  pub number : r ≡ statusNumber (statusAnswer b s)
+  pub complete : stateRefusal b s ≡ 0 → (r ≡ statusNumber (inr COMPLETE)) ↔ Complete (planOf b) (statusIn b s) 0
 
--- r is the number of the answer that `listing` promises, and out′ what it leaves
+-- r is the number of the answer, and out′ has every byte that the listing leaves
 pub record ListingNumber (b out : List ℕ) (r : ℕ) (out′ : List ℕ) : Type 0 where
-  pub answer : Listed
-  pub lists : Lists b out answer out′
-  pub number : r ≡ listingNumber (told answer)
+  pub number : r ≡ listingNumber (listedOf b out)
+  pub bytes : out′ ≡ listingLeft b out
+  pub judged : TellsVerdict b

@@ -15,14 +15,11 @@ use Rattle.base.proofs.First.{first-some, both-none}
 use Rattle.plan_rules.specs.Rules.{refusal}
 use Rattle.text_decimals.specs.Decimals.{written, Wrote}
 use Rattle.text_decimals.proofs.Written.{wrote-long, wrote-same}
-use Rattle.plan_check.specs.Meaning.{planOf, startOf}
 use Rattle.plan_check.proofs.Accepted.{clean}
-use Rattle.plan_check.proofs.Meaning.{means-well-formed}
-use Rattle.runs.specs.Model.Verdicts.{verdict}
-use Rattle.runs.proofs.Verdict.Exact.{verdict-exact}
 use Rattle.listing.specs.Text.{textOf, refusedText, printed}
-use Rattle.listing.specs.Listing.{listingRefusal, listedOf, listingLeft, TellsVerdict, Lists, Prints}
+use Rattle.listing.specs.Listing.{listingRefusal, listedOf, listingLeft, Lists, Prints}
 use Rattle.listing.specs.declared.Listed.the-variants.{Refused, Text}
+use Rattle.listing.proofs.Sentences.{is-listing, is-refusal}
 use Rattle.listing.proofs.Text.{text-fits, refusal-limit, refused-length, printed-text, printed-refused}
 
 -- what an answer says of the refusal
@@ -33,10 +30,6 @@ said-value (suc r) x v e = absurd (let z : _≡_ {A = ℕ} 0 1 = cc in omega ari
 said-number : {A : Type 0} (r n : ℕ) (x : A) → inl n ≡ refusedOr r x → (n ≡ r) × (r ≡ 0 → ⊥)
 said-number zero n x e = absurd (let z : _≡_ {A = ℕ} 0 1 = cc in omega arith)
 said-number (suc r) n x e = (cc, λ z. omega arith)
-
--- the computed verdict is the one that 01 defines
-told-verdict : (b : List ℕ) → TellsVerdict b
-told-verdict b e = verdict-exact (planOf b) (means-well-formed b e) (startOf b) (verdict (planOf b) (startOf b)) .0 refl
 
 module _ (b out : List ℕ) where
   -- refused for the plan
@@ -55,7 +48,7 @@ module _ (b out : List ℕ) where
   refused-is : (r n : ℕ) → listingRefusal b out ≡ r → n ≡ r → (r ≡ 0 → ⊥) → Lists b out (Refused n) out
   unfolding listedOf listingLeft
   refused-is zero n e q h = absurd (h refl)
-  refused-is (suc r) n e q h = record { answer = rw (e, q); bytes = rw (e, ne-eqb (suc r) 0 h); judged = told-verdict b }
+  refused-is (suc r) n e q h = record { answer = rw (e, q); bytes = rw (e, ne-eqb (suc r) 0 h); text = is-listing b }
 
   pub lists-refused : {n : ℕ} → n ≡ refusal b → (refusal b ≡ 0 → ⊥) → Lists b out (Refused n) out
   lists-refused {n} e h = refused-is (refusal b) n (refused-first h) e h
@@ -77,7 +70,7 @@ module _ (b out : List ℕ) where
   lists-text {r} e l w =
       let z = refused-none e l in
       let q : r ≡ length (textOf b) = omega (arith, w .next) in
-      record { answer = rw (z, q); bytes = w .bytes ∙ sym (left-text z); judged = told-verdict b }
+      record { answer = rw (z, q); bytes = w .bytes ∙ sym (left-text z); text = is-listing b }
 
   -- ---- what was answered where there is room
   accepted-plan : listingRefusal b out ≡ 0 → refusal b ≡ 0
@@ -99,7 +92,7 @@ module _ (b out : List ℕ) where
       (omega (arith, refusal-limit b), ap refusedText e ∙ printed-refused b p, h .bytes ∙ left-out (w .1))
 
 -- ---- all that is printed fits too
-pub printed-fits : (b : List ℕ) → length (printed b) ≤ 1679
+pub printed-fits : (b : List ℕ) → length (printed b) ≤ 1666
 printed-fits b =
     by-cases (ℕ-discrete (refusal b) 0)
     (λ (e : refusal b ≡ 0). rw (← printed-text b e) (text-fits (clean b e)))
@@ -108,4 +101,10 @@ printed-fits b =
 pub prints : (b : List ℕ) {out out' : List ℕ} {r : ℕ} → 2048 ≤ length out → Wrote out 0 (printed b) out' r → Prints b out out' r
 prints b {out' = out'} {r} l w =
     let f : r ≤ length out' = omega (arith, w .next, wrote-long w, printed-fits b) in
-    record { wrote = w; fits = f; counts = sym (length-take-le r out' f); judged = told-verdict b }
+    record {
+      wrote = w;
+      fits = f;
+      counts = sym (length-take-le r out' f);
+      text = λ e. rw (← printed-text b e) (is-listing b e);
+      refused = λ h. rw (← printed-refused b h) (is-refusal (refusal b));
+    }

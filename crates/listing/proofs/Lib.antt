@@ -1,4 +1,5 @@
 -- The listing.
 pub mod Text
+pub mod Sentences
 pub mod Prefix
 pub mod Answers

@@ -1,7 +1,7 @@
 -- The text: how long it can be, and which one is printed. Assumes nothing.
 use mathlib.Core.Path.{_≡_, refl}
 use mathlib.Core.Bool.{Bool, true, false, cond}
-use mathlib.Core.List.{List, [], _∷_, _++_}
+use mathlib.Core.List.{List, _++_}
 use Prim.Native.Nat.{ℕ, _≤_}
 use native.Mathlib.Omega.{arith}
 use lib.ListN.{length, length-append}
@@ -16,7 +16,7 @@ use Rattle.wait_lengths.proofs.Bounds.{end-limit}
 use Rattle.text_order.specs.Order.{ranking}
 use Rattle.text_lines.specs.Lines.{ending, linesOf}
 use Rattle.text_lines.proofs.Text.{ending-limit, lines-limit}
-use Rattle.listing.specs.Text.{letters, firstLine, textOf, refusedText, printed}
+use Rattle.listing.specs.Text.{letters, refusedLetters, firstLine, textOf, refusedText, printed}
 
 pub letters-limit : (v : Verdict) → length (letters v) ≤ 6
 letters-limit CLEAR = omega arith
@@ -26,7 +26,7 @@ letters-limit OPEN = omega arith
 pub root-limit : {b : List ℕ} → Clean b → length (ending (lengthOf b 0)) ≤ 9
 root-limit {b} ok = ending-limit (lengthOf b 0) (omega (arith, end-limit b ok 0 (ok .fits .limits .some-node)))
 
-pub text-fits : {b : List ℕ} → Clean b → length (textOf b) ≤ 1679
+pub text-fits : {b : List ℕ} → Clean b → length (textOf b) ≤ 1666
 unfolding textOf firstLine
 text-fits {b} ok =
     omega (
@@ -64,13 +64,13 @@ pub text-is : (b : List ℕ) → (letters (verdict (planOf b) (startOf b)) ++ en
 unfolding textOf firstLine
 text-is b = refl
 
-pub refused-is : (n : ℕ) → (82 ∷ 69 ∷ 70 ∷ 85 ∷ 83 ∷ 69 ∷ 68 ∷ []) ++ ending n ≡ refusedText n
+pub refused-is : (n : ℕ) → refusedLetters ++ ending n ≡ refusedText n
 unfolding refusedText
 refused-is n = refl
 
 pub refused-length : (n : ℕ) → n ≤ 14 → length (refusedText n) ≤ 16
 unfolding refusedText
-refused-length n l = omega (arith, length-append (82 ∷ 69 ∷ 70 ∷ 85 ∷ 83 ∷ 69 ∷ 68 ∷ []) (ending n), ending-limit n (omega arith))
+refused-length n l = omega (arith, length-append refusedLetters (ending n), ending-limit n (omega arith))
 
 -- ---- what is printed, accepted and refused
 module _ (b : List ℕ) where

@@ -1,3 +1,4 @@
 -- The listing, and all that the program prints.
 pub mod Text
+pub mod Sentences
 pub mod Listing

@@ -8,11 +8,9 @@ use lib.Dec.{eqb, ltb}
 use lib.ListN.{length, take}
 use Rattle.base.specs.Answers.{first, refusedOr}
 use Rattle.plan_rules.specs.Rules.{refusal}
-use Rattle.plan_check.specs.Meaning.{planOf, startOf}
-use Rattle.runs.specs.Verdict.{Judged}
-use Rattle.runs.specs.Model.Verdicts.{verdict}
 use Rattle.text_decimals.specs.Decimals.{written, Wrote}
 use Rattle.listing.specs.Text.{textOf, printed}
+use Rattle.listing.specs.Sentences.{IsListing, IsRefusal}
 use Rattle.listing.specs.declared.Listed.{Listed}
 use Rattle.listing.specs.declared.Listed.the-variants.{Refused, Text}
 
@@ -32,18 +30,16 @@ listedOf b out = refusedOr (listingRefusal b out) (length (textOf b))
 unfoldable pub listingLeft : List ℕ → List ℕ → List ℕ
 listingLeft b out = cond (eqb (listingRefusal b out) 0) (written out 0 (textOf b)) out
 
--- the verdict that the text of an accepted plan tells is the one that 01 defines
-abbrev pub TellsVerdict : List ℕ → Type 0
-TellsVerdict b = refusal b ≡ 0 → Judged (planOf b) (startOf b) (verdict (planOf b) (startOf b))
-
+-- a call answered and left these, and the text of an accepted plan is the listing that 01 describes
 pub record Lists (b out : List ℕ) (r : Listed) (out' : List ℕ) : Type 0 where
   pub answer : told r ≡ listedOf b out
   pub bytes : out' ≡ listingLeft b out
-  pub judged : TellsVerdict b
+  pub text : refusal b ≡ 0 → IsListing b (textOf b)
 
--- a call wrote all that the program prints from the first byte, and answered how much of out' that is (`counts` follows from `fits`; `&out[..r]` asks for both)
+-- a call wrote all that the program prints from the first byte, the listing that 01 describes or the refusal, and answered how much of out' that is (`counts` follows from `fits`; `&out[..r]` asks for both)
 pub record Prints (b out out' : List ℕ) (r : ℕ) : Type 0 where
   pub wrote : Wrote out 0 (printed b) out' r
   pub fits : r ≤ length out'
   pub counts : r ≡ length (take r out')
-  pub judged : TellsVerdict b
+  pub text : refusal b ≡ 0 → IsListing b (printed b)
+  pub refused : (refusal b ≡ 0 → ⊥) → IsRefusal (refusal b) (printed b)

@@ -17,6 +17,11 @@ letters CLEAR = 67 ∷ 76 ∷ 69 ∷ 65 ∷ 82 ∷ []
 letters DOOMED = 68 ∷ 79 ∷ 79 ∷ 77 ∷ 69 ∷ 68 ∷ []
 letters OPEN = 79 ∷ 80 ∷ 69 ∷ 78 ∷ []
 
+-- REFUSED
+abbrev pub refusedLetters : List ℕ
+refusedLetters = 82 ∷ 69 ∷ 70 ∷ 85 ∷ 83 ∷ 69 ∷ 68 ∷ []
+
+-- ---- the text, computed
 -- first line: answer, space, root's length
 unfoldable pub firstLine : List ℕ → List ℕ
 firstLine b = letters (verdict (planOf b) (startOf b)) ++ ending (lengthOf b 0)
@@ -27,7 +32,7 @@ textOf b = firstLine b ++ linesOf b (ranking b)
 
 -- REFUSED, space, number, byte 10
 unfoldable pub refusedText : ℕ → List ℕ
-refusedText n = (82 ∷ 69 ∷ 70 ∷ 85 ∷ 83 ∷ 69 ∷ 68 ∷ []) ++ ending n
+refusedText n = refusedLetters ++ ending n
 
 -- what the program prints
 unfoldable pub printed : List ℕ → List ℕ

@@ -68,8 +68,7 @@ pub fn listing(plan: &[u8], out: &mut [u8]) -> Listed
 }
 
 // Writes all that the program prints for these bytes, and answers how long it is.
-pub fn print(plan: &[u8], out: &mut [u8]) -> usize
-    requires { ⌜ 2048 ≤ length (now out) ⌝ }
+pub fn print(plan: &[u8], out: &mut [u8; 2048]) -> usize
     ensures { λ r. ⌜ Prints (now (plan .entry)) (now (out .entry)) (now (out .exit)) r ⌝ }
 {
     let listed = listing(plan, out);

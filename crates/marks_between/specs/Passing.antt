@@ -9,7 +9,7 @@ use Rattle.base.specs.Bits.{bit, Says}
 use Rattle.runs.specs.Plan.{Plan, Child, Before}
 use Rattle.runs.specs.Summary.{Silent}
 use Rattle.marks_row.specs.Tables.{code, RepresentsOrder}
-use Rattle.marks_row.specs.Columns.{avoid, Fact, wordAt}
+use Rattle.marks_row.specs.Columns.{avoid, asserts, Fact, wordIn}
 use Rattle.marks_row.specs.Segments.{Every}
 use Rattle.marks_siblings.specs.Group.{Group}
 
@@ -45,8 +45,8 @@ InTheWay order true b c d = Disturbs order b c d
 
 -- by its row, b lets the flag pass: it can avoid it; no task under it asserts it
 abbrev pub LetsPass : List ℕ → Bool → ℕ → ℕ → Type 0
-LetsPass rows false b f = T (bit (wordAt rows b 0) f)
-LetsPass rows true b f = ¬ (T (bit (wordAt rows b 13) f) ⊎ T (bit (wordAt rows b 14) f))
+LetsPass rows false b f = T (bit (wordIn rows b avoid) f)
+LetsPass rows true b f = ¬ (T (bit (wordIn rows b (asserts false)) f) ⊎ T (bit (wordIn rows b (asserts true)) f))
 
 -- a part of the table of children
 pub record Part (kids : List ℕ) (low high : ℕ) : Type 0 where

@@ -7,15 +7,12 @@ ghost use lib.ListN.{getD};
 ghost use Rattle.base.specs.Bits.{bit};
 ghost use Rattle.marks_row.specs.Tables.{Position, Shaped};
 ghost use Rattle.marks_between.specs.Passing.{StandsBetween, Disturbs, InTheWay, LetsPass, Part, PassingPart, PassingWord};
+use base::wide;
+use marks_row::columns::ASSERTS;
+use marks_row::columns::AVOID;
 use marks_row::neither;
-use marks_row::wide;
 use marks_row::word_at;
 use marks_siblings::narrowed;
-
-// The first word of some columns; a column but the first has a word for each sign, clear and set.
-const AVOID: usize = 0;
-
-const ASSERTS: usize = 13;
 
 // b stands after d and before c.
 fn stands_between(order: &[u8; 16384], b: usize, c: usize, d: usize) -> bool

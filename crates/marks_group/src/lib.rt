@@ -1,18 +1,22 @@
 // The row of an any-of group from the rows of its children; that of an all-of group but for the pairs of children that clobber.
 ghost use Prim.Native.Nat.{_≤_, _<_};
+ghost use Rattle.marks_row.specs.Columns.{RowIs};
 ghost use Rattle.marks_row.specs.Tables.{Shaped};
 ghost use Rattle.marks_group.specs.Groups.{AnyRow, AllRow, JoinedWord, Merged, Unmerged};
-ghost use Rattle.marks_group.specs.Masks.{Masks};
-use marks_row::wide;
+ghost use Rattle.marks_group.specs.Masks.{maskOf};
+use base::ALL;
+use base::wide;
+use marks_row::columns::AVOID;
+use marks_row::columns::COVERED;
+use marks_row::columns::END;
+use marks_row::columns::MUST_INC;
 use marks_row::word_at;
 use marks_siblings::Siblings;
 use marks_siblings::all_siblings;
 
-const ALL: u64 = 18446744073709551615;
-
 // What each column of a child is masked by.
 fn mask_words(s: Siblings) -> [u64; 21]
-    ensures { λ r. ⌜ Masks s r ⌝ }
+    ensures { λ r. ⌜ RowIs (maskOf s) r ⌝ }
 {
     [
         ALL,
@@ -98,12 +102,12 @@ pub fn any_words(
     requires { ⌜ Shaped (now from) (now kids) n × (node < n) ⌝ }
     ensures { λ r. ⌜ AnyRow (now (from .entry)) (now (kids .entry)) (now (rows .entry)) n node r ⌝ }
 {
-    let mask = start_words(0, 21);
-    let mut words = start_words(17, 21);
+    let mask = start_words(AVOID, END);
+    let mut words = start_words(MUST_INC, END);
     let end = wide(from[node + 1]);
     let mut i = wide(from[node]);
     while i < end {
-        let next = merged(17, 21, words, rows, wide(kids[i]), mask);
+        let next = merged(MUST_INC, END, words, rows, wide(kids[i]), mask);
         words = next;
         i += 1;
     }
@@ -122,13 +126,13 @@ pub fn all_words(
     requires { ⌜ Shaped (now from) (now kids) n × (node < n) ⌝ }
     ensures { λ r. ⌜ AllRow (now (from .entry)) (now (kids .entry)) (now (order .entry)) (now (rows .entry)) n node r ⌝ }
 {
-    let mut words = start_words(0, 3);
+    let mut words = start_words(AVOID, COVERED);
     let end = wide(from[node + 1]);
     let mut i = wide(from[node]);
     while i < end {
         let child = wide(kids[i]);
         let mask = mask_words(all_siblings(from, kids, order, rows, n, node, child));
-        let next = merged(0, 3, words, rows, child, mask);
+        let next = merged(AVOID, COVERED, words, rows, child, mask);
         words = next;
         i += 1;
     }

@@ -13,13 +13,12 @@ use Rattle.base.specs.Bits.{bit, Says}
 use Rattle.base.proofs.Says.{says-dec, says-self, says-and, says-or, says-less, no-flag}
 use Rattle.base.proofs.Words.{no-bits, less-add}
 use Rattle.runs.specs.Plan.{Plan, Child}
-use Rattle.marks_row.specs.Segments.{Every}
-use Rattle.marks_row.proofs.Segments.{every-child, joined}
+use Rattle.marks_row.proofs.Segments.{every-child}
 use Rattle.marks_between.specs.Passing.{SomePair, Pairing}
 use Rattle.marks_may_pairs.specs.declared.Found.{Found}
 use Rattle.marks_pair.specs.declared.Literals.{Literals}
 use Rattle.marks_pair.specs.Pairs.{Pair, signWord}
-use Rattle.marks_may_pairs.specs.Search.{Unclobbered, Search, AllPairs}
+use Rattle.marks_may_pairs.specs.Search.{Unclobbered, Stands, Search, AllPairs}
 
 -- one literal word more, one less
 abbrev pub gained : Literals → Literals → Literals
@@ -36,53 +35,54 @@ lost-says : (a b : Literals) (v : Bool) (f : ℕ) → Says (signWord (lost a b) 
 lost-says a b false f = says-less {x = a .clear} {y = b .clear} refl (says-self _ f) (says-self _ f)
 lost-says a b true f = says-less {x = a .set} {y = b .set} refl (says-self _ f) (says-self _ f)
 
--- what no child clobbers, when fewer literals are wanted
-fewer-wanted : {p : Plan} {n : ℕ} (wanted left : Literals) {kids : List ℕ} {low high : ℕ} → ((v : Bool) (f : ℕ) → T (bit (signWord left v) f) → T (bit (signWord wanted v) f))
-    → Every kids low high (Unclobbered p n wanted) → Every kids low high (Unclobbered p n left)
-fewer-wanted wanted left e h = record { each = λ i a b d hd v f l t. h .each i a b d hd v f l (e v f t) }
+-- what no pair passed clobbers, when fewer literals are wanted
+fewer-wanted : {from kids order rows : List ℕ} {size n i j : ℕ} (wanted left : Literals) → ((v : Bool) (f : ℕ) → T (bit (signWord left v) f) → T (bit (signWord wanted v) f))
+    → Stands from kids order rows size n wanted i j → Stands from kids order rows size n left i j
+fewer-wanted wanted left e s = record {
+  child = s .child;
+  partner = s .partner;
+  before = λ p g. record { each = λ k a b d hd v f l t. s .before p g .each k a b d hd v f l (e v f t) };
+  here = λ p g. record { each = λ k a b v f l t. s .here p g .each k a b v f l (e v f t) };
+}
 
 module _ (from kids order rows : List ℕ) (size n : ℕ) (wanted : Literals) where
-  -- the literals still wanted, those found, and where the search goes on: the children before clobber no literal that is still wanted
-  pub record Progress (left found : Literals) (first : ℕ) : Type 0 where
+  -- the literals still wanted, those found, and where the search stands
+  pub record Progress (left found : Literals) (i j : ℕ) : Type 0 where
     pub still : (v : Bool) (f : ℕ) → T (bit (signWord left v) f) ↔ (T (bit (signWord wanted v) f) × (¬ T (bit (signWord found v) f)))
     pub sound : (p : Plan) → Pairing from kids order rows size n p → (v : Bool) (f : ℕ) → f < 64 → T (bit (signWord found v) f)
         → T (bit (signWord wanted v) f) × SomePair p n (Pair p n f v)
-    pub low : getD from n 0 ≤ first
-    pub high : first ≤ getD from (n + 1) 0
-    pub passed : (p : Plan) → Pairing from kids order rows size n p → Every kids (getD from n 0) first (Unclobbered p n left)
+    pub stands : Stands from kids order rows size n left i j
 
   no-literal : (v : Bool) (f : ℕ) → ¬ T (bit (signWord (record { clear = 0; set = 0 }) v) f)
   no-literal false f t = no-flag 0 f refl t
   no-literal true f t = no-flag 0 f refl t
 
-  pub at-first : getD from n 0 ≤ getD from (n + 1) 0 → Progress wanted (record { clear = 0; set = 0 }) (getD from n 0)
+  pub at-first : getD from n 0 ≤ getD from (n + 1) 0 → Progress wanted (record { clear = 0; set = 0 }) (getD from n 0) (getD from n 0)
   at-first h = record {
     still = λ v f. (λ t. (t, no-literal v f), λ x. x .0);
     sound = λ p g v f l t. absurd (no-literal v f t);
-    low = omega arith;
-    high = h;
-    passed = λ p g. record { each = λ i a b. absurd (omega arith) };
+    stands = record {
+      child = record { low = omega arith; high = h };
+      partner = record { low = omega arith; high = h };
+      before = λ p g. record { each = λ k a b. absurd (omega arith) };
+      here = λ p g. record { each = λ k a b. absurd (omega arith) };
+    };
   }
 
-  module _ {left found : Literals} {first : ℕ} (next : Found) (h : Progress left found first) (s : Search from kids order rows size n left first next) where
+  module _ {left found : Literals} {i j : ℕ} (next : Found) (h : Progress left found i j) (s : Search from kids order rows size n left next) where
     abbrev pair : Literals
     pair = next .literals
 
-    pub found-more : Progress (lost left (next .literals)) (gained found (next .literals)) (next .at)
+    pub found-more : Progress (lost left (next .literals)) (gained found (next .literals)) (next .child) (next .partner)
     found-more = record {
       still = λ v f. (
         λ t. let x = lost-says left pair v f .to t in let y = (h .still v f) .0 (x .0) in (y .0, λ u. both v f (y .1) (x .1) (gained-says found pair v f .to u)),
         λ x. lost-says left pair v f .from ((h .still v f) .1 (x .0, λ t. x .1 (gained-says found pair v f .from (inl t))), λ t. x .1 (gained-says found pair v f .from (inr t))),
       );
       sound = λ p g v f l t. at p g v f l (gained-says found pair v f .to t);
-      low = omega (arith, h .low, s .low);
-      high = s .high;
-      passed = λ p g. joined first (fewer-wanted left (lost left pair) fewer-left (h .passed p g)) (fewer-wanted left (lost left pair) fewer-left (s .passed p g));
+      stands = fewer-wanted left (lost left pair) (λ v f t. (lost-says left pair v f .to t) .0) (s .stands);
     }
       where
-        fewer-left : (v : Bool) (f : ℕ) → T (bit (signWord (lost left pair) v) f) → T (bit (signWord left v) f)
-        fewer-left v f t = (lost-says left pair v f .to t) .0
-
         both : (v : Bool) (f : ℕ) → ¬ T (bit (signWord found v) f) → ¬ T (bit (signWord pair v) f) → ¬ (T (bit (signWord found v) f) ⊎ T (bit (signWord pair v) f))
         both v f k l (inl t) = k t
         both v f k l (inr t) = l t
@@ -101,7 +101,7 @@ module _ (from kids order rows : List ℕ) (size n : ℕ) (wanted : Literals) wh
     }
       where
         none : (p : Plan) → Pairing from kids order rows size n p → (c : ℕ) → Child p n c → Unclobbered p n left c
-        none p g = (every-child (g .group .tree) (g .group .node) (λ c hc. (λ x. x, λ x. x))) .0 (joined first (h .passed p g) (rw (s .ended e) at (s .passed p g)))
+        none p g = (every-child (g .group .tree) (g .group .node) (λ c hc. (λ x. x, λ x. x))) .0 (rw (s .ended e) at (s .stands .before p g))
 
         at : (p : Plan) → Pairing from kids order rows size n p → (v : Bool) (f : ℕ) → f < 64 → T (bit (signWord wanted v) f) × SomePair p n (Pair p n f v)
             → Dec (T (bit (signWord found v) f)) → T (bit (signWord found v) f)

@@ -21,15 +21,25 @@ NoClobber p n wanted c d = (v : Bool) (f : ℕ) → f < 64 → T (bit (signWord 
 abbrev pub Unclobbered : Plan → ℕ → Literals → ℕ → Type 0
 Unclobbered p n wanted c = (d : ℕ) → Child p n d → NoClobber p n wanted c d
 
--- What a search from a position on answers: wanted literals that some pair clobbers, and where it stands; no child passed clobbers a wanted literal, and with
--- no literal it has passed all.
-pub record Search (from kids order rows : List ℕ) (size n : ℕ) (wanted : Literals) (first : ℕ) (r : Found) : Type 0 where
+-- i is a position of the segment of n, or its end
+pub record Reached (from : List ℕ) (n i : ℕ) : Type 0 where
+  pub low : getD from n 0 ≤ i
+  pub high : i ≤ getD from (n + 1) 0
+
+-- The search stands at the child at position i and the partner at position j: no pair that it has passed clobbers a wanted literal. These are the pairs of the
+-- children before i, and those of the child at i with a partner before j.
+pub record Stands (from kids order rows : List ℕ) (size n : ℕ) (wanted : Literals) (i j : ℕ) : Type 0 where
+  pub child : Reached from n i
+  pub partner : Reached from n j
+  pub before : OfPlans from kids order rows size n (λ p. Every kids (getD from n 0) i (Unclobbered p n wanted))
+  pub here : OfPlans from kids order rows size n (λ p. Every kids (getD from n 0) j (NoClobber p n wanted (getD kids i 0)))
+
+-- What a search answers: wanted literals that some pair clobbers, and where it stands; with no literal it has passed all.
+pub record Search (from kids order rows : List ℕ) (size n : ℕ) (wanted : Literals) (r : Found) : Type 0 where
   pub among : (v : Bool) (f : ℕ) → f < 64 → T (bit (signWord (r .literals) v) f) → T (bit (signWord wanted v) f)
   pub sound : OfPlans from kids order rows size n (λ p. (v : Bool) (f : ℕ) → f < 64 → T (bit (signWord (r .literals) v) f) → SomePair p n (Pair p n f v))
-  pub low : first ≤ r .at
-  pub high : r .at ≤ getD from (n + 1) 0
-  pub passed : OfPlans from kids order rows size n (λ p. Every kids first (r .at) (Unclobbered p n wanted))
-  pub ended : bitOr (r .literals .clear) (r .literals .set) ≡ 0 → r .at ≡ getD from (n + 1) 0
+  pub stands : Stands from kids order rows size n wanted (r .child) (r .partner)
+  pub ended : bitOr (r .literals .clear) (r .literals .set) ≡ 0 → r .child ≡ getD from (n + 1) 0
 
 -- the wanted literals that some pair clobbers
 pub record AllPairs (from kids order rows : List ℕ) (size n : ℕ) (wanted r : Literals) : Type 0 where

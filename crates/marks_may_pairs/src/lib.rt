@@ -1,20 +1,20 @@
 // The pairs of children of an all-of group that may clobber a literal: a search that ends as soon as a pair is found, asked again for what is still wanted.
-ghost use Prim.Native.Nat.{_+_, _≤_, _<_};
-ghost use lib.ListN.{getD};
+ghost use Prim.Native.Nat.{_<_};
 ghost use Rattle.marks_row.specs.Tables.{Shaped};
-ghost use Rattle.marks_may_pairs.specs.Search.{Search, AllPairs};
+ghost use Rattle.marks_may_pairs.specs.Search.{Stands, Search, AllPairs};
+use base::wide;
 use marks_pair::Literals;
-use marks_pair::first_partner;
+use marks_pair::next_partner;
 use marks_pair::pair_words;
-use marks_row::wide;
 
-// The literals of a pair that a search found, and the position of the pair's first child; with no literal, the end of the children.
+// The literals of the pair at which a search stopped, and the positions of its two children; with no literal, the child is past them all.
 pub struct Found {
     pub literals: Literals,
-    pub at: usize,
+    pub child: usize,
+    pub partner: usize,
 }
 
-// Looks for a pair of children that clobbers a wanted literal, from a position of the first child on; the search ends as soon as one is found.
+// Looks for a pair of children that clobbers a wanted literal, from the pair at two positions on; the search ends as soon as one is found.
 pub fn clobbering_pair(
     from: &[u8; 129],
     kids: &[u8; 128],
@@ -23,18 +23,20 @@ pub fn clobbering_pair(
     n: usize,
     node: usize,
     wanted: Literals,
-    first: usize,
+    child: usize,
+    partner: usize,
 ) -> Found
-    requires { ⌜ (Shaped (now from) (now kids) n × (node < n)) × ((getD (now from) node 0 ≤ first) × (first ≤ getD (now from) (node + 1) 0)) ⌝ }
-    ensures { λ r. ⌜ Search (now (from .entry)) (now (kids .entry)) (now (order .entry)) (now (rows .entry)) n node wanted first r ⌝ }
+    requires { ⌜ (Shaped (now from) (now kids) n × (node < n)) × Stands (now from) (now kids) (now order) (now rows) n node wanted child partner ⌝ }
+    ensures { λ r. ⌜ Search (now (from .entry)) (now (kids .entry)) (now (order .entry)) (now (rows .entry)) n node wanted r ⌝ }
 {
     let end = wide(from[node + 1]);
     let start = wide(from[node]);
     let mut found = Literals { clear: 0, set: 0 };
-    let mut i = first;
+    let mut i = child;
+    let mut j = partner;
     'search: while i < end {
         let c = wide(kids[i]);
-        let mut j = first_partner(rows, wanted, c, start, end);
+        j = next_partner(rows, wanted, c, j, end);
         while j < end {
             let pair = pair_words(from, kids, order, rows, n, node, wanted, c, j);
             if (pair.clear | pair.set) != 0 {
@@ -44,14 +46,16 @@ pub fn clobbering_pair(
             j += 1;
         }
         i += 1;
+        j = start;
     }
     Found {
         literals: found,
-        at: i,
+        child: i,
+        partner: j,
     }
 }
 
-// The wanted literals that some pair of children clobbers: the search is asked again for those still wanted, and goes on at the child where it stood.
+// The wanted literals that some pair of children clobbers: the search is asked again for those still wanted, and goes on at the pair where it stood.
 pub fn clobbering_pairs(
     from: &[u8; 129],
     kids: &[u8; 128],
@@ -66,14 +70,16 @@ pub fn clobbering_pairs(
 {
     let mut left = wanted;
     let mut found = Literals { clear: 0, set: 0 };
-    let mut first = wide(from[node]);
+    let mut child = wide(from[node]);
+    let mut partner = child;
     loop {
-        let next = clobbering_pair(from, kids, order, rows, n, node, left, first);
+        let next = clobbering_pair(from, kids, order, rows, n, node, left, child, partner);
         let pair = next.literals;
         if (pair.clear | pair.set) == 0 {
             return found;
         }
-        first = next.at;
+        child = next.child;
+        partner = next.partner;
         found.clear = found.clear | pair.clear;
         found.set = found.set | pair.set;
         left.clear = left.clear ^ (left.clear & pair.clear);

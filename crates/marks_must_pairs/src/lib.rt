@@ -3,12 +3,11 @@ ghost use Prim.Native.Nat.{_<_};
 ghost use lib.ListN.{getD};
 ghost use Rattle.marks_row.specs.Tables.{Position, Shaped};
 ghost use Rattle.marks_must_pairs.specs.MustPairs.{MustPairWord, WithChildWord, MustPairsWord};
+use base::ALL;
+use base::wide;
 use marks_between::passing;
 use marks_row::must_post;
 use marks_row::must_pre;
-use marks_row::wide;
-
-const ALL: u64 = 18446744073709551615;
 
 // The wanted flags of one sign that the child c and the child at j must clobber.
 fn must_pair_word(

@@ -7,7 +7,7 @@ use Prim.Native.Nat.{ℕ, _<_}
 use lib.Dec.{T}
 use Rattle.base.specs.Bits.{bit, Says}
 use Rattle.runs.specs.Plan.{Plan, Child, Before, Unordered}
-use Rattle.marks_row.specs.Columns.{may-pre, may-post, requires, asserts, indexOf, Fact, wordAt}
+use Rattle.marks_row.specs.Columns.{may-pre, may-post, requires, asserts, Fact, wordIn}
 use Rattle.marks_row.specs.Musts.{SaysOf}
 use Rattle.marks_between.specs.Passing.{Between, OfPlans}
 use Rattle.marks_pair.specs.declared.Literals.{Literals}
@@ -36,8 +36,8 @@ pub record PairWords (from kids order rows : List ℕ) (size n : ℕ) (wanted : 
 -- no wanted literal is one that c requires, or that may be its external precondition
 pub record NoneRequired (rows : List ℕ) (wanted : Literals) (c : ℕ) : Type 0 where
   pub none : (v : Bool) (f : ℕ) → f < 64 → T (bit (signWord wanted v) f)
-      → ¬ (T (bit (wordAt rows c (indexOf (requires v))) f) ⊎ T (bit (wordAt rows c (indexOf (may-pre v))) f))
+      → ¬ (T (bit (wordIn rows c (requires v)) f) ⊎ T (bit (wordIn rows c (may-pre v)) f))
 
--- where the pairs with c begin: at the start, or at the end if none is required
-abbrev pub FirstPartner : List ℕ → Literals → ℕ → ℕ → ℕ → ℕ → Type 0
-FirstPartner rows wanted c start end r = (r ≡ start) ⊎ ((r ≡ end) × NoneRequired rows wanted c)
+-- where the pairs with c go on: at the next position, or at the end if none is required
+abbrev pub NextPartner : List ℕ → Literals → ℕ → ℕ → ℕ → ℕ → Type 0
+NextPartner rows wanted c next end r = (r ≡ next) ⊎ ((r ≡ end) × NoneRequired rows wanted c)

@@ -2,20 +2,15 @@
 ghost use Prim.Native.Nat.{_<_};
 ghost use lib.ListN.{getD};
 ghost use Rattle.marks_row.specs.Tables.{Position, Shaped};
-ghost use Rattle.marks_pair.specs.Pairs.{PairWord, PairWords, FirstPartner};
+ghost use Rattle.marks_pair.specs.Pairs.{PairWord, PairWords, NextPartner};
+use base::wide;
 use marks_between::passing;
-use marks_row::wide;
+use marks_row::columns::ASSERTS;
+use marks_row::columns::MAY_POST;
+use marks_row::columns::MAY_PRE;
+use marks_row::columns::REQUIRES;
 use marks_row::word_at;
 use marks_siblings::apart;
-
-// The first word of some columns; there is a word for each sign, clear and set.
-const MAY_PRE: usize = 5;
-
-const MAY_POST: usize = 7;
-
-const REQUIRES: usize = 11;
-
-const ASSERTS: usize = 13;
 
 // Literals: the flags wanted clear, the flags wanted set.
 pub struct Literals {
@@ -78,21 +73,21 @@ pub fn pair_words(
     }
 }
 
-// The position of the first child to pair with c: past them all, if c requires no wanted literal.
-pub fn first_partner(
+// The position of the next child to pair with c: the given one, or past them all, if c requires no wanted literal.
+pub fn next_partner(
     rows: &[u64; 2688],
     wanted: Literals,
     c: usize,
-    start: usize,
+    next: usize,
     end: usize,
 ) -> usize
     requires { ⌜ c < 128 ⌝ }
-    ensures { λ r. ⌜ FirstPartner (now (rows .entry)) wanted c start end r ⌝ }
+    ensures { λ r. ⌜ NextPartner (now (rows .entry)) wanted c next end r ⌝ }
 {
     let clear = word_at(rows, c, REQUIRES) | word_at(rows, c, MAY_PRE);
     let set = word_at(rows, c, REQUIRES + 1) | word_at(rows, c, MAY_PRE + 1);
     if ((wanted.clear & clear) | (wanted.set & set)) == 0 {
         return end;
     }
-    start
+    next
 }

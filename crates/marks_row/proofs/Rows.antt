@@ -1,7 +1,8 @@
 -- Rows that are read and written word by word, and what stays right. Assumes nothing.
-use mathlib.Core.Path.{_≡_, ap, _∙_}
+use mathlib.Core.Path.{_≡_, refl, ap, _∙_}
 use mathlib.Core.Logic.{by-cases, _↔_}
-use mathlib.Core.List.{List}
+use mathlib.Core.Bool.{true, false}
+use mathlib.Core.List.{List, [], _∷_}
 use Prim.Native.Nat.{ℕ, _+_, _*_, _<_}
 use native.Mathlib.Decide.{ℕ-discrete}
 use native.Mathlib.Omega.{arith}
@@ -12,7 +13,7 @@ use Rattle.base.specs.Bits.{bit, Says}
 use Rattle.base.proofs.Says.{says-eq}
 use Rattle.runs.specs.Plan.{Plan}
 use Rattle.marks_row.specs.Columns.{Column, avoid, quiet, covered, may-pre, may-post, may-inc, requires, asserts, may-clobber, must-inc, must-clobber}
-use Rattle.marks_row.specs.Columns.{indexOf, Fact, wordAt, Right, Row, Written}
+use Rattle.marks_row.specs.Columns.{indexOf, Fact, wordAt, Right, Row, RowIs, Written}
 use Rattle.runs.proofs.Plan.Numbers.{sign-small}
 
 -- an array filled from the front: what holds of each word written holds of one more
@@ -46,6 +47,40 @@ index-small (asserts v) = omega (arith, sign-small v)
 index-small (may-clobber v) = omega (arith, sign-small v)
 index-small (must-inc v) = omega (arith, sign-small v)
 index-small (must-clobber v) = omega (arith, sign-small v)
+
+-- the words of all columns in their order: each stands at the index of its column
+abbrev pub rowOf : (Column → ℕ) → List ℕ
+rowOf w =
+    w avoid ∷ w (quiet false) ∷ w (quiet true) ∷ w (covered false) ∷ w (covered true) ∷ w (may-pre false)
+    ∷ w (may-pre true) ∷ w (may-post false) ∷ w (may-post true) ∷ w (may-inc false) ∷ w (may-inc true)
+    ∷ w (requires false) ∷ w (requires true) ∷ w (asserts false) ∷ w (asserts true) ∷ w (may-clobber false)
+    ∷ w (may-clobber true) ∷ w (must-inc false) ∷ w (must-inc true) ∷ w (must-clobber false) ∷ w (must-clobber true) ∷ []
+
+pub row-of : (w : Column → ℕ) → RowIs w (rowOf w)
+row-of w = record { is = at }
+  where
+    at : (k : Column) → getD (rowOf w) (indexOf k) 0 ≡ w k
+    at avoid = refl
+    at (quiet false) = refl
+    at (quiet true) = refl
+    at (covered false) = refl
+    at (covered true) = refl
+    at (may-pre false) = refl
+    at (may-pre true) = refl
+    at (may-post false) = refl
+    at (may-post true) = refl
+    at (may-inc false) = refl
+    at (may-inc true) = refl
+    at (requires false) = refl
+    at (requires true) = refl
+    at (asserts false) = refl
+    at (asserts true) = refl
+    at (may-clobber false) = refl
+    at (may-clobber true) = refl
+    at (must-inc false) = refl
+    at (must-inc true) = refl
+    at (must-clobber false) = refl
+    at (must-clobber true) = refl
 
 -- a word of a right row, by its index and by its column
 module _ {p : Plan} {rows : List ℕ} {n : ℕ} (r : Right p rows n) where

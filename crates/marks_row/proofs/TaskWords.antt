@@ -3,7 +3,7 @@ use mathlib.Core.Path.{_≡_, refl, ap, _∙_}
 use mathlib.Core.Logic.{Iff·trans, Iff·symm}
 use mathlib.Core.Bool.{Bool, true, false}
 use mathlib.Core.Option.{none, some}
-use mathlib.Core.List.{List, [], _∷_}
+use mathlib.Core.List.{List}
 use Prim.Native.Nat.{ℕ, _+_, _*_, _<_}
 use native.Mathlib.Omega.{arith}
 use lib.Bits.{bitAnd, bitOr, bitXor}
@@ -13,17 +13,31 @@ use Rattle.base.proofs.Says.{says-map, says-eq, says-or, says-less, says-neithe
 use Rattle.runs.specs.Plan.{Place, pre, inc, post, Plan, placeNumber, signNumber}
 use Rattle.runs.proofs.Summary.Clobber.{clobber-task}
 use Rattle.runs.proofs.Summary.ReflectClobber.{must-clobber-task}
-use Rattle.marks_row.specs.declared.Literal.{Literal}
+use Rattle.marks_row.specs.declared.SignWords.{SignWords}
 use Rattle.marks_row.specs.Columns.{Column, avoid, quiet, covered, may-pre, may-post, may-inc, requires, asserts, may-clobber, must-inc, must-clobber}
-use Rattle.marks_row.specs.Columns.{indexOf, Fact, Row}
-use Rattle.marks_row.specs.Tasks.{Task, LiteralSays}
+use Rattle.marks_row.specs.Columns.{Fact, Row}
+use Rattle.marks_row.specs.Tasks.{Task, WordsOfSign}
+use Rattle.marks_row.proofs.Rows.{rowOf, row-of}
 use Rattle.marks_row.proofs.Task.{no-sign, a-sign, avoid-task, quiet-is, covered-is, may-pre-is, may-post-is, may-inc-is, must-inc-is, with-is}
 
--- the row of a task
-abbrev pub rowOf : ℕ → Literal → Literal → List ℕ
-rowOf x c d =
-    x ∷ c .quiet ∷ d .quiet ∷ c .covered ∷ d .covered ∷ c .pre ∷ d .pre ∷ c .post ∷ d .post ∷ c .inc ∷ d .inc ∷ c .«pre_or_inc» ∷ d .«pre_or_inc»
-    ∷ c .«inc_or_post» ∷ d .«inc_or_post» ∷ 0 ∷ 0 ∷ c .inc ∷ d .inc ∷ 0 ∷ 0 ∷ []
+-- the words of the two signs
+abbrev pub bySign : SignWords → SignWords → Bool → SignWords
+bySign c d false = c
+bySign c d true = d
+
+-- the word of a task in each column; x has the flags that it does not assert
+abbrev pub taskWord : ℕ → (Bool → SignWords) → Column → ℕ
+taskWord x w avoid = x
+taskWord x w (quiet v) = w v .quiet
+taskWord x w (covered v) = w v .covered
+taskWord x w (may-pre v) = w v .pre
+taskWord x w (may-post v) = w v .post
+taskWord x w (may-inc v) = w v .inc
+taskWord x w (requires v) = w v .«pre_or_inc»
+taskWord x w (asserts v) = w v .«inc_or_post»
+taskWord x w (may-clobber v) = 0
+taskWord x w (must-inc v) = w v .inc
+taskWord x w (must-clobber v) = 0
 
 module _ {conds : List ℕ} {n : ℕ} {p : Plan} (t : Task conds n p) where
   -- a word read from the table of conditions
@@ -37,8 +51,8 @@ module _ {conds : List ℕ} {n : ℕ} {p : Plan} (t : Task conds n p) where
     silent : (f : ℕ) → f < 64 → Says (bitXor (bitOr a b) ones) f (p .cond .sign post n f ≡ none)
     silent f l = says-map (no-sign _) (says-neither {x = a} {y = b} l refl (word post false 4 a f refl qa l) (word post true 5 b f refl qb l))
 
-    pub literal-says : (v : Bool) (s x y z : ℕ) → s ≡ signNumber v → x ≡ getD conds (n * 6 + s) 0 → y ≡ getD conds (n * 6 + (2 + s)) 0
-        → z ≡ getD conds (n * 6 + (4 + s)) 0 → LiteralSays p n v (record {
+    pub sign-says : (v : Bool) (s x y z : ℕ) → s ≡ signNumber v → x ≡ getD conds (n * 6 + s) 0 → y ≡ getD conds (n * 6 + (2 + s)) 0
+        → z ≡ getD conds (n * 6 + (4 + s)) 0 → WordsOfSign p n v (record {
           quiet = bitXor (bitXor (bitOr a b) ones) (bitAnd (bitXor (bitOr a b) ones) x);
           covered = bitXor (bitOr a b) (bitAnd (bitOr a b) x);
           pre = x;
@@ -47,7 +61,7 @@ module _ {conds : List ℕ} {n : ℕ} {p : Plan} (t : Task conds n p) where
           «pre_or_inc» = bitOr x y;
           «inc_or_post» = bitOr y z;
         })
-    literal-says v s x y z e qx qy qz = record {
+    sign-says v s x y z e qx qy qz = record {
       quiet = λ f l. says-map (quiet-is p (t .well-formed) (t .is-task) f v) (says-less {x = bitXor (bitOr a b) ones} {y = x} refl (silent f l) (is-pre f l));
       covered = λ f l. says-map (covered-is p (t .well-formed) (t .is-task) f v) (says-less {x = bitOr a b} {y = x} refl (asserted f l) (is-pre f l));
       pre = λ f l. says-map (may-pre-is p (t .well-formed) (t .is-task) f v) (is-pre f l);
@@ -66,32 +80,24 @@ module _ {conds : List ℕ} {n : ℕ} {p : Plan} (t : Task conds n p) where
         is-post : (f : ℕ) → f < 64 → Says z f (p .cond .sign post n f ≡ some v)
         is-post f l = word post v (4 + s) z f (omega (arith, e)) qz l
 
-    pub task-row : (c d : Literal) → LiteralSays p n false c → LiteralSays p n true d → Row p n (rowOf (bitXor (bitOr a b) ones) c d)
-    task-row c d x y = record { says = at }
+    pub task-row : (c d : SignWords) → WordsOfSign p n false c → WordsOfSign p n true d → Row p n (rowOf (taskWord (bitXor (bitOr a b) ones) (bySign c d)))
+    task-row c d x y = record { says = λ k f l. says-eq (row-of (taskWord (bitXor (bitOr a b) ones) (bySign c d)) .is k) (at k f l) }
       where
-        -- must incondition is may incondition
-        must : (v : Bool) (z f : ℕ) → Says z f (Fact p n f (may-inc v)) → Says z f (Fact p n f (must-inc v))
-        must v z f s = says-map (Iff·trans (Iff·symm (may-inc-is p (t .well-formed) (t .is-task) f v)) (must-inc-is p (t .well-formed) (t .is-task) f v)) s
+        both : (v : Bool) → WordsOfSign p n v (bySign c d v)
+        both false = x
+        both true = y
 
-        at : (col : Column) (f : ℕ) → f < 64 → Says (getD (rowOf (bitXor (bitOr a b) ones) c d) (indexOf col) 0) f (Fact p n f col)
+        at : (k : Column) (f : ℕ) → f < 64 → Says (taskWord (bitXor (bitOr a b) ones) (bySign c d) k) f (Fact p n f k)
         at avoid f l = says-map (avoid-task p (t .well-formed) (t .is-task) f) (silent f l)
-        at (quiet false) f l = x .quiet f l
-        at (quiet true) f l = y .quiet f l
-        at (covered false) f l = x .covered f l
-        at (covered true) f l = y .covered f l
-        at (may-pre false) f l = x .pre f l
-        at (may-pre true) f l = y .pre f l
-        at (may-post false) f l = x .post f l
-        at (may-post true) f l = y .post f l
-        at (may-inc false) f l = x .inc f l
-        at (may-inc true) f l = y .inc f l
-        at (requires false) f l = x .pre-or-inc f l
-        at (requires true) f l = y .pre-or-inc f l
-        at (asserts false) f l = x .inc-or-post f l
-        at (asserts true) f l = y .inc-or-post f l
-        at (may-clobber false) f l = says-none refl (clobber-task p (t .well-formed) f false (t .is-task))
-        at (may-clobber true) f l = says-none refl (clobber-task p (t .well-formed) f true (t .is-task))
-        at (must-inc false) f l = must false (c .inc) f (x .inc f l)
-        at (must-inc true) f l = must true (d .inc) f (y .inc f l)
-        at (must-clobber false) f l = says-none refl (must-clobber-task p (t .well-formed) f false (t .is-task))
-        at (must-clobber true) f l = says-none refl (must-clobber-task p (t .well-formed) f true (t .is-task))
+        at (quiet v) f l = both v .quiet f l
+        at (covered v) f l = both v .covered f l
+        at (may-pre v) f l = both v .pre f l
+        at (may-post v) f l = both v .post f l
+        at (may-inc v) f l = both v .inc f l
+        at (requires v) f l = both v .pre-or-inc f l
+        at (asserts v) f l = both v .inc-or-post f l
+        at (may-clobber v) f l = says-none refl (clobber-task p (t .well-formed) f v (t .is-task))
+        -- must incondition is may incondition
+        at (must-inc v) f l = says-map
+            (Iff·trans (Iff·symm (may-inc-is p (t .well-formed) (t .is-task) f v)) (must-inc-is p (t .well-formed) (t .is-task) f v)) (both v .inc f l)
+        at (must-clobber v) f l = says-none refl (must-clobber-task p (t .well-formed) f v (t .is-task))

@@ -1,6 +1,6 @@
 -- Rows of words: 21 words to a node, one for each column; bit f of a word speaks of flag f. Definitions only.
 use mathlib.Core.Path.{_≡_}
-use mathlib.Core.Bool.{Bool}
+use mathlib.Core.Bool.{Bool, false}
 use mathlib.Core.Option.{none}
 use mathlib.Core.List.{List}
 use Prim.Native.Nat.{ℕ, _+_, _*_, _<_}
@@ -30,6 +30,10 @@ indexOf (may-clobber v) = 15 + signNumber v
 indexOf (must-inc v) = 17 + signNumber v
 indexOf (must-clobber v) = 19 + signNumber v
 
+-- the first word of a column that has one for each sign
+abbrev pub firstOf : (Bool → Column) → ℕ
+firstOf k = indexOf (k false)
+
 -- what a column says of node n and flag f. (Must precondition is 'neither quiet nor covered', must postcondition 'neither avoid nor may post of the
 -- opposite': the theory's must-pre-is and must-post-is.)
 abbrev pub Fact : Plan → ℕ → ℕ → Column → Type 0
@@ -45,17 +49,24 @@ Fact p n f (may-clobber v) = MayClobber p f v n
 Fact p n f (must-inc v) = Must p n (Incondition p f v)
 Fact p n f (must-clobber v) = MustClobber p f v n
 
--- the word of node n in column k
+-- word k of the row of node n; its word in a column
 abbrev pub wordAt : List ℕ → ℕ → ℕ → ℕ
 wordAt rows n k = getD rows (n * 21 + k) 0
 
+abbrev pub wordIn : List ℕ → ℕ → Column → ℕ
+wordIn rows n k = wordAt rows n (indexOf k)
+
 -- the row of n says the facts of n
 pub record Right (p : Plan) (rows : List ℕ) (n : ℕ) : Type 0 where
-  pub says : (k : Column) (f : ℕ) → f < 64 → Says (wordAt rows n (indexOf k)) f (Fact p n f k)
+  pub says : (k : Column) (f : ℕ) → f < 64 → Says (wordIn rows n k) f (Fact p n f k)
 
 -- 21 words say the facts of n
 pub record Row (p : Plan) (n : ℕ) (w : List ℕ) : Type 0 where
   pub says : (k : Column) (f : ℕ) → f < 64 → Says (getD w (indexOf k) 0) f (Fact p n f k)
+
+-- r has the word w k in each column k
+pub record RowIs (w : Column → ℕ) (r : List ℕ) : Type 0 where
+  pub is : (k : Column) → getD r (indexOf k) 0 ≡ w k
 
 -- rows' is rows with the words w in the row of n
 pub record Written (rows rows' : List ℕ) (n : ℕ) (w : List ℕ) : Type 0 where

@@ -5,7 +5,7 @@ use mathlib.Core.List.{List}
 use Prim.Native.Nat.{ℕ, _<_}
 use Rattle.base.specs.Bits.{Says}
 use Rattle.runs.specs.Plan.{task, Plan, Node, WellFormed}
-use Rattle.marks_row.specs.declared.Literal.{Literal}
+use Rattle.marks_row.specs.declared.SignWords.{SignWords}
 use Rattle.marks_row.specs.Tables.{RepresentsConditions}
 use Rattle.marks_row.specs.Columns.{quiet, covered, may-pre, may-post, may-inc, requires, asserts, Fact}
 
@@ -17,7 +17,7 @@ pub record Task (conds : List ℕ) (n : ℕ) (p : Plan) : Type 0 where
   pub is-task : p .tree .kind n ≡ task
 
 -- the words of the task n for one sign
-pub record LiteralSays (p : Plan) (n : ℕ) (v : Bool) (r : Literal) : Type 0 where
+pub record WordsOfSign (p : Plan) (n : ℕ) (v : Bool) (r : SignWords) : Type 0 where
   pub quiet : (f : ℕ) → f < 64 → Says (r .quiet) f (Fact p n f (quiet v))
   pub covered : (f : ℕ) → f < 64 → Says (r .covered) f (Fact p n f (covered v))
   pub pre : (f : ℕ) → f < 64 → Says (r .pre) f (Fact p n f (may-pre v))

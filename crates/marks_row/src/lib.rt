@@ -1,4 +1,6 @@
 // Rows of words, 21 to a node, one for each column (specs/Columns.antt): bit f of a word speaks of flag f. The rows of tasks; what is read off a row.
+pub mod columns;
+
 ghost use mathlib.Core.Path.{_≡_};
 ghost use mathlib.Core.Bool.{Bool};
 ghost use Prim.Native.Nat.{_+_, _*_, _<_};
@@ -7,22 +9,16 @@ ghost use lib.ListN.{length, getD};
 ghost use Rattle.base.specs.Bits.{ones};
 ghost use Rattle.runs.specs.Plan.{Plan, signNumber};
 ghost use Rattle.marks_row.specs.Columns.{wordAt, Row, Written};
-ghost use Rattle.marks_row.specs.Tasks.{Task, LiteralSays};
+ghost use Rattle.marks_row.specs.Tasks.{Task, WordsOfSign};
 ghost use Rattle.marks_row.specs.Musts.{MustPreWord, MustPostWord};
-
-const ALL: u64 = 18446744073709551615;
-
-// The first word of some columns; a column but the first has a word for each sign.
-const AVOID: usize = 0;
-
-const QUIET: usize = 1;
-
-const COVERED: usize = 3;
-
-const MAY_POST: usize = 7;
+use base::ALL;
+use columns::AVOID;
+use columns::COVERED;
+use columns::MAY_POST;
+use columns::QUIET;
 
 // The words of a task for one sign.
-pub struct Literal {
+pub struct SignWords {
     pub quiet: u64,
     pub covered: u64,
     pub pre: u64,
@@ -40,16 +36,16 @@ fn condition_word(conds: &[u64; 768], node: usize, at: usize) -> u64
 }
 
 // A task has one execution, so its facts are read off its conditions. An incondition's flag has a postcondition too.
-fn literal_words(conds: &[u64; 768], node: usize, sign: usize) -> Literal
+fn words_of_sign(conds: &[u64; 768], node: usize, sign: usize) -> SignWords
     requires { ⌜ (node < 128) × (sign < 2) ⌝ }
-    ensures { λ r. ⌜ ((p : Plan) → Task (now (conds .entry)) node p → (v : Bool) → sign ≡ signNumber v → LiteralSays p node v r) ⌝ }
+    ensures { λ r. ⌜ ((p : Plan) → Task (now (conds .entry)) node p → (v : Bool) → sign ≡ signNumber v → WordsOfSign p node v r) ⌝ }
 {
     let pre = condition_word(conds, node, sign);
     let inc = condition_word(conds, node, 2 + sign);
     let post = condition_word(conds, node, 4 + sign);
     let asserted = condition_word(conds, node, 4) | condition_word(conds, node, 5);
     let silent = asserted ^ ALL;
-    Literal {
+    SignWords {
         quiet: silent ^ (silent & pre),
         covered: asserted ^ (asserted & pre),
         pre: pre,
@@ -66,8 +62,8 @@ pub fn task_words(conds: &[u64; 768], node: usize) -> [u64; 21]
     ensures { λ r. ⌜ ((p : Plan) → Task (now (conds .entry)) node p → Row p node r) ⌝ }
 {
     let asserted = condition_word(conds, node, 4) | condition_word(conds, node, 5);
-    let clear = literal_words(conds, node, 0);
-    let set = literal_words(conds, node, 1);
+    let clear = words_of_sign(conds, node, 0);
+    let set = words_of_sign(conds, node, 1);
     [
         asserted ^ ALL,
         clear.quiet,
@@ -102,12 +98,6 @@ pub fn write_row(rows: &mut [u64; 2688], node: usize, words: [u64; 21])
         rows[node * 21 + k] = words[k];
         k += 1;
     }
-}
-
-pub fn wide(x: u8) -> usize
-    ensures { λ r. ⌜ r ≡ x ⌝ }
-{
-    x as usize
 }
 
 // The word of a node in a column.

@@ -18,7 +18,7 @@ use Rattle.runs.specs.Summary.{TaskWith, Silent}
 use Rattle.runs.proofs.Reflect.{clash}
 use Rattle.marks_siblings.specs.declared.Siblings.{Siblings}
 use Rattle.marks_row.specs.Tables.{code, RepresentsOrder}
-use Rattle.marks_row.specs.Columns.{avoid, quiet, asserts, Fact, wordAt, Right}
+use Rattle.marks_row.specs.Columns.{avoid, quiet, asserts, Fact, wordIn, Right}
 use Rattle.marks_row.specs.Segments.{Every}
 use Rattle.marks_siblings.specs.Group.{Group}
 use Rattle.marks_siblings.specs.Siblings.{Apart, Narrows, Limits, SiblingWords}
@@ -34,8 +34,8 @@ module _ {w r : ℕ} {C : Type 0} {A : ℕ → Type 0} where
     says = λ f l. says-map (λ x. (x .0, λ y. (a f l) .0 (x .1 (c .1 y))), λ x. (x .0, λ y. (a f l) .1 (x .1 (c .0 y)))) (n .says f l);
   }
 
-pub narrows-taken : {w r : ℕ} (y : ℕ) {C : Type 0} → C → r ≡ bitAnd w y → Narrows w r C (λ f. T (bit y f))
-narrows-taken {w} {r} y c e = record { says = λ f l. says-map (λ x. (x .0, λ d. x .1), λ x. (x .0, x .1 c)) (says-and e (says-self w f) (says-self y f)) }
+pub narrows-taken : {w r x y : ℕ} {C : Type 0} → C → x ≡ y → r ≡ bitAnd w x → Narrows w r C (λ f. T (bit y f))
+narrows-taken {w} {r} {x} {y} c q e = record { says = λ f l. says-map (λ z. (z .0, λ d. z .1), λ z. (z .0, z .1 c)) (says-and e (says-self w f) (says-eq q (says-self y f))) }
 
 -- the flags of neither word
 pub neither : (x y f : ℕ) → f < 64 → T (bit (bitXor (bitOr x y) ones) f) ↔ (¬ (T (bit x f) ⊎ T (bit y f)))
@@ -80,14 +80,14 @@ silent-is p f b = (λ k e t u. quiet k e t u (signOf p e f) refl, λ s x. loud s
     loud s (inr x) = heard true s x (x .has)
 
 -- a node under which no task asserts the flag, by the words of its row
-pub silent-cell : {p : Plan} {rows : List ℕ} {b f : ℕ} → Right p rows b → f < 64 → (¬ (T (bit (wordAt rows b 13) f) ⊎ T (bit (wordAt rows b 14) f))) ↔ Silent p f b
+pub silent-cell : {p : Plan} {rows : List ℕ} {b f : ℕ} → Right p rows b → f < 64 → (¬ (T (bit (wordIn rows b (asserts false)) f) ⊎ T (bit (wordIn rows b (asserts true)) f))) ↔ Silent p f b
 silent-cell {p} {rows} {b} {f} r l = (λ k. (silent-is p f b) .0 (λ x. k (down x)), λ s x. (silent-is p f b) .1 s (up x))
   where
-    up : T (bit (wordAt rows b 13) f) ⊎ T (bit (wordAt rows b 14) f) → Fact p b f (asserts false) ⊎ Fact p b f (asserts true)
+    up : T (bit (wordIn rows b (asserts false)) f) ⊎ T (bit (wordIn rows b (asserts true)) f) → Fact p b f (asserts false) ⊎ Fact p b f (asserts true)
     up (inl t) = inl ((cell r l (asserts false)) .0 t)
     up (inr t) = inr ((cell r l (asserts true)) .0 t)
 
-    down : Fact p b f (asserts false) ⊎ Fact p b f (asserts true) → T (bit (wordAt rows b 13) f) ⊎ T (bit (wordAt rows b 14) f)
+    down : Fact p b f (asserts false) ⊎ Fact p b f (asserts true) → T (bit (wordIn rows b (asserts false)) f) ⊎ T (bit (wordIn rows b (asserts true)) f)
     down (inl x) = inl ((cell r l (asserts false)) .1 x)
     down (inr x) = inr ((cell r l (asserts true)) .1 x)
 

@@ -10,7 +10,7 @@ use Rattle.runs.specs.Plan.{Plan, Child, Before, Unordered}
 use Rattle.runs.specs.Summary.{Silent}
 use Rattle.marks_siblings.specs.declared.Siblings.{Siblings}
 use Rattle.marks_row.specs.Tables.{code, RepresentsOrder}
-use Rattle.marks_row.specs.Columns.{avoid, quiet, Fact, wordAt}
+use Rattle.marks_row.specs.Columns.{avoid, quiet, asserts, Fact, wordIn}
 use Rattle.marks_siblings.specs.Group.{Group}
 
 -- by the table, a and b are unordered
@@ -25,12 +25,12 @@ pub record Narrows (w r : ℕ) (C : Type 0) (A : ℕ → Type 0) : Type 0 where
 
 -- the words r are the words s with one sibling more
 pub record Limits (order rows : List ℕ) (child sibling : ℕ) (s r : Siblings) : Type 0 where
-  pub avoid-before : Narrows (s .«avoid_before») (r .«avoid_before») (code order sibling child ≡ 1) (λ f. T (bit (wordAt rows sibling 0) f))
-  pub clear-before : Narrows (s .«clear_before») (r .«clear_before») (code order sibling child ≡ 1) (λ f. T (bit (wordAt rows sibling 1) f))
-  pub set-before : Narrows (s .«set_before») (r .«set_before») (code order sibling child ≡ 1) (λ f. T (bit (wordAt rows sibling 2) f))
-  pub avoid-after : Narrows (s .«avoid_after») (r .«avoid_after») (code order sibling child ≡ 2) (λ f. T (bit (wordAt rows sibling 0) f))
+  pub avoid-before : Narrows (s .«avoid_before») (r .«avoid_before») (code order sibling child ≡ 1) (λ f. T (bit (wordIn rows sibling avoid) f))
+  pub clear-before : Narrows (s .«clear_before») (r .«clear_before») (code order sibling child ≡ 1) (λ f. T (bit (wordIn rows sibling (quiet false)) f))
+  pub set-before : Narrows (s .«set_before») (r .«set_before») (code order sibling child ≡ 1) (λ f. T (bit (wordIn rows sibling (quiet true)) f))
+  pub avoid-after : Narrows (s .«avoid_after») (r .«avoid_after») (code order sibling child ≡ 2) (λ f. T (bit (wordIn rows sibling avoid) f))
   pub silent-apart : Narrows (s .«silent_apart») (r .«silent_apart») (Apart order sibling child)
-      (λ f. ¬ (T (bit (wordAt rows sibling 13) f) ⊎ T (bit (wordAt rows sibling 14) f)))
+      (λ f. ¬ (T (bit (wordIn rows sibling (asserts false)) f) ⊎ T (bit (wordIn rows sibling (asserts true)) f)))
 
 -- What the words say of the siblings of c, all of them or some: E Q is 'each of them has Q'. Those before c avoid the flag, are quiet for its literals;
 -- those after c avoid the flag; those unordered with c are silent.

@@ -5,18 +5,13 @@ ghost use lib.Dec.{T};
 ghost use Rattle.base.specs.Bits.{bit};
 ghost use Rattle.marks_row.specs.Tables.{Shaped};
 ghost use Rattle.marks_siblings.specs.Siblings.{Apart, Narrows, Limits, SiblingsOf};
+use base::ALL;
+use base::wide;
+use marks_row::columns::ASSERTS;
+use marks_row::columns::AVOID;
+use marks_row::columns::QUIET;
 use marks_row::neither;
-use marks_row::wide;
 use marks_row::word_at;
-
-const ALL: u64 = 18446744073709551615;
-
-// The first word of some columns; a column but the first has a word for each sign.
-const AVOID: usize = 0;
-
-const QUIET: usize = 1;
-
-const ASSERTS: usize = 13;
 
 // What the siblings of a child in an all-of group allow: those before it avoid the flag, are quiet for its clear and its set literal; those after it
 // avoid the flag; those unordered with it do not assert the flag.

@@ -2,7 +2,7 @@
 use mathlib.Core.Path.{_≡_, refl}
 use mathlib.Core.Logic.{_⊎_, inl, inr, ⊎-elim, _↔_, Iff·trans}
 use mathlib.Core.Bool.{Bool, true, false}
-use mathlib.Core.List.{List, [], _∷_}
+use mathlib.Core.List.{List}
 use Prim.Native.Nat.{ℕ, _<_}
 use lib.Bits.{bitXor}
 use lib.Dec.{T}
@@ -13,7 +13,7 @@ use Rattle.runs.specs.Plan.{all-of, Plan, WellFormed}
 use Rattle.runs.proofs.Summary.Clobber.{clobber-all}
 use Rattle.runs.proofs.Summary.ReflectClobber.{must-clobber-all}
 use Rattle.marks_row.specs.Columns.{Column, avoid, quiet, covered, may-pre, may-post, may-inc, requires, asserts, may-clobber, must-inc, must-clobber}
-use Rattle.marks_row.specs.Columns.{indexOf, Fact, Row}
+use Rattle.marks_row.specs.Columns.{indexOf, Fact, Row, RowIs}
 use Rattle.marks_group.specs.Groups.{Within, WithinRow}
 use Rattle.marks_row.proofs.Rows.{index-small}
 use Rattle.marks_pair.specs.declared.Literals.{Literals}
@@ -21,7 +21,7 @@ use Rattle.marks_between.specs.Passing.{SomePair}
 use Rattle.marks_pair.specs.Pairs.{Pair, signWord}
 use Rattle.marks_pair.proofs.Pairs.{by-pairs}
 use Rattle.marks_must_pairs.specs.MustPairs.{MustPair}
-use Rattle.marks_tree.specs.Clobbers.{Extra, clobberOf, ClobberWords, Ored}
+use Rattle.marks_tree.specs.Clobbers.{Extra, clobberOf, Ored}
 
 -- nothing is added
 same : {A : Type 0} → (A ⊎ ⊥) ↔ A
@@ -93,36 +93,8 @@ module _ {p : Plan} {n : ℕ} (w : WellFormed p) (kn : p .tree .kind n ≡ all-o
       λ x. ⊎-elim (λ t. inl ((known v f l) .1 t)) inr x,
     ) (b v f l)
 
-    pub all-row : {x r : List ℕ} → ClobberWords may must x → Ored words x r → Row p n r
+    pub all-row : {x r : List ℕ} → RowIs (clobberOf may must) x → Ored words x r → Row p n r
     all-row c o = record {
       says = λ k f l. says-map (all-fact p w kn f k (says-dec (h .says k f l)))
           (says-or (o .is (indexOf k) (index-small k)) (h .says k f l) (says-eq (c .is k) (extra k f l)));
     }
-
-pub clobber-words : (may must : Literals) → ClobberWords may must (0 ∷ 0 ∷ 0 ∷ 0 ∷ 0 ∷ 0 ∷ 0 ∷ 0 ∷ 0 ∷ 0 ∷ 0 ∷ 0 ∷ 0 ∷ 0 ∷ 0 ∷ may .clear ∷ may .set ∷ 0 ∷ 0
-    ∷ must .clear ∷ must .set ∷ [])
-clobber-words may must = record { is = at }
-  where
-    at : (k : Column) → getD (0 ∷ 0 ∷ 0 ∷ 0 ∷ 0 ∷ 0 ∷ 0 ∷ 0 ∷ 0 ∷ 0 ∷ 0 ∷ 0 ∷ 0 ∷ 0 ∷ 0 ∷ may .clear ∷ may .set ∷ 0 ∷ 0 ∷ must .clear ∷ must .set ∷ []) (indexOf k) 0
-        ≡ clobberOf may must k
-    at avoid = refl
-    at (quiet false) = refl
-    at (quiet true) = refl
-    at (covered false) = refl
-    at (covered true) = refl
-    at (may-pre false) = refl
-    at (may-pre true) = refl
-    at (may-post false) = refl
-    at (may-post true) = refl
-    at (may-inc false) = refl
-    at (may-inc true) = refl
-    at (requires false) = refl
-    at (requires true) = refl
-    at (asserts false) = refl
-    at (asserts true) = refl
-    at (may-clobber false) = refl
-    at (may-clobber true) = refl
-    at (must-inc false) = refl
-    at (must-inc true) = refl
-    at (must-clobber false) = refl
-    at (must-clobber true) = refl

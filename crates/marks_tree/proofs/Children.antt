@@ -20,21 +20,35 @@ use Rattle.marks_row.proofs.Segments.{listed, every-next, every-child}
 use Rattle.marks_between.specs.Passing.{Pairing}
 use Rattle.marks_tree.specs.Filled.{Given, Filled, TasksFilled, AllFilled}
 
+-- in every plan that the table of kinds represents, c is of kind k
+abbrev pub OfKind : List ℕ → ℕ → Kind → Type 0
+OfKind kind c k = (p : Plan) → RepresentsKinds kind p → Node p c → p .tree .kind c ≡ k
+
 -- a kind by its code
-is-task : (k : Kind) → kindNumber k ≢ 1 → kindNumber k ≢ 2 → k ≡ task
-is-task task a b = refl
-is-task all-of a b = absurd (a refl)
-is-task any-of a b = absurd (b refl)
+module _ {kind : List ℕ} {c : ℕ} where
+  pub is-all : getD kind c 0 ≡ 1 → OfKind kind c all-of
+  is-all e p r l = at _ (sym (r .is c l) ∙ e)
+    where
+      at : (k : Kind) → kindNumber k ≡ 1 → k ≡ all-of
+      at task e = absurd (omega arith)
+      at all-of e = refl
+      at any-of e = absurd (omega arith)
 
-is-all : (k : Kind) → kindNumber k ≡ 1 → k ≡ all-of
-is-all task e = absurd (omega arith)
-is-all all-of e = refl
-is-all any-of e = absurd (omega arith)
+  pub is-any : getD kind c 0 ≡ 2 → OfKind kind c any-of
+  is-any e p r l = at _ (sym (r .is c l) ∙ e)
+    where
+      at : (k : Kind) → kindNumber k ≡ 2 → k ≡ any-of
+      at task e = absurd (omega arith)
+      at all-of e = absurd (omega arith)
+      at any-of e = refl
 
-is-any : (k : Kind) → kindNumber k ≡ 2 → k ≡ any-of
-is-any task e = absurd (omega arith)
-is-any all-of e = absurd (omega arith)
-is-any any-of e = refl
+  pub is-task : getD kind c 0 ≢ 1 → getD kind c 0 ≢ 2 → OfKind kind c task
+  is-task a b p r l = at _ (λ e. a (r .is c l ∙ e)) (λ e. b (r .is c l ∙ e))
+    where
+      at : (k : Kind) → kindNumber k ≢ 1 → kindNumber k ≢ 2 → k ≡ task
+      at task a b = refl
+      at all-of a b = absurd (a refl)
+      at any-of a b = absurd (b refl)
 
 -- a child has a greater number than its group
 pub kid-later : {from kids : List ℕ} {n node i c : ℕ} → Shaped from kids n × (node < n) → Position from node i → c ≡ getD kids i 0 → (node < c) × (c < n)
@@ -51,12 +65,15 @@ module _ (kind from kids order : List ℕ) (n node : ℕ) where
   children-none rows e = record { long = e; kept = λ p g m x. x; right = λ p g. record { each = λ j a b. absurd (omega arith) } }
 
   -- one child more
-  pub child-more : {rows₀ rows rows' rows″ : List ℕ} {i c : ℕ} → c ≡ getD kids i 0 → Position from node i → ChildrenTo rows₀ rows i → rows″ ≡ rows'
-      → Filled kind from kids order rows rows' n c → ChildrenTo rows₀ rows″ (i + 1)
-  child-more {rows₀} {rows} {c = c} e at h q x = rw q (record {
+  pub child-more : {rows₀ rows rows' rows″ : List ℕ} {i c : ℕ} {k : Kind} → c ≡ getD kids i 0 → Position from node i → ChildrenTo rows₀ rows i → rows″ ≡ rows'
+      → OfKind kind c k → Filled k kind from kids order rows rows' n c → ChildrenTo rows₀ rows″ (i + 1)
+  child-more {rows₀} {rows} {c = c} {k = k} e at h q is x = rw q (record {
     long = x .long;
-    kept = λ p g m r. x .kept p (given p g) m (h .kept p g m r);
-    right = λ p g. (every-next (at .low)) .0 (record { each = λ j a b m u. x .kept p (given p g) m (h .right p g .each j a b m u) }, rw e at (x .right p (given p g)));
+    kept = λ p g m r. x .kept p (given p g) (kn p g) m (h .kept p g m r);
+    right = λ p g. (every-next (at .low)) .0 (
+      record { each = λ j a b m u. x .kept p (given p g) (kn p g) m (h .right p g .each j a b m u) },
+      rw e at (x .right p (given p g) (kn p g)),
+    );
   })
     where
       given : (p : Plan) → Given kind from kids order rows₀ n node p → Given kind from kids order rows n c p
@@ -69,14 +86,16 @@ module _ (kind from kids order : List ℕ) (n node : ℕ) where
         tasks = λ t l k. h .kept p g t (g .tasks t l k);
       }
 
+      kn : (p : Plan) → Given kind from kids order rows₀ n node p → p .tree .kind c ≡ k
+      kn p g = is p (g .kinds) (given p g .is-node)
+
   -- a task, whose row stands
-  pub task-filled : {rows : List ℕ} → length rows ≡ 2688 → getD kind node 0 ≢ 1 → getD kind node 0 ≢ 2 → Filled kind from kids order rows rows n node
-  task-filled {rows} e a b = record { long = e; kept = λ p g m x. x; right = at }
-    where
-      at : (p : Plan) → Given kind from kids order rows n node p → (m : ℕ) → Under p node m → Right p rows m
-      at p g m u = let q = g .kinds .is node (g .is-node) in
-          let k = is-task (p .tree .kind node) (λ z. a (q ∙ z)) (λ z. b (q ∙ z)) in
-          rw (under-task p (g .well-formed) k u) at (g .tasks node (g .is-node) k)
+  pub task-filled : {rows : List ℕ} → length rows ≡ 2688 → Filled task kind from kids order rows rows n node
+  task-filled e = record {
+    long = e;
+    kept = λ p g k m x. x;
+    right = λ p g k m u. rw (under-task p (g .well-formed) k u) at (g .tasks node (g .is-node) k);
+  }
 
   module _ {rows₀ rows rows' words : List ℕ} (h : ChildrenTo rows₀ rows (getD from (node + 1) 0)) (x : Written rows rows' node words) where
     -- all children are right
@@ -88,25 +107,26 @@ module _ (kind from kids order : List ℕ) (n node : ℕ) where
       children = λ c hc. (every-child (g .tree) (g .is-node) (λ b hb. (λ y. y, λ y. y))) .0 (h .right p g) c hc c itself;
     }
 
-    filled : ((p : Plan) → Given kind from kids order rows₀ n node p → Row p node words) → Filled kind from kids order rows₀ rows' n node
-    filled r = record {
+    filled : (k : Kind) → ((p : Plan) → Given kind from kids order rows₀ n node p → p .tree .kind node ≡ k → Row p node words)
+        → Filled k kind from kids order rows₀ rows' n node
+    filled k r = record {
       long = x .long;
-      kept = λ p g m y. written-keeps x (r p g) m (h .kept p g m y);
-      right = λ p g m u. at p g m (branch p u);
+      kept = λ p g q m y. written-keeps x (r p g q) m (h .kept p g m y);
+      right = λ p g q m u. at p g (r p g q) m (branch p u);
     }
       where
-        at : (p : Plan) → Given kind from kids order rows₀ n node p → (m : ℕ) → (node ≡ m) ⊎ Branch p node m → Right p rows' m
-        at p g m (inl e) = rw e at (written-right x (r p g))
-        at p g m (inr b) = written-keeps x (r p g) m
+        at : (p : Plan) → Given kind from kids order rows₀ n node p → Row p node words → (m : ℕ) → (node ≡ m) ⊎ Branch p node m → Right p rows' m
+        at p g y m (inl e) = rw e at (written-right x y)
+        at p g y m (inr b) = written-keeps x y m
             ((every-child (g .tree) (g .is-node) (λ c hc. (λ y. y, λ y. y))) .0 (h .right p g) (b .via) (b .child) m (b .beneath))
 
-    pub all-filled : getD kind node 0 ≡ 1 → ((p : Plan) → Pairing from kids order rows n node p → p .tree .kind node ≡ all-of → Row p node words)
-        → Filled kind from kids order rows₀ rows' n node
-    all-filled e r = filled (λ p g. r p (record { group = group p g; orders = g .orders }) (is-all _ (sym (g .kinds .is node (g .is-node)) ∙ e)))
+    pub all-filled : ((p : Plan) → Pairing from kids order rows n node p → p .tree .kind node ≡ all-of → Row p node words)
+        → Filled all-of kind from kids order rows₀ rows' n node
+    all-filled r = filled all-of (λ p g. r p (record { group = group p g; orders = g .orders }))
 
-    pub any-filled : getD kind node 0 ≡ 2 → ((p : Plan) → Group from kids rows n node p → p .tree .kind node ≡ any-of → Row p node words)
-        → Filled kind from kids order rows₀ rows' n node
-    any-filled e r = filled (λ p g. r p (group p g) (is-any _ (sym (g .kinds .is node (g .is-node)) ∙ e)))
+    pub any-filled : ((p : Plan) → Group from kids rows n node p → p .tree .kind node ≡ any-of → Row p node words)
+        → Filled any-of kind from kids order rows₀ rows' n node
+    any-filled r = filled any-of (λ p g. r p (group p g))
 
 -- the tasks below i
 module _ {kind conds rows : List ℕ} where
@@ -131,9 +151,12 @@ module _ {kind conds rows : List ℕ} where
       at p w k c t l n q (no ne) = h .right p w k c t (omega arith) n q
 
 -- all nodes, once the root is worked out
-pub all-nodes : {kind from kids order conds rows rows' : List ℕ} {n : ℕ} → TasksFilled kind conds rows n → Filled kind from kids order rows rows' n 0
-    → AllFilled kind from kids order conds rows' n
-all-nodes {kind} {from} {kids} {order} {conds} {rows} {n = n} t x = record { long = x .long; right = λ p w r m l. x .right p (given p w r) m (under-root p w m l) }
+pub all-nodes : {kind from kids order conds rows rows' : List ℕ} {n : ℕ} {k : Kind} → TasksFilled kind conds rows n → OfKind kind 0 k
+    → Filled k kind from kids order rows rows' n 0 → AllFilled kind from kids order conds rows' n
+all-nodes {kind} {from} {kids} {order} {conds} {rows} {n = n} t is x = record {
+  long = x .long;
+  right = λ p w r m l. x .right p (given p w r) (is p (r .kinds) (w .root-node)) m (under-root p w m l);
+}
   where
     given : (p : Plan) → WellFormed p → Represents kind from kids order conds n p → Given kind from kids order rows n 0 p
     given p w r = record {

@@ -45,9 +45,6 @@ clobberOf may must (may-clobber v) = signWord may v
 clobberOf may must (must-inc v) = 0
 clobberOf may must (must-clobber v) = signWord must v
 
-pub record ClobberWords (may must : Literals) (r : List ℕ) : Type 0 where
-  pub is : (k : Column) → getD r (indexOf k) 0 ≡ clobberOf may must k
-
 -- word by word
 pub record Ored (a b r : List ℕ) : Type 0 where
   pub is : (k : ℕ) → k < 21 → getD r k 0 ≡ bitOr (getD a k 0) (getD b k 0)

@@ -3,7 +3,7 @@ use mathlib.Core.Path.{_≡_}
 use mathlib.Core.List.{List}
 use Prim.Native.Nat.{ℕ, _<_}
 use lib.ListN.{length}
-use Rattle.runs.specs.Plan.{task, Plan, Node, Under, WellFormed}
+use Rattle.runs.specs.Plan.{Kind, task, Plan, Node, Under, WellFormed}
 use Rattle.marks_row.specs.Tables.{RepresentsKinds, RepresentsTree, RepresentsOrder, RepresentsConditions, Represents}
 use Rattle.marks_row.specs.Columns.{Right}
 
@@ -20,11 +20,11 @@ pub record Given (kind from kids order rows : List ℕ) (n node : ℕ) (p : Plan
   pub is-node : Node p node
   pub tasks : TasksRight p rows
 
--- for every such plan: what was right is right, and so is the row of each node under this one
-pub record Filled (kind from kids order rows rows' : List ℕ) (n node : ℕ) : Type 0 where
+-- for every such plan in which the node is of kind k: what was right is right, and so is the row of each node under this one
+pub record Filled (k : Kind) (kind from kids order rows rows' : List ℕ) (n node : ℕ) : Type 0 where
   pub long : length rows' ≡ 2688
-  pub kept : (p : Plan) → Given kind from kids order rows n node p → (m : ℕ) → Right p rows m → Right p rows' m
-  pub right : (p : Plan) → Given kind from kids order rows n node p → (m : ℕ) → Under p node m → Right p rows' m
+  pub kept : (p : Plan) → Given kind from kids order rows n node p → p .tree .kind node ≡ k → (m : ℕ) → Right p rows m → Right p rows' m
+  pub right : (p : Plan) → Given kind from kids order rows n node p → p .tree .kind node ≡ k → (m : ℕ) → Under p node m → Right p rows' m
 
 -- for every plan that the tables represent, the rows of the tasks
 pub record TasksFilled (kind conds rows : List ℕ) (n : ℕ) : Type 0 where

@@ -1,29 +1,27 @@
 // The rows of a plan's nodes, by functions for all-of and any-of groups that call each other.
 ghost use mathlib.Core.Path.{_≡_};
 ghost use Prim.Native.Nat.{_≤_, _<_};
-ghost use lib.ListN.{length, getD};
+ghost use lib.ListN.{length};
+ghost use Rattle.runs.specs.Plan.{all-of, any-of};
+ghost use Rattle.marks_row.specs.Columns.{RowIs};
 ghost use Rattle.marks_row.specs.Tables.{Shaped};
-ghost use Rattle.marks_tree.specs.Clobbers.{AllOfRow, ClobberWords, Ored};
+ghost use Rattle.marks_tree.specs.Clobbers.{AllOfRow, clobberOf, Ored};
 ghost use Rattle.marks_tree.specs.Filled.{Filled, TasksFilled, AllFilled};
+use base::ALL;
+use base::wide;
 use marks_group::all_words;
 use marks_group::any_words;
 use marks_may_pairs::clobbering_pairs;
 use marks_must_pairs::must_pairs;
 use marks_pair::Literals;
+use marks_row::columns::MAY_CLOBBER;
+use marks_row::columns::MUST_CLOBBER;
 use marks_row::task_words;
-use marks_row::wide;
 use marks_row::write_row;
-
-const ALL: u64 = 18446744073709551615;
-
-// The first word of some columns; there is a word for each sign, clear and set.
-const MAY_CLOBBER: usize = 15;
-
-const MUST_CLOBBER: usize = 19;
 
 // A row with the words of may and must clobber only.
 fn clobber_words(may: Literals, must: Literals) -> [u64; 21]
-    ensures { λ r. ⌜ ClobberWords may must r ⌝ }
+    ensures { λ r. ⌜ RowIs (clobberOf may must) r ⌝ }
 {
     [
         0,
@@ -90,7 +88,7 @@ fn all_row(
     ored(words, clobbers)
 }
 
-// Works out the rows of an all-of group and of all under it, those of the tasks excepted.
+// Works out the rows of a node and of all under it, those of the tasks excepted, if the node is an all-of group.
 fn all_of(
     kind: &[u8; 128],
     from: &[u8; 129],
@@ -100,8 +98,8 @@ fn all_of(
     n: usize,
     node: usize,
 )
-    requires { ⌜ (Shaped (now from) (now kids) n × (node < n)) × ((length (now rows) ≡ 2688) × (getD (now kind) node 0 ≡ 1)) ⌝ }
-    ensures { λ r. ⌜ Filled (now (kind .entry)) (now (from .entry)) (now (kids .entry)) (now (order .entry)) (now (rows .entry)) (now (rows .exit)) n node ⌝ }
+    requires { ⌜ (Shaped (now from) (now kids) n × (node < n)) × (length (now rows) ≡ 2688) ⌝ }
+    ensures { λ r. ⌜ Filled all-of (now (kind .entry)) (now (from .entry)) (now (kids .entry)) (now (order .entry)) (now (rows .entry)) (now (rows .exit)) n node ⌝ }
 {
     let end = wide(from[node + 1]);
     let mut i = wide(from[node]);
@@ -119,7 +117,7 @@ fn all_of(
     write_row(rows, node, words);
 }
 
-// Works out the rows of an any-of group and of all under it, those of the tasks excepted.
+// Works out the rows of a node and of all under it, those of the tasks excepted, if the node is an any-of group.
 fn any_of(
     kind: &[u8; 128],
     from: &[u8; 129],
@@ -129,8 +127,8 @@ fn any_of(
     n: usize,
     node: usize,
 )
-    requires { ⌜ (Shaped (now from) (now kids) n × (node < n)) × ((length (now rows) ≡ 2688) × (getD (now kind) node 0 ≡ 2)) ⌝ }
-    ensures { λ r. ⌜ Filled (now (kind .entry)) (now (from .entry)) (now (kids .entry)) (now (order .entry)) (now (rows .entry)) (now (rows .exit)) n node ⌝ }
+    requires { ⌜ (Shaped (now from) (now kids) n × (node < n)) × (length (now rows) ≡ 2688) ⌝ }
+    ensures { λ r. ⌜ Filled any-of (now (kind .entry)) (now (from .entry)) (now (kids .entry)) (now (order .entry)) (now (rows .entry)) (now (rows .exit)) n node ⌝ }
 {
     let end = wide(from[node + 1]);
     let mut i = wide(from[node]);

@@ -8,7 +8,8 @@ use Rattle.base.specs.Bits.{Says}
 use Rattle.runs.specs.Plan.{Plan, Node, WellFormed, signNumber}
 use Rattle.runs.specs.Summary.{Mark, may-pre, must-pre, may-post, must-post, may-inc, must-inc, may-clobber, must-clobber, byteOf, Marked}
 use Rattle.runs.specs.Verdict.{Fails}
-use Rattle.marks_row.specs.Columns.{Right}
+use Rattle.marks_row.specs.Columns as columns
+use Rattle.marks_row.specs.Columns.{firstOf, Right}
 
 -- the word of a sign and a mark
 abbrev pub wordIndex : Bool → Mark → ℕ
@@ -27,7 +28,7 @@ markAt (suc (suc (suc (suc (suc (suc (suc k))))))) = must-clobber
 
 -- the first word, in a node's row, of the column of each mark; must precondition and must postcondition have no column
 abbrev pub firstWords : List ℕ
-firstWords = 5 ∷ 0 ∷ 7 ∷ 0 ∷ 9 ∷ 17 ∷ 15 ∷ 19 ∷ []
+firstWords = firstOf columns.may-pre ∷ 0 ∷ firstOf columns.may-post ∷ 0 ∷ firstOf columns.may-inc ∷ firstOf columns.must-inc ∷ firstOf columns.may-clobber ∷ firstOf columns.must-clobber ∷ []
 
 -- sixteen words say the marks of n
 pub record MarkWords (p : Plan) (n : ℕ) (words : List ℕ) : Type 0 where

@@ -1,27 +1,36 @@
 // The marks of a node as words over the flags, and the literals that fail at the root.
+pub mod marks;
+
 ghost use mathlib.Core.Path.{_≡_};
 ghost use Prim.Native.Nat.{_<_};
 ghost use lib.ListN.{getD};
 ghost use Rattle.marks_words.specs.Words.{firstWords, WordIs, WordsAre, FailsWord};
+use marks::MUST_POST;
+use marks::MUST_PRE;
+use marks_row::columns;
 use marks_row::must_post;
 use marks_row::must_pre;
 use marks_row::word_at;
-
-// The marks that are worked out from two columns.
-const MUST_PRE: usize = 1;
-
-const MUST_POST: usize = 3;
 
 // The first word of a mark's column; there is a word for each sign, clear and set.
 fn column(mark: usize) -> usize
     requires { ⌜ mark < 8 ⌝ }
     ensures { λ r. ⌜ r ≡ getD firstWords mark 0 ⌝ }
 {
-    let columns = [5usize, 0, 7, 0, 9, 17, 15, 19];
-    columns[mark]
+    let first = [
+        columns::MAY_PRE,
+        0,
+        columns::MAY_POST,
+        0,
+        columns::MAY_INC,
+        columns::MUST_INC,
+        columns::MAY_CLOBBER,
+        columns::MUST_CLOBBER,
+    ];
+    first[mark]
 }
 
-// The word of a node for one sign and one mark: k is mark + 8 * sign.
+// The word of a node for one sign and one mark: k is mark + 8 * sign. Two marks are worked out from two columns each.
 fn mark_word(rows: &[u64; 2688], node: usize, k: usize) -> u64
     requires { ⌜ (node < 128) × (k < 16) ⌝ }
     ensures { λ r. ⌜ WordIs (now (rows .entry)) node k r ⌝ }

@@ -1,6 +1,5 @@
 -- Demand 3 over bytes holds of every accepted plan. Assumes nothing.
 use mathlib.Core.Path.{_≡_, refl, ap}
-use mathlib.Core.Logic.{_≢_}
 use mathlib.Core.List.{List}
 use Prim.Native.Nat.{ℕ, _+_}
 use native.Mathlib.Omega.{arith}
@@ -16,7 +15,7 @@ use Rattle.verdict.specs.declared.Answer.{Answer}
 use Rattle.verdict.specs.declared.Answer.the-variants.{Judged as Given}
 use Rattle.verdict.specs.Verdict.{Assessed}
 use Rattle.verdict.proofs.Judging.{assessed}
-use Rattle.runs.specs.Calls.{Call, World, fresh, Worked, Among}
+use Rattle.runs.specs.Calls.{Call, World}
 use Rattle.runs.specs.Demand3 as plans
 use Rattle.runs.proofs.Calls.Demand3 as proved
 use Rattle.run_state.specs.State.{worldOf}
@@ -29,10 +28,10 @@ module _ (b : List ℕ) (h : Bytes b) (acc : refusal b ≡ 0) where
   on-plans = proved.demand3 (planOf b) (means-well-formed b acc) (startOf b)
 
   abbrev Never : Type 0
-  Never = (s : List ℕ) (cs : List Call) (rs z : List ℕ) → Listed b s cs rs z → (n : ℕ) → Among n rs → (n ≢ 21) × (n ≢ 22)
+  Never = (s : List ℕ) (cs : List Call) (rs z : List ℕ) → Listed b s cs rs z → plans.NoViolation rs
 
   -- the states worked out are those of some list of calls that was made
-  never-worked : Never → (cs : List Call) (ns : List ℕ) (a : World) → Worked (planOf b) (fresh (startOf b)) cs ns a → (n : ℕ) → Among n ns → (n ≢ 21) × (n ≢ 22)
+  never-worked : Never → plans.NeverViolates (planOf b) (startOf b)
   never-worked g cs ns a w n x =
       let s : List ℕ = replicate {A = ℕ} (8 + nodeCount b) 0 in
       let m = list-made b acc s (omega (arith, length-replicate {A = ℕ} (8 + nodeCount b) 0)) cs in

@@ -4,14 +4,14 @@ use Prim.Native.Nat.{ℕ, _+_, _≤_, _<_}
 use mathlib.Core.Path.{_≡_}
 use mathlib.Core.Logic.{_≢_, _↔_, inr}
 use mathlib.Core.Bool.{false}
-use mathlib.Core.List.{List, [], _∷_, _++_}
+use mathlib.Core.List.{List, [], _∷_, _++_, List·Memᴰ as Among}
 use lib.ListN.{length, getD}
 use Rattle.plan_format.specs.Format.{nodeCount, isKind}
 use Rattle.plan_rules.specs.Rules.{refusal}
 use Rattle.plan_check.specs.Meaning.{planOf, startOf}
 use Rattle.runs.specs.Execution.{Complete}
 use Rattle.runs.specs.Verdict.{Verdict, CLEAR, DOOMED, Judged}
-use Rattle.runs.specs.Calls.{Call, World, fresh, Answered, Worked, Among}
+use Rattle.runs.specs.Calls.{Call, World, fresh, Answered, Worked}
 use Rattle.run_state.specs.State.{nodeByte, stateRefusal, worldOf}
 use Rattle.base.specs.Answers.{overlay}
 use Rattle.run_monitor.specs.declared.Progress.{Progress}

@@ -104,7 +104,7 @@ module _ (b : List ℕ) (t : Trial) (x : T (holdsB b t)) where
         called = λ s rs z l.
             let g = list-follows b (bytes-of b (T-true (areBytes b) (w .small))) s (t .calls) rs z l in
             let (e, q) = worked-only (planOf b) (means-well-formed b (w .accepted)) (g .worked) in
-            (e ∙ w .returned, g .bytes ∙ ap (λ (a : World). overlay (shownByte a) (8 + nodeCount b) s) q ∙ overlay-same (shownByte p-after) (λ k. getD (t .left) k 0) (8 + nodeCount b) s (w .left));
+            (e ∙ w .returned, g .shown .bytes ∙ ap (λ (a : World). overlay (shownByte a) (8 + nodeCount b) s) q ∙ overlay-same (shownByte p-after) (λ k. getD (t .left) k 0) (8 + nodeCount b) s (w .left));
       }
 
 unfoldable pub allHoldB : List Trial → Bool

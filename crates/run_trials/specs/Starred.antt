@@ -40,12 +40,12 @@ name a b c d = ascii a ∷ ascii b ∷ ascii c ∷ ascii d ∷ []
 abbrev short : Letter → List ℕ
 short a = name a dash dash dash
 
--- ---- conditions: a task needs, holds or leaves flag f clear or set
-abbrev clear : Bool
-clear = false
+-- ---- conditions: a task needs, holds or leaves flag f off or on (01: clear or set)
+abbrev off : Bool
+off = false
 
-abbrev set : Bool
-set = true
+abbrev on : Bool
+on = true
 
 abbrev needs : ℕ → Bool → ℕ
 needs f v = valueOf pre f v
@@ -101,10 +101,10 @@ B F os = record {
   flags = 2;
   start = F;
   entries = root (name M O O R)
-      ∷ work 0 (name C A S T) 12 (needs 0 clear ∷ holds 0 set ∷ leaves 0 clear ∷ [])
+      ∷ work 0 (name C A S T) 12 (needs 0 off ∷ holds 0 on ∷ leaves 0 off ∷ [])
       ∷ choice (name C O M S)
-      ∷ work coms (name R A D I) 3 (needs 0 clear ∷ holds 1 set ∷ leaves 1 clear ∷ [])
-      ∷ work coms (name S A T L) 5 (holds 1 set ∷ leaves 1 clear ∷ [])
+      ∷ work coms (name R A D I) 3 (needs 0 off ∷ holds 1 on ∷ leaves 1 off ∷ [])
+      ∷ work coms (name S A T L) 5 (holds 1 on ∷ leaves 1 off ∷ [])
       ∷ [];
   orders = os;
 }
@@ -124,20 +124,20 @@ z-task l = work 0 (short Z) 5 l
 
 -- A holds flag 0 set and leaves it clear, Z leaves it clear
 abbrev holder : Written
-holder = under-root (a-task (holds 0 set ∷ leaves 0 clear ∷ []) ∷ z-task (leaves 0 clear ∷ []) ∷ []) []
+holder = under-root (a-task (holds 0 on ∷ leaves 0 off ∷ []) ∷ z-task (leaves 0 off ∷ []) ∷ []) []
 
 -- A and Z each need flag 0 clear and leave it set
 abbrev twins : List Order → Written
-twins os = under-root (a-task (needs 0 clear ∷ leaves 0 set ∷ []) ∷ z-task (needs 0 clear ∷ leaves 0 set ∷ []) ∷ []) os
+twins os = under-root (a-task (needs 0 off ∷ leaves 0 on ∷ []) ∷ z-task (needs 0 off ∷ leaves 0 on ∷ []) ∷ []) os
 
 -- A leaves flag 0 set, C leaves it clear, Z needs it clear
 abbrev three : List Order → Written
-three os = under-root (a-task (leaves 0 set ∷ []) ∷ work 0 (short C) 3 (leaves 0 clear ∷ []) ∷ z-task (needs 0 clear ∷ []) ∷ []) os
+three os = under-root (a-task (leaves 0 on ∷ []) ∷ work 0 (short C) 3 (leaves 0 off ∷ []) ∷ z-task (needs 0 off ∷ []) ∷ []) os
 
 -- A before a choice before Z, C one of its two branches, the other without conditions
 abbrev picked : Written
 picked = under-root
-    (a-task (leaves 0 set ∷ []) ∷ choice (name P I C K) ∷ work 2 (short C) 3 (leaves 0 clear ∷ []) ∷ work 2 (name N O N E) 7 [] ∷ z-task (needs 0 clear ∷ []) ∷ [])
+    (a-task (leaves 0 on ∷ []) ∷ choice (name P I C K) ∷ work 2 (short C) 3 (leaves 0 off ∷ []) ∷ work 2 (name N O N E) 7 [] ∷ z-task (needs 0 off ∷ []) ∷ [])
     (then 1 2 ∷ then 2 5 ∷ [])
 
 -- ---- rows: plan, verdict, marks, calls, what they return, the state after them
@@ -162,7 +162,7 @@ starred =
     ∷ trial (B (only 0) in-order) DOOMED [] (begin cast ∷ []) (number pre-unmet ∷ []) (stateBytes (only 0) (waits 5))
     ∷ trial holder OPEN [] (begin 1 ∷ begin 2 ∷ end 2 ∷ []) (ok ∷ ok ∷ number inc-broken ∷ []) (stateBytes (only 0) (waiting ∷ running ∷ running ∷ []))
     ∷ trial holder OPEN [] (begin 1 ∷ begin 2 ∷ end 2 ∷ end 1 ∷ end 2 ∷ []) (ok ∷ ok ∷ number inc-broken ∷ ok ∷ ok ∷ []) (stateBytes none-set (waiting ∷ done ∷ done ∷ []))
-    ∷ trial (twins []) OPEN (shown 0 0 clear must-pre ∷ []) [] [] (stateBytes none-set (waits 3))
+    ∷ trial (twins []) OPEN (shown 0 0 off must-pre ∷ []) [] [] (stateBytes none-set (waits 3))
     ∷ trial (twins (then 1 2 ∷ [])) DOOMED [] (begin 1 ∷ end 1 ∷ begin 2 ∷ []) (ok ∷ ok ∷ number pre-unmet ∷ []) (stateBytes (only 0) (waiting ∷ done ∷ waiting ∷ []))
     ∷ trial (three (then 1 2 ∷ then 2 3 ∷ [])) CLEAR [] [] [] (stateBytes none-set (waits 4))
     ∷ trial (three (then 2 3 ∷ [])) OPEN [] [] [] (stateBytes none-set (waits 4))

@@ -130,8 +130,3 @@ abbrev pub statusByte : Status → ℕ
 statusByte waiting = 0
 statusByte running = 1
 statusByte done = 2
-
--- r is in a list of returns
-pub data Among (r : ℕ) : List ℕ → Type 0 where
-  here : {l : List ℕ} → Among r (r ∷ l)
-  there : {x : ℕ} {l : List ℕ} → Among r l → Among r (x ∷ l)

@@ -2,17 +2,21 @@
 use mathlib.Core.Path.{_≡_}
 use mathlib.Core.Logic.{_≢_, _↔_}
 use mathlib.Core.Bool.{Bool}
-use mathlib.Core.List.{List}
+use mathlib.Core.List.{List, List·Memᴰ as Among}
 use Prim.Native.Nat.{ℕ, _≤_}
 use Rattle.runs.specs.Plan.{Plan}
 use Rattle.runs.specs.Execution.{waiting, Complete}
 use Rattle.runs.specs.Verdict.{Verdict, Clear, Doomed, Judged}
-use Rattle.runs.specs.Calls.{Call, World, fresh, Task, Worked, Among}
+use Rattle.runs.specs.Calls.{Call, World, fresh, Task, Worked}
+
+-- none of the returns is 21 or 22
+abbrev pub NoViolation : List ℕ → Type 0
+NoViolation ns = (r : ℕ) → Among r ns → (r ≢ 21) × (r ≢ 22)
 
 module _ (p : Plan) (F : ℕ → Bool) where
   -- no call in any list returns 21 or 22
   abbrev pub NeverViolates : Type 0
-  NeverViolates = (cs : List Call) (ns : List ℕ) (a : World) → Worked p (fresh F) cs ns a → (r : ℕ) → Among r ns → (r ≢ 21) × (r ≢ 22)
+  NeverViolates = (cs : List Call) (ns : List ℕ) (a : World) → Worked p (fresh F) cs ns a → NoViolation ns
 
   -- the root is complete after no list
   abbrev pub NeverCompletes : Type 0

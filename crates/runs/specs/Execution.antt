@@ -129,5 +129,5 @@ module _ (p : Plan) where
 
 -- r is what the history h was at some time: h, or h without its last events
 pub data Earlier (r : History) : History → Type 0 where
-  now : Earlier r r
-  then : {e : Event} {h : History} → Earlier r h → Earlier r (e ∷ h)
+  none-later : Earlier r r
+  one-later : {e : Event} {h : History} → Earlier r h → Earlier r (e ∷ h)

@@ -26,8 +26,8 @@ use Rattle.base.specs.Zeros.{Zeros}
 pub bit-added : (c : List ℕ) (j k : ℕ) → k < 64 → set c j (bitOr (getD c j 0) ((1 * 2 ^ k) % 2 ^ 64)) ≡ set c j (bitOr (getD c j 0) (2 ^ k))
 bit-added c j k l = ap (λ (w : ℕ). set c j (bitOr (getD c j 0) w)) (one-shl k l)
 
--- one of the first i conditions is of task t and has the value v
-pub record Among (b : List ℕ) (i t v : ℕ) : Type 0 where
+-- the value v of task t occurs: one of the first i conditions is it
+pub record Occurs (b : List ℕ) (i t v : ℕ) : Type 0 where
   pub at : ℕ
   pub below : at < i
   pub node : condNode b at ≡ t
@@ -35,20 +35,20 @@ pub record Among (b : List ℕ) (i t v : ℕ) : Type 0 where
 
 pub record Noted (b conds : List ℕ) (i : ℕ) : Type 0 where
   pub long : length conds ≡ 768
-  pub says : (t w f : ℕ) → t < 128 → w < 6 → f < 64 → Says (getD conds (t * 6 + w) 0) f (Among b i t (f + 64 * w))
+  pub says : (t w f : ℕ) → t < 128 → w < 6 → f < 64 → Says (getD conds (t * 6 + w) 0) f (Occurs b i t (f + 64 * w))
 
 pub noted-none : {b conds : List ℕ} → Zeros 768 conds → Noted b conds 0
 noted-none z = record { long = z .long; says = λ t w f l m k. says-none (z .zero (t * 6 + w) (omega arith)) (λ a. omega (arith, a .below)) }
 
 -- one of the first i + 1 is one of the first i or the next
-among-more : (b : List ℕ) (i t v : ℕ) → (Among b i t v ⊎ ((condNode b i ≡ t) × (condValue b i ≡ v))) ↔ Among b (i + 1) t v
-among-more b i t v = (to, from)
+occurs-more : (b : List ℕ) (i t v : ℕ) → (Occurs b i t v ⊎ ((condNode b i ≡ t) × (condValue b i ≡ v))) ↔ Occurs b (i + 1) t v
+occurs-more b i t v = (to, from)
   where
-    to : Among b i t v ⊎ ((condNode b i ≡ t) × (condValue b i ≡ v)) → Among b (i + 1) t v
+    to : Occurs b i t v ⊎ ((condNode b i ≡ t) × (condValue b i ≡ v)) → Occurs b (i + 1) t v
     to (inl a) = record { at = a .at; below = omega (arith, a .below); node = a .node; value = a .value }
     to (inr e) = record { at = i; below = omega arith; node = e .0; value = e .1 }
 
-    from : Among b (i + 1) t v → Among b i t v ⊎ ((condNode b i ≡ t) × (condValue b i ≡ v))
+    from : Occurs b (i + 1) t v → Occurs b i t v ⊎ ((condNode b i ≡ t) × (condValue b i ≡ v))
     from a =
         by-cases (ℕ-discrete i (a .at)) (λ (e : i ≡ a .at). inr (rw e (a .node), rw e (a .value)))
         (λ n. inl (record { at = a .at; below = omega (arith, a .below); node = a .node; value = a .value }))
@@ -56,25 +56,25 @@ among-more b i t v = (to, from)
 -- condition i is written
 module _ {b c c' : List ℕ} {i x v : ℕ} (ex : x ≡ condNode b i) (ev : v ≡ condValue b i) (lx : x < 128) (lv : v ≤ 383) (h : Noted b c i)
     (e : c' ≡ set c (x * 6 + v / 64) (bitOr (getD c (x * 6 + v / 64) 0) (2 ^ (v % 64)))) where
-  here : (t w f : ℕ) → t < 128 → w < 6 → f < 64 → x * 6 + v / 64 ≡ t * 6 + w → Says (getD c' (t * 6 + w) 0) f (Among b (i + 1) t (f + 64 * w))
+  here : (t w f : ℕ) → t < 128 → w < 6 → f < 64 → x * 6 + v / 64 ≡ t * 6 + w → Says (getD c' (t * 6 + w) 0) f (Occurs b (i + 1) t (f + 64 * w))
   here t w f l m k q =
-      let s = says-set {A = Among b i t (f + 64 * w)} (v % 64) refl (h .says t w f l m k) in
+      let s = says-set {A = Occurs b i t (f + 64 * w)} (v % 64) refl (h .says t w f l m k) in
       let g : getD c' (t * 6 + w) 0 ≡ bitOr (getD c (t * 6 + w) 0) (2 ^ (v % 64)) =
       rw (e, q) (getD-set-same c (t * 6 + w) (bitOr (getD c (t * 6 + w) 0) (2 ^ (v % 64))) 0 (omega (arith, h .long))) in
       says-eq g
-      (says-map {B = Among b (i + 1) t (f + 64 * w)} (
-        λ a. among-more b i t (f + 64 * w) .0 (⊎-elim (λ y. inl y) (λ z. inr (omega arith, omega arith)) a),
-        λ a. ⊎-elim (λ y. inl y) (λ z. inr (omega (arith, z .1))) (among-more b i t (f + 64 * w) .1 a),
+      (says-map {B = Occurs b (i + 1) t (f + 64 * w)} (
+        λ a. occurs-more b i t (f + 64 * w) .0 (⊎-elim (λ y. inl y) (λ z. inr (omega arith, omega arith)) a),
+        λ a. ⊎-elim (λ y. inl y) (λ z. inr (omega (arith, z .1))) (occurs-more b i t (f + 64 * w) .1 a),
       )
       s)
 
-  there : (t w f : ℕ) → t < 128 → w < 6 → f < 64 → (t * 6 + w ≡ x * 6 + v / 64 → ⊥) → Says (getD c' (t * 6 + w) 0) f (Among b (i + 1) t (f + 64 * w))
+  there : (t w f : ℕ) → t < 128 → w < 6 → f < 64 → (t * 6 + w ≡ x * 6 + v / 64 → ⊥) → Says (getD c' (t * 6 + w) 0) f (Occurs b (i + 1) t (f + 64 * w))
   there t w f l m k n =
       let g : getD c' (t * 6 + w) 0 ≡ getD c (t * 6 + w) 0 = rw e (getD-set-other c (x * 6 + v / 64) (t * 6 + w) (bitOr (getD c (x * 6 + v / 64) 0) (2 ^ (v % 64))) 0 n) in
       says-eq g
-      (says-map {B = Among b (i + 1) t (f + 64 * w)} (
-        λ a. among-more b i t (f + 64 * w) .0 (inl a),
-        λ a. ⊎-elim (λ y. y) (λ z. absurd (n (omega (arith, z .0, z .1)))) (among-more b i t (f + 64 * w) .1 a),
+      (says-map {B = Occurs b (i + 1) t (f + 64 * w)} (
+        λ a. occurs-more b i t (f + 64 * w) .0 (inl a),
+        λ a. ⊎-elim (λ y. y) (λ z. absurd (n (omega (arith, z .0, z .1)))) (occurs-more b i t (f + 64 * w) .1 a),
       )
       (h .says t w f l m k))
 

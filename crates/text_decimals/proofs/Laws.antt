@@ -8,7 +8,7 @@ use native.Mathlib.Nat.{pow-suc}
 use native.Mathlib.Omega.{arith}
 use lib.ListN.{length, getD, length-append, List·getD-append}
 use lib.Seq.{getD-append-seam}
-use Rattle.text_decimals.specs.Decimals.{unlessZero, decimalBy, decimal}
+use Rattle.text_decimals.specs.Decimals.{Digits, valueFrom, Plain, unlessZero, decimalBy, decimal}
 
 unless-same : (n : ℕ) (f g : ℕ → List ℕ) → (0 < n → f n ≡ g n) → unlessZero n f ≡ unlessZero n g
 unless-same zero f g h = refl
@@ -52,74 +52,50 @@ length-limit (suc k) n l =
     by-cases (decLt n 10) (λ (q : n < 10). omega (arith, length-digit n q))
     (λ q. let e : 10 ^ suc (suc k) ≡ 10 ^ suc k * 10 = pow-suc 10 (suc k) in omega (arith, length-more n (omega arith), length-limit k (n / 10) (omega arith)))
 
--- ---- what the digits say
--- the number that digits name, read from the left, with v before them
-unfoldable pub valueFrom : ℕ → List ℕ → ℕ
-valueFrom v [] = v
-valueFrom v (x ∷ s) = valueFrom (10 * v + (x - 48)) s
-
+-- ---- they are plain
 value-more : (s : List ℕ) (v x : ℕ) → valueFrom v (s ++ (x ∷ [])) ≡ 10 * valueFrom v s + (x - 48)
 unfolding valueFrom
 value-more [] v x = refl
 value-more (y ∷ s) v x = value-more s (10 * v + (y - 48)) x
 
-value-one : (n : ℕ) → n < 10 → valueFrom 0 ((48 + n % 10) ∷ []) ≡ n
+plain-one : (n : ℕ) → n < 10 → Plain n ((48 + n % 10) ∷ [])
 unfolding valueFrom
-value-one n q = omega arith
-
-value-in : (k n : ℕ) → n < k → valueFrom 0 (decimal n) ≡ n
-value-in zero n l = absurd (omega arith)
-value-in (suc k) n l =
-    by-cases (decLt n 10)
-    (λ (q : n < 10). rw (decimal-digit n q) (value-one n q))
-    (λ q. rw (decimal-more n (omega arith), value-more (decimal (n / 10)) 0 (48 + n % 10), value-in k (n / 10) (omega arith)) (omega arith))
-
--- the digits name the number
-pub value : (n : ℕ) → valueFrom 0 (decimal n) ≡ n
-value n = value-in (suc n) n (omega arith)
-
--- ---- each byte is a digit, and no number but 0 begins with the digit 0
-pub record Digits (s : List ℕ) : Type 0 where
-  pub low : (i : ℕ) → i < length s → 48 ≤ getD s i 0
-  pub high : (i : ℕ) → i < length s → getD s i 0 ≤ 57
-
-digits-one : (n : ℕ) → Digits ((48 + n % 10) ∷ [])
-digits-one n = record { low = λ i l. let e : i ≡ 0 = omega arith in rw e (omega arith); high = λ i l. let e : i ≡ 0 = omega arith in rw e (omega arith) }
+plain-one n q = record {
+  some = omega arith;
+  digits = λ i l. let e : i ≡ 0 = omega arith in rw e (omega arith, omega arith);
+  value = omega arith;
+  no-leading-zero = λ e. refl;
+}
 
 digits-more : (s : List ℕ) (n : ℕ) → Digits s → Digits (s ++ ((48 + n % 10) ∷ []))
-digits-more s n h = record {
-  low = λ i l. by-cases (decLt i (length s))
-      (λ (q : i < length s). rw (List·getD-append s ((48 + n % 10) ∷ []) 0 i q) (h .low i q))
-      (λ q. let e = last i (omega (arith, length-append s ((48 + n % 10) ∷ []))) in rw e (omega arith));
-  high = λ i l. by-cases (decLt i (length s))
-      (λ (q : i < length s). rw (List·getD-append s ((48 + n % 10) ∷ []) 0 i q) (h .high i q))
-      (λ q. let e = last i (omega (arith, length-append s ((48 + n % 10) ∷ []))) in rw e (omega arith));
-}
-  where
-    last : (i : ℕ) → i ≡ length s → getD (s ++ ((48 + n % 10) ∷ [])) i 0 ≡ 48 + n % 10
-    last i e = rw e (getD-append-seam s (48 + n % 10) [] 0)
-
-digits-in : (k n : ℕ) → n < k → Digits (decimal n)
-digits-in zero n l = absurd (omega arith)
-digits-in (suc k) n l =
-    by-cases (decLt n 10)
-    (λ (q : n < 10). rw (decimal-digit n q) (digits-one n))
-    (λ q. rw (decimal-more n (omega arith)) (digits-more (decimal (n / 10)) n (digits-in k (n / 10) (omega arith))))
-
-pub digits : (n : ℕ) → Digits (decimal n)
-digits n = digits-in (suc n) n (omega arith)
-
-leading-in : (k n : ℕ) → n < k → (0 < length (decimal n)) × (getD (decimal n) 0 0 ≡ 48 → n ≡ 0)
-leading-in zero n l = absurd (omega arith)
-leading-in (suc k) n l =
-    by-cases (decLt n 10)
-    (λ (q : n < 10). rw (decimal-digit n q) (omega arith, λ e. omega arith))
+digits-more s n h i l =
+    by-cases (decLt i (length s))
+    (λ (q : i < length s). rw (List·getD-append s ((48 + n % 10) ∷ []) 0 i q) (h i q))
     (λ q.
-    let w = leading-in k (n / 10) (omega arith) in
-    rw (decimal-more n (omega arith)) (
-      omega (arith, length-append (decimal (n / 10)) ((48 + n % 10) ∷ [])),
-      λ e. let z = w .1 (sym (List·getD-append (decimal (n / 10)) ((48 + n % 10) ∷ []) 0 0 (w .0)) ∙ e) in absurd (omega arith),
-    ))
+    let e : i ≡ length s = omega (arith, length-append s ((48 + n % 10) ∷ [])) in
+    rw (e, getD-append-seam s (48 + n % 10) [] 0) (omega arith, omega arith))
 
-pub no-leading-zero : (n : ℕ) → getD (decimal n) 0 0 ≡ 48 → n ≡ 0
-no-leading-zero n = leading-in (suc n) n (omega arith) .1
+-- the first digit is 0 only of 0
+first-zero : {n : ℕ} {s : List ℕ} → Plain n s → getD s 0 0 ≡ 48 → n ≡ 0
+unfolding valueFrom
+first-zero {s = []} p e = sym (p .value)
+first-zero {s = x ∷ []} p e = omega (arith, p .value)
+first-zero {s = x ∷ y ∷ s} p e = absurd (omega (arith, p .no-leading-zero e))
+
+plain-more : {n : ℕ} {s : List ℕ} → 10 ≤ n → Plain (n / 10) s → Plain n (s ++ ((48 + n % 10) ∷ []))
+plain-more {n} {s} l p = record {
+  some = omega (arith, length-append s ((48 + n % 10) ∷ []));
+  digits = digits-more s n (p .digits);
+  value = omega (arith, value-more s 0 (48 + n % 10), p .value);
+  no-leading-zero = λ e. absurd (omega (arith, first-zero p (sym (List·getD-append s ((48 + n % 10) ∷ []) 0 0 (p .some)) ∙ e)));
+}
+
+plain-in : (k n : ℕ) → n < k → Plain n (decimal n)
+plain-in zero n l = absurd (omega arith)
+plain-in (suc k) n l =
+    by-cases (decLt n 10)
+    (λ (q : n < 10). rw (decimal-digit n q) (plain-one n q))
+    (λ q. rw (decimal-more n (omega arith)) (plain-more (omega arith) (plain-in k (n / 10) (omega arith))))
+
+pub plain : (n : ℕ) → Plain n (decimal n)
+plain n = plain-in (suc n) n (omega arith)

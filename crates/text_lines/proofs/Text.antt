@@ -1,6 +1,6 @@
 -- The text of the task lines: how long it is, and that it is written line by line. Assumes nothing.
 use mathlib.Core.Path.{_≡_, refl, sym, ap, _∙_}
-use mathlib.Core.List.{List, [], _∷_, _++_, append-assoc, append-nil}
+use mathlib.Core.List.{List, [], _∷_, _++_, append-assoc, append-nil, List·Memᴰ as Among, List·Memᴰ·head as here, List·Memᴰ·tail as there}
 use Prim.Native.Nat.{ℕ, suc, _+_, _*_, _<_, _≤_}
 use native.Mathlib.Numerals.{add-one}
 use native.Mathlib.Omega.{arith}
@@ -9,14 +9,14 @@ use lib.Seq.{take-suc, take-all, getD-take, drop-cons}
 use Rattle.plan_format.specs.Format.{nodeCount, nameChar}
 use Rattle.plan_check.proofs.Accepted.{Clean}
 use Rattle.text_decimals.specs.Decimals.{decimal, Wrote}
-use Rattle.text_decimals.proofs.Laws.{length-limit}
+use Rattle.text_decimals.proofs.Laws.{length-limit, plain}
 use Rattle.text_decimals.proofs.Written.{written-none, wrote-then, wrote-same}
 use Rattle.wait_lengths.specs.Waits.{longestWait}
 use Rattle.wait_lengths.proofs.Bounds.{end-limit}
 use Rattle.text_order.specs.Order.{rankedTo, ranking}
 use Rattle.text_order.specs.Places.{Ranking}
-use Rattle.text_order.proofs.Order.{Among, here, there, among-at, ranked-task, ranked-length}
-use Rattle.text_lines.specs.Lines.{nameOf, ending, lineOf, linesOf}
+use Rattle.text_order.proofs.Order.{among-at, ranked-task, ranking-length}
+use Rattle.text_lines.specs.Lines.{nameOf, TaskLines, none, line, ending, lineOf, linesOf}
 
 pub name-length : (b : List ℕ) (n : ℕ) → length (nameOf b n) ≡ 4
 unfolding nameOf
@@ -46,7 +46,7 @@ module _ {b : List ℕ} (ok : Clean b) where
   lines-short : (xs : List ℕ) → ((u : ℕ) → Among u xs → u < nodeCount b) → length (linesOf b xs) ≤ 13 * length xs
   unfolding linesOf
   lines-short [] h = omega arith
-  lines-short (x ∷ xs) h = omega (arith, length-append (lineOf b x) (linesOf b xs), line-limit x (h x here), lines-short xs (λ u a. h u (there a)))
+  lines-short (x ∷ xs) h = omega (arith, length-append (lineOf b x) (linesOf b xs), line-limit x (h x (here refl)), lines-short xs (λ u a. h u (there a)))
 
   -- the first i lines
   lines-next : (i : ℕ) → i < length (ranking b) → linesOf b (take (suc i) (ranking b)) ≡ linesOf b (take i (ranking b)) ++ lineOf b (getD (ranking b) i 0)
@@ -60,7 +60,21 @@ pub line-is : (b : List ℕ) (t : ℕ) → nameOf b t ++ ending (longestWait b t
 unfolding lineOf
 line-is b t = refl
 
--- a name is four bytes of the plan, one after another
+-- ---- they are 01's lines
+pub ending-then : (x : List ℕ) (n : ℕ) (s : List ℕ) → (x ++ ending n) ++ s ≡ x ++ 32 ∷ decimal n ++ 10 ∷ s
+unfolding ending
+ending-then x n s = ap (λ (xs : List ℕ). xs ++ s) (sym (append-assoc x (32 ∷ decimal n) (10 ∷ []))) ∙ append-assoc (x ++ 32 ∷ decimal n) (10 ∷ []) s
+
+line-then : (b : List ℕ) (t : ℕ) (s : List ℕ) → lineOf b t ++ s ≡ nameOf b t ++ 32 ∷ decimal (longestWait b t) ++ 10 ∷ s
+unfolding lineOf
+line-then b t s = ending-then (nameOf b t) (longestWait b t) s
+
+pub task-lines : (b ts : List ℕ) → TaskLines b (longestWait b) ts (linesOf b ts)
+unfolding linesOf
+task-lines b [] = none
+task-lines b (t ∷ ts) = rw (line-then b t (linesOf b ts)) (line (plain (longestWait b t)) (task-lines b ts))
+
+-- ---- a name is four bytes of the plan, one after another
 next-byte : (b : List ℕ) (i j n : ℕ) → j ≡ suc i → i < length b → take (suc n) (drop i b) ≡ getD b i 0 ∷ take n (drop j b)
 next-byte b i j n e l = ap (take (suc n)) (drop-cons b i 0 l) ∙ ap (λ (x : ℕ). getD b i 0 ∷ take n (drop x b)) (sym e)
 
@@ -83,14 +97,9 @@ pub record LinesTo (b out out' : List ℕ) (at a i : ℕ) : Type 0 where
   pub short : a ≤ at + 13 * i
 
 module _ {b : List ℕ} (ok : Clean b) where
-  -- no more than 128
-  pub ranking-short : length (ranking b) ≤ 128
+  pub lines-limit : length (linesOf b (ranking b)) ≤ 1651
   unfolding ranking
-  ranking-short = omega (arith, ranked-length b (nodeCount b), ok .fits .limits .nodes)
-
-  pub lines-limit : length (linesOf b (ranking b)) ≤ 1664
-  unfolding ranking
-  lines-limit = omega (arith, lines-short ok (rankedTo b (nodeCount b)) (λ u a. ranked-task b u (nodeCount b) a .0), ranking-short)
+  lines-limit = omega (arith, lines-short ok (rankedTo b (nodeCount b)) (λ u a. ranked-task b u (nodeCount b) a .0), ranking-length b ok)
 
   pub lines-none : {out : List ℕ} {at : ℕ} → LinesTo b out out at at 0
   unfolding linesOf

@@ -2,13 +2,19 @@
 use Prim.Native.Nat.{ℕ, _+_, _*_}
 use mathlib.Core.List.{List, [], _∷_, _++_}
 use Rattle.plan_format.specs.Format.{nameChar}
-use Rattle.text_decimals.specs.Decimals.{decimal}
+use Rattle.text_decimals.specs.Decimals.{Plain, decimal}
 use Rattle.wait_lengths.specs.Waits.{longestWait}
 
 -- the four characters of a name
 unfoldable pub nameOf : List ℕ → ℕ → List ℕ
 nameOf b n = nameChar b (4 * n) ∷ nameChar b (4 * n + 1) ∷ nameChar b (4 * n + 2) ∷ nameChar b (4 * n + 3) ∷ []
 
+-- s is the lines of the tasks ts, one after another: name, space, longest wait in plain decimals, byte 10
+pub data TaskLines (b : List ℕ) (longest : ℕ → ℕ) : List ℕ → List ℕ → Type 0 where
+  none : TaskLines b longest [] []
+  line : {t : ℕ} {ts digits s : List ℕ} → Plain (longest t) digits → TaskLines b longest ts s → TaskLines b longest (t ∷ ts) (nameOf b t ++ 32 ∷ digits ++ 10 ∷ s)
+
+-- ---- and computed
 -- a line ends in a space, a plain decimal and byte 10
 unfoldable pub ending : ℕ → List ℕ
 ending n = 32 ∷ decimal n ++ (10 ∷ [])

@@ -1,7 +1,7 @@
 -- The verdict, from the words of the root. Assumes nothing.
 use mathlib.Core.Path.{_≡_, refl, sym, ap, _∙_}
-use mathlib.Core.Logic.{_⊎_, inl, inr, _↔_, Iff·trans}
-use mathlib.Core.Bool.{Bool, true, false}
+use mathlib.Core.Logic.{_⊎_, inl, inr, by-cases, _↔_, Iff·trans}
+use mathlib.Core.Bool.{Bool}
 use mathlib.Core.List.{List}
 use Prim.Native.Nat.{ℕ, _^_, _<_}
 use native.Mathlib.Omega.{arith}
@@ -18,9 +18,9 @@ use Rattle.runs.specs.Summary.{Mark, may-pre, must-pre, may-clobber, must-clobb
 use Rattle.runs.specs.Verdict as verdicts
 use Rattle.runs.specs.Verdict.{CLEAR, DOOMED, OPEN, Fails, Judged}
 use Rattle.runs.specs.Demand3.{Demand3}
-use Rattle.runs.specs.Model.Verdicts.{mayFailB, mustFailB, judge, verdict}
-use Rattle.runs.proofs.Reflect.{Reflects}
-use Rattle.runs.proofs.Verdict.Exact.{MayFail, MustFail, SomeLiteral, may-fail-flag, must-fail-may, r-may-fail, r-must-fail, verdict-exact}
+use Rattle.runs.specs.Model.Verdicts.{verdict}
+use Rattle.runs.proofs.Reflect.{decided}
+use Rattle.runs.proofs.Verdict.Exact.{MayFail, MustFail, SomeLiteral, may-fail-flag, must-fail-may, r-must-fail, clear-is, doomed-is, verdict-exact}
 use Rattle.runs.proofs.Calls.Demand3.{demand3}
 use Rattle.marks_words.specs.Words.{MarkWords, StartWord, FailsWord}
 use Rattle.verdict.specs.declared.Verdict.{Verdict}
@@ -36,35 +36,18 @@ module _ (p : Plan) (F : ℕ → Bool) (m k : Mark) {w : ℕ} where
   some-fails : w < 2 ^ 64 → ((f : ℕ) → f < 64 → Says w f ((v : Bool) × Fails p F m k f v)) → (w ≡ 0 → ⊥) → ¬ (¬ SomeLiteral (Fails p F m k))
   some-fails small s n h = n (no-bits w small (λ f l t. let x = s f l .to t in h (f, x .0, x .1)))
 
--- ---- the verdict by its two tests
+-- ---- the verdict, by what may and what must fail
 module _ (p : Plan) (w : WellFormed p) (F : ℕ → Bool) where
-  judge-doomed : (s t : Bool) → s ≡ true → t ≡ true → DOOMED ≡ judge s (λ u. t)
-  unfolding judge
-  judge-doomed s t e k = rw (e, k)
-
-  judge-open : (s t : Bool) → s ≡ true → t ≡ false → OPEN ≡ judge s (λ u. t)
-  unfolding judge
-  judge-open s t e k = rw (e, k)
-
-  tested : {A : Type 0} (t : Bool) → Reflects t A → ¬ (¬ A) → t ≡ true
-  tested true r h = refl
-  tested false r h = absurd (h (r .from))
-
-  untested : {A : Type 0} (t : Bool) → Reflects t A → ¬ A → t ≡ false
-  untested true r h = absurd (h (r .to tt))
-  untested false r h = refl
-
   clear-verdict : ¬ SomeLiteral (MayFail p F) → CLEAR ≡ verdict p F
-  unfolding verdict judge
-  clear-verdict h = rw (untested (mayFailB p F) (r-may-fail p w F) h)
+  clear-verdict h = sym (verdict-exact p w F CLEAR .1 (clear-is p w F .1 h))
 
-  doomed-verdict : ¬ (¬ SomeLiteral (MayFail p F)) → ¬ (¬ SomeLiteral (MustFail p F)) → DOOMED ≡ verdict p F
-  unfolding verdict
-  doomed-verdict h k = judge-doomed (mayFailB p F) (mustFailB p F tt) (tested (mayFailB p F) (r-may-fail p w F) h) (tested (mustFailB p F tt) (r-must-fail p w F) k)
+  doomed-verdict : ¬ (¬ SomeLiteral (MustFail p F)) → DOOMED ≡ verdict p F
+  doomed-verdict h = by-cases (decided (r-must-fail p w F))
+      (λ (x : SomeLiteral (MustFail p F)). sym (verdict-exact p w F DOOMED .1 (doomed-is p w F .1 x)))
+      (λ n. absurd (h n))
 
   open-verdict : ¬ (¬ SomeLiteral (MayFail p F)) → ¬ SomeLiteral (MustFail p F) → OPEN ≡ verdict p F
-  unfolding verdict
-  open-verdict h k = judge-open (mayFailB p F) (mustFailB p F tt) (tested (mayFailB p F) (r-may-fail p w F) h) (untested (mustFailB p F tt) (r-must-fail p w F) k)
+  open-verdict h k = sym (verdict-exact p w F OPEN .1 (λ c. h (clear-is p w F .0 c), λ d. k (doomed-is p w F .0 d)))
 
 -- what fails is on a flag below 64
 module _ (b : List ℕ) (ok : refusal b ≡ 0) where
@@ -88,9 +71,8 @@ module _ (b : List ℕ) (ok : refusal b ≡ 0) where
     pub judged-clear : {x : ℕ} → FailsWord words start 6 0 x → x ≡ 0 → CLEAR ≡ verdict (planOf b) (startOf b)
     judged-clear f e = clear-verdict (planOf b) (means-well-formed b ok) (startOf b) (clear-if f e)
 
-    pub judged-doomed : {x y : ℕ} → x < 2 ^ 64 → y < 2 ^ 64 → FailsWord words start 6 0 x → (x ≡ 0 → ⊥) → FailsWord words start 7 1 y → (y ≡ 0 → ⊥)
-        → DOOMED ≡ verdict (planOf b) (startOf b)
-    judged-doomed k l f n g m = doomed-verdict (planOf b) (means-well-formed b ok) (startOf b) (may-if k f n)
+    pub judged-doomed : {y : ℕ} → y < 2 ^ 64 → FailsWord words start 7 1 y → (y ≡ 0 → ⊥) → DOOMED ≡ verdict (planOf b) (startOf b)
+    judged-doomed l g m = doomed-verdict (planOf b) (means-well-formed b ok) (startOf b)
         (some-fails (planOf b) (startOf b) must-clobber must-pre l (g (planOf b) (startOf b) w s must-clobber must-pre refl refl) m)
 
     pub judged-open : {x y : ℕ} → x < 2 ^ 64 → FailsWord words start 6 0 x → (x ≡ 0 → ⊥) → FailsWord words start 7 1 y → y ≡ 0

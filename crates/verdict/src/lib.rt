@@ -7,6 +7,10 @@ ghost use Rattle.marks_words.specs.Words.{StartWord};
 ghost use Rattle.verdict.specs.Verdict.{wordOf, Assessed};
 use marks_of_plan::node_words;
 use marks_words::failing;
+use marks_words::marks::MAY_CLOBBER;
+use marks_words::marks::MAY_PRE;
+use marks_words::marks::MUST_CLOBBER;
+use marks_words::marks::MUST_PRE;
 use plan_check::check;
 use plan_format::fields::flags;
 use plan_format::fields::start_flag;
@@ -21,15 +25,6 @@ pub enum Answer {
     Refused(u32),
     Judged(Verdict),
 }
-
-// The numbers of some marks.
-const MAY_PRE: usize = 0;
-
-const MUST_PRE: usize = 1;
-
-const MAY_CLOBBER: usize = 6;
-
-const MUST_CLOBBER: usize = 7;
 
 // The flags that are set at the start, as a word.
 fn start_word(plan: &[u8]) -> u64

@@ -3,4 +3,5 @@ pub mod Greatest
 pub mod Laws
 pub mod Sums
 pub mod Bounds
+pub mod Sentences
 pub mod Examples

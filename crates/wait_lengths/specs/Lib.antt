@@ -1,2 +1,3 @@
 -- Lengths and longest waits.
 pub mod Waits
+pub mod Sentences

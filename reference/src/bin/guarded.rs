@@ -7,10 +7,10 @@
 use std::env::{args, current_exe};
 use std::process::{Command, ExitCode};
 
-use reference::random::Random;
-use reference::scenario::stream::{any_bytes, every_call, Damage};
-use reference::scenario::tally::Tally;
-use reference::scenario::valgrind;
+use reference::tools::random::Random;
+use reference::tools::scenario::stream::{any_bytes, every_call, Damage};
+use reference::tools::scenario::tally::Tally;
+use reference::tools::scenario::valgrind;
 
 fn main() -> ExitCode {
     let words: Vec<String> = args().skip(1).collect();

@@ -5,10 +5,10 @@ use std::env::args;
 use std::io::{self, Read, Write};
 use std::process::ExitCode;
 
-use reference::generate::{plan, Shape, LIMITS};
-use reference::listing::printed;
-use reference::random::Random;
-use reference::text::{make, show};
+use reference::model::listing::printed;
+use reference::tools::generate::{plan, Shape, LIMITS};
+use reference::tools::random::Random;
+use reference::tools::text::{make, show};
 
 const USAGE: &str = "\
 plans make < TEXT > PLAN    the bytes of a text

@@ -1,12 +1,12 @@
 //! Every call on damaged plans: refused ones may change nothing.
 
-use reference::calls::Answers;
-use reference::edit::edit;
-use reference::format::{Plan, Sizes};
-use reference::generate::{any_plan, dense_plan, LIMITS};
-use reference::random::Random;
-use reference::scenario::cases::cases;
-use reference::scenario::tally::Tally;
+use reference::model::calls::Answers;
+use reference::model::format::{Plan, Sizes};
+use reference::tools::edit::edit;
+use reference::tools::generate::{any_plan, dense_plan, LIMITS};
+use reference::tools::random::Random;
+use reference::tools::scenario::cases::cases;
+use reference::tools::scenario::tally::Tally;
 
 const B: &[u8] = include_bytes!("../../../samples/b.plan");
 const LARGE: &[u8] = include_bytes!("../../../samples/large.plan");

@@ -1,13 +1,13 @@
 //! Listings.
 
-use reference::calls::{Answers, Call};
-use reference::format::{Plan, Sizes, NO_PARENT, SET, TASK};
-use reference::generate::clear::{clear_plan, shaken_plan};
-use reference::generate::{any_plan, dense_plan, plan, LIMITS, SHAPES};
-use reference::listing::LISTING_LEN;
-use reference::random::Random;
-use reference::scenario::tally::Tally;
-use reference::scenario::Case;
+use reference::model::calls::{Answers, Call};
+use reference::model::format::{Plan, Sizes, NO_PARENT, SET, TASK};
+use reference::model::listing::LISTING_LEN;
+use reference::tools::generate::clear::{clear_plan, shaken_plan};
+use reference::tools::generate::{any_plan, dense_plan, plan, LIMITS, SHAPES};
+use reference::tools::random::Random;
+use reference::tools::scenario::tally::Tally;
+use reference::tools::scenario::Case;
 
 /// The listing with output of so many bytes: what it returns.
 fn listed(tally: &mut Tally, random: &mut Random, plan: &Plan, len: usize) -> u32 {

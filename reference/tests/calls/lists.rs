@@ -2,19 +2,19 @@
 
 use std::iter::once;
 
-use reference::archive;
-use reference::calls::{Answers, Call};
-use reference::events::Event;
-use reference::format::{Plan, Sizes};
-use reference::generate::clear::{clear_plan, shaken_plan};
-use reference::generate::{any_plan, dense_plan, LIMITS, SHAPES};
-use reference::random::Random;
-use reference::scenario::cases::lengths_around;
-use reference::scenario::lists::{any_event, list, long_list};
-use reference::scenario::states::{any_state, bytes, malformed, reached_state};
-use reference::scenario::tally::Tally;
-use reference::scenario::Case;
-use reference::search::search_by;
+use reference::model::calls::{Answers, Call};
+use reference::model::events::Event;
+use reference::model::format::{Plan, Sizes};
+use reference::tools::archive;
+use reference::tools::generate::clear::{clear_plan, shaken_plan};
+use reference::tools::generate::{any_plan, dense_plan, LIMITS, SHAPES};
+use reference::tools::random::Random;
+use reference::tools::scenario::cases::lengths_around;
+use reference::tools::scenario::lists::{any_event, list, long_list};
+use reference::tools::scenario::states::{any_state, bytes, malformed, reached_state};
+use reference::tools::scenario::tally::Tally;
+use reference::tools::scenario::Case;
+use reference::tools::search::search_by;
 
 /// Fresh and then the list. At first the state is of any bytes.
 fn replay(tally: &mut Tally, random: &mut Random, plan: &Plan, list: &[Event]) {

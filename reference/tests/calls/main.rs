@@ -8,7 +8,7 @@ mod summaries;
 use std::ops::RangeInclusive;
 use std::time::Instant;
 
-use reference::scenario::tally::Tally;
+use reference::tools::scenario::tally::Tally;
 
 type Topic = (&'static str, fn(&mut Tally));
 

@@ -3,15 +3,15 @@
 use std::fs;
 use std::path::Path;
 
-use reference::calls::{Answers, Call};
-use reference::format::{Plan, Sizes};
-use reference::generate::clear::{clear_plan, shaken_plan};
-use reference::generate::{any_plan, dense_plan, plan, LIMITS, SHAPES};
-use reference::random::Random;
-use reference::scenario::any_number;
-use reference::scenario::tally::Tally;
-use reference::scenario::Case;
-use reference::summary::summary_len;
+use reference::model::calls::{Answers, Call};
+use reference::model::format::{Plan, Sizes};
+use reference::model::summary::summary_len;
+use reference::tools::generate::clear::{clear_plan, shaken_plan};
+use reference::tools::generate::{any_plan, dense_plan, plan, LIMITS, SHAPES};
+use reference::tools::random::Random;
+use reference::tools::scenario::any_number;
+use reference::tools::scenario::tally::Tally;
+use reference::tools::scenario::Case;
 
 /// How many entries have each mark, and how many entries there are.
 #[derive(Default)]

@@ -1,13 +1,13 @@
 //! On random small plans: marks by rules against marks by runs, verdicts against all lists of
 //! calls.
 
-use reference::format::{Plan, Sizes};
-use reference::generate::{dense_plan, plan, LIMITS, SHAPES};
-use reference::marks::marks;
-use reference::random::Random;
-use reference::runs;
-use reference::search::search;
-use reference::verdict::{verdict, Verdict};
+use reference::model::format::{Plan, Sizes};
+use reference::model::marks::marks;
+use reference::model::runs;
+use reference::model::verdict::{verdict, Verdict};
+use reference::tools::generate::{dense_plan, plan, LIMITS, SHAPES};
+use reference::tools::random::Random;
+use reference::tools::search::search;
 
 use crate::shown;
 

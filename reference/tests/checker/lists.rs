@@ -1,14 +1,14 @@
 //! Random lists of calls, against returns and states worked out anew from the plan and the calls
 //! accepted so far, never from a state's bytes.
 
-use reference::calls::Call;
-use reference::events::Event::{self, Finish, Start};
-use reference::format::{
+use reference::model::calls::Call;
+use reference::model::events::Event::{self, Finish, Start};
+use reference::model::format::{
     Condition, Plan, Sizes, ALL_OF, ANY_OF, INCONDITION, POSTCONDITION, PRECONDITION, TASK,
 };
-use reference::generate::{any_plan, dense_plan, LIMITS};
-use reference::random::Random;
-use reference::scenario::lists::{list, replay};
+use reference::tools::generate::{any_plan, dense_plan, LIMITS};
+use reference::tools::random::Random;
+use reference::tools::scenario::lists::{list, replay};
 
 use crate::{make, shown};
 

@@ -13,16 +13,16 @@ mod waits;
 use std::fs;
 use std::path::Path;
 
-use reference::archive;
-use reference::calls::Call;
-use reference::events::Event;
-use reference::format::Plan;
-use reference::listing::LISTING_LEN;
-use reference::rules::accept;
-use reference::scenario::lists::replay;
-use reference::scenario::{reference, Case};
-use reference::summary::summary_len;
-use reference::text;
+use reference::model::calls::Call;
+use reference::model::events::Event;
+use reference::model::format::Plan;
+use reference::model::listing::LISTING_LEN;
+use reference::model::rules::accept;
+use reference::model::summary::summary_len;
+use reference::tools::archive;
+use reference::tools::scenario::lists::replay;
+use reference::tools::scenario::{reference, Case};
+use reference::tools::text;
 
 /// What the verdict call returns.
 const CLEAR: u32 = 128;

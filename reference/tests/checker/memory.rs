@@ -1,19 +1,19 @@
 //! Which lent bytes change, over cases of every call.
 
-use reference::calls::Call;
-use reference::edit::edit;
-use reference::events::Event;
-use reference::format::{Plan, Sizes, SET};
-use reference::generate::{any_plan, dense_plan, LIMITS};
-use reference::listing;
-use reference::marks::marks;
-use reference::monitor::State;
-use reference::random::Random;
-use reference::rules::{accept, refusal};
-use reference::scenario::cases::cases;
-use reference::scenario::states::{any_state, bytes, malformed, reached_state};
-use reference::scenario::{reference, After, Case};
-use reference::summary;
+use reference::model::calls::Call;
+use reference::model::events::Event;
+use reference::model::format::{Plan, Sizes, SET};
+use reference::model::listing;
+use reference::model::marks::marks;
+use reference::model::monitor::State;
+use reference::model::rules::{accept, refusal};
+use reference::model::summary;
+use reference::tools::edit::edit;
+use reference::tools::generate::{any_plan, dense_plan, LIMITS};
+use reference::tools::random::Random;
+use reference::tools::scenario::cases::cases;
+use reference::tools::scenario::states::{any_state, bytes, malformed, reached_state};
+use reference::tools::scenario::{reference, After, Case};
 
 use crate::sample;
 

@@ -1,7 +1,7 @@
 //! Refusals 15 to 22: with several causes at once the lowest number is returned.
 
-use reference::calls::Call;
-use reference::events::Event::{self, Finish, Start};
+use reference::model::calls::Call;
+use reference::model::events::Event::{self, Finish, Start};
 
 use crate::{make, plan, sample};
 

@@ -1,10 +1,10 @@
 //! Places of 01 that could be read in two ways, each with a plan that tells the readings apart.
 
-use reference::calls::Call;
-use reference::events::Event::{Finish, Start};
-use reference::listing::printed;
-use reference::rules::refusal;
-use reference::search::search;
+use reference::model::calls::Call;
+use reference::model::events::Event::{Finish, Start};
+use reference::model::listing::printed;
+use reference::model::rules::refusal;
+use reference::tools::search::search;
 
 use crate::{entries, fields, make, plan, returns, sample, verdict, CLEAR, DOOMED, OPEN};
 

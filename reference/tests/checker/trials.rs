@@ -1,8 +1,8 @@
 //! The trial rows of 01.
 
-use reference::calls::Call;
-use reference::events::Event::{Finish, Start};
-use reference::listing::printed;
+use reference::model::calls::Call;
+use reference::model::events::Event::{Finish, Start};
+use reference::model::listing::printed;
 
 use crate::{entries, listed, make, returns, sample, verdict, CLEAR, DOOMED, OPEN};
 

@@ -2,9 +2,9 @@
 
 use std::cmp::Reverse;
 
-use reference::format::{Order, Plan, Sizes, ANY_OF, TASK};
-use reference::generate::any_plan;
-use reference::random::Random;
+use reference::model::format::{Order, Plan, Sizes, ANY_OF, TASK};
+use reference::tools::generate::any_plan;
+use reference::tools::random::Random;
 
 use crate::{listed, plan, shown};
 

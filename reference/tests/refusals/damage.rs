@@ -1,8 +1,8 @@
 //! Valid plans with a wrong length or with one byte changed.
 
-use reference::format::{Plan, Sizes};
-use reference::generate::{any_plan, plan, Shape};
-use reference::random::Random;
+use reference::model::format::{Plan, Sizes};
+use reference::tools::generate::{any_plan, plan, Shape};
+use reference::tools::random::Random;
 
 use crate::tally::Tally;
 

@@ -2,10 +2,10 @@
 
 use std::collections::BTreeSet;
 
-use reference::format::{
+use reference::model::format::{
     Condition, Order, Plan, ALL_OF, ANY_OF, CLEAR, INCONDITION, NO_PARENT, PRECONDITION, SET,
 };
-use reference::rules::causes;
+use reference::model::rules::causes;
 
 use crate::tally::Tally;
 use Damage::{Bytes, Fields};

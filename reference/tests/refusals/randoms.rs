@@ -1,9 +1,9 @@
 //! Random bytes, random valid plans and random edits of them.
 
-use reference::edit::edit;
-use reference::format::{Sizes, HEAD};
-use reference::generate::{any_plan, plan, LIMITS, SHAPES};
-use reference::random::Random;
+use reference::model::format::{Sizes, HEAD};
+use reference::tools::edit::edit;
+use reference::tools::generate::{any_plan, plan, LIMITS, SHAPES};
+use reference::tools::random::Random;
 
 use crate::tally::Tally;
 

@@ -2,9 +2,9 @@
 
 use std::fmt;
 
-use reference::calls::{Answers, Call};
-use reference::scenario::memory::hex;
-use reference::scenario::{tally, Case};
+use reference::model::calls::{Answers, Call};
+use reference::tools::scenario::memory::hex;
+use reference::tools::scenario::{tally, Case};
 
 pub struct Tally {
     topic: &'static str,

@@ -1,6 +1,8 @@
 -- `print` meets its contract. Assumes nothing.
 use mathlib.Core.Path.{ap, _∙_}
+use Prim.Native.Nat.{_≤_}
 use lib.ListN.{length}
+use denote.Ref.{now}
 use Rattle.text_decimals.proofs.Written.{wrote-long, wrote-then, wrote-same}
 use Rattle.text_lines.proofs.Text.{ending-limit}
 use Rattle.listing.proofs.Text.{refused-is}
@@ -12,19 +14,22 @@ use Rattle.listing.proofs.print.Tie as tie
 
 end-line-requires : tie.Need-end-line-requires
 end-line-requires c κs =
-    let s = c .before .before .before .before .before .before .before .before .before .before .before .before .before .before .before in
-    let w = refused-answered _ _ (s .pre) (rw (c .before .before .before .before .before .before .before .listed .given .1) at (c .before .before .before .before .before .before .before .before .before .before .before .listing .ensures)) in
-    let b = c .before .before .before .write-bytes .ensures in
-    omega (arith, s .pre, b .next, wrote-long b, ap length (w .2), ending-limit (c .before .before .before .before .before .before .before .listed .given .0 .0) (omega (arith, w .0)))
+    let l : 2048 ≤ length (now (c .before .before .before .before .before .before .before .before .before .before .args .out)) = search needs in
+    let n = c .before .before .before .before .before .listed .given in
+    let w = refused-answered _ _ l (rw (n .1) at (c .before .before .before .before .before .before .before .listing .ensures)) in
+    let b = c .before .write-bytes .ensures in
+    omega (arith, l, b .next, wrote-long b, ap length (w .2), ending-limit (n .0 .0) (omega (arith, w .0)))
 
 returns : tie.Need-returns
 returns c =
-    let s = c .before .before .before .before .before .before .before .before .before .before .before .before .before .before .before .before .before .before in
-    let w = refused-answered _ _ (s .pre) (rw (c .before .before .before .before .before .before .before .before .before .before .listed .given .1) at (c .before .before .before .before .before .before .before .before .before .before .before .before .before .before .listing .ensures)) in
-    prints _ (s .pre) (wrote-same (refused-is _ ∙ w .1) (wrote-then (rw (w .2) at (c .before .before .before .before .before .before .write-bytes .ensures)) (c .before .before .end-line .ensures)))
+    let l : 2048 ≤ length (now (c .before .before .before .before .before .before .before .before .before .before .before .args .out)) = search needs in
+    let w = refused-answered _ _ l (rw (c .before .before .before .before .before .before .listed .given .1) at (c .before .before .before .before .before .before .before .before .listing .ensures)) in
+    prints _ l (wrote-same (refused-is _ ∙ w .1) (wrote-then (rw (w .2) at (c .before .before .write-bytes .ensures)) (c .end-line .ensures)))
 
 returns-2 : tie.Need-returns-2
-returns-2 c = prints _ (c .before .before .before .before .before .before .before .before .before .pre) (text-answered _ _ (rw (c .before .listed2 .given .1) at (c .before .before .before .before .before .listing .ensures)))
+returns-2 c =
+    let l : 2048 ≤ length (now (c .before .before .before .before .before .before .args .out)) = search needs in
+    prints _ l (text-answered _ _ (rw (c .before .listed2 .given .1) at (c .before .before .before .listing .ensures)))
 
 pub print-spec : {M : Type 1} → statement M
 print-spec =
@@ -36,7 +41,5 @@ print-spec =
     (λ c κs. search needs)
     end-line-requires
     (λ c. search needs)
-    (λ c. search needs)
     returns
-    (λ c. search needs)
     returns-2)

@@ -12,8 +12,8 @@ passing-part-requires : tie.Need-passing-part-requires
 passing-part-requires c κs =
     let s = c .before .before .before .before .before .before in
     let j = s .pre .1 .1 in
-    let d = kid-below (s .pre .0) j (c .before .before .before .before .wide .ensures) in (
-      part-of (s .pre .0 .0) (s .pre .0 .1) (omega (arith, j .low)) (omega (arith, j .high, c .before .before .wide2 .ensures)) (omega (arith, c .before .before .wide2 .ensures)),
+    let d = kid-below (s .pre .0) j (c .before .before .before .before .wide .ensures .0) in (
+      part-of (s .pre .0 .0) (s .pre .0 .1) (omega (arith, j .low)) (omega (arith, j .high, c .before .before .wide2 .ensures .0)) (omega (arith, c .before .before .wide2 .ensures .0)),
       omega (arith, s .pre .0 .0 .small, s .pre .1 .0, d),
     )
 
@@ -21,8 +21,8 @@ passing-part-requires-2 : tie.Need-passing-part-requires-2
 passing-part-requires-2 c κs =
     let s = c .before .before .before .before .before .before .before in
     let j = s .pre .1 .1 in
-    let d = kid-below (s .pre .0) j (c .before .before .before .before .before .wide .ensures) in (
-      part-of (s .pre .0 .0) (s .pre .0 .1) (omega (arith, c .before .wide3 .ensures)) (omega (arith, j .low, c .before .wide3 .ensures)) (omega (arith, j .high)),
+    let d = kid-below (s .pre .0) j (c .before .before .before .before .before .wide .ensures .0) in (
+      part-of (s .pre .0 .0) (s .pre .0 .1) (omega (arith, c .before .wide3 .ensures .0)) (omega (arith, j .low, c .before .wide3 .ensures .0)) (omega (arith, j .high)),
       omega (arith, s .pre .0 .0 .small, s .pre .1 .0, d),
     )
 
@@ -30,9 +30,9 @@ returns : tie.Need-returns
 returns c =
     let s = c .before .before .before .before .before .before .before .before in
     let j = s .pre .1 .1 in
-    let e = c .before .before .before .before .before .before .wide .ensures in
-    let later = rw (c .before .before .before .before .wide2 .ensures, e) at (c .before .passing-part .ensures) in
-    let earlier = rw (c .before .before .wide3 .ensures, e) at (c .passing-part2 .ensures) in
+    let e = c .before .before .before .before .before .before .wide .ensures .0 in
+    let later = rw (c .before .before .before .before .wide2 .ensures .0, e) at (c .before .passing-part .ensures) in
+    let earlier = rw (c .before .before .wide3 .ensures .0, e) at (c .passing-part2 .ensures) in
     passing-says (s .args .always) (parts (omega (arith, j .low)) (omega (arith, j .high)) later earlier)
 
 pub passing-spec : {M : Type 1} → statement M

@@ -27,18 +27,18 @@ in-the-way-requires : tie.Need-in-the-way-requires Inv-loop μ-loop
 in-the-way-requires c κs =
     let l = c .before .before .before .before in
     let kid = l .before .pre .0 .nodes .each (l .loop .i) (l .loop .inv .0 .0) (omega arith) in
-    omega (arith, l .before .pre .1, kid, c .wide .ensures)
+    omega (arith, l .before .pre .1, kid, c .wide .ensures .0)
 
 lets-pass-requires : tie.Need-lets-pass-requires Inv-loop μ-loop
 lets-pass-requires c κs =
     let l = c .before .before .before .before .before in
     let kid = l .before .pre .0 .nodes .each (l .loop .i) (l .loop .inv .0 .0) (omega arith) in
-    omega (arith, kid, c .before .wide .ensures)
+    omega (arith, kid, c .before .wide .ensures .0)
 
 loop-again : tie.Need-loop-again Inv-loop μ-loop
 loop-again c =
     let l = c .before .before .before .before .before .before .before in
-    let e = c .before .before .before .wide .ensures in (
+    let e = c .before .before .before .wide .ensures .0 in (
       omega arith,
       part-more (l .loop .inv .0 .0) (c .narrowed .ensures)
           (λ f k. implied (rw e at (c .before .before .in-the-way .ensures)) (rw e at (c .before .lets-pass .ensures f k))) (l .loop .inv .1),

@@ -22,7 +22,7 @@ abbrev μ-loop : tie.MeasureT-loop
 loop-holds : tie.Need-loop-holds Inv-loop μ-loop
 loop-holds c =
     let start = c .before .before .before .before in
-    (first-turn (start .before .pre) (c .before .before .wide .ensures) (c .wide2 .ensures), λ p g o. rw (c .wide2 .ensures) (joined-none (start .start-words .ensures)))
+    (first-turn (start .before .pre) (c .before .before .wide .ensures .0) (c .wide2 .ensures .0), λ p g o. rw (c .wide2 .ensures .0) (joined-none (start .start-words .ensures)))
 
 element-copy-out-wide-3 : tie.Need-element-copy-out-wide-3 Inv-loop μ-loop
 element-copy-out-wide-3 c =
@@ -32,20 +32,20 @@ all-siblings-requires : tie.Need-all-siblings-requires Inv-loop μ-loop
 all-siblings-requires c κs =
     let l = c .before .before .before in
     let s = l .before .before .before .before .before .before in
-    (s .pre, kid-below (s .pre) (position (l .loop .inv .0) (c .before .before .loop-test .taken)) (c .wide3 .ensures))
+    (s .pre, kid-below (s .pre) (position (l .loop .inv .0) (c .before .before .loop-test .taken)) (c .wide3 .ensures .0))
 
 merged-requires : tie.Need-merged-requires Inv-loop μ-loop
 merged-requires c κs =
     let l = c .before .before .before .before .before in
     let s = l .before .before .before .before .before .before in
-    kid-small (s .pre) (position (l .loop .inv .0) (c .before .before .before .before .loop-test .taken)) (c .before .before .wide3 .ensures)
+    kid-small (s .pre) (position (l .loop .inv .0) (c .before .before .before .before .loop-test .taken)) (c .before .before .wide3 .ensures .0)
 
 loop-again : tie.Need-loop-again Inv-loop μ-loop
 loop-again c =
     let l = c .before .before .before .before .before .before in
     let turn = l .loop .inv .0 in
     let test = c .before .before .before .before .before .loop-test .taken in
-    let e = c .before .before .before .wide3 .ensures in (
+    let e = c .before .before .before .wide3 .ensures .0 in (
       next-turn turn test,
       λ p g o. joined-more e (turn .low) (c .merged .ensures) (child-row g e (position turn test) .says)
           (λ k f m. says-eq (c .before .mask-words .ensures .is k)

@@ -17,7 +17,7 @@ abbrev μ-loop : tie.MeasureT-loop
 loop-holds : tie.Need-loop-holds Inv-loop μ-loop
 loop-holds c =
     let start = c .before .before .before .before in
-    (first-turn (start .before .before .pre) (c .before .before .wide .ensures) (c .wide2 .ensures), λ p g. rw (c .wide2 .ensures) (joined-none (start .start-words2 .ensures)))
+    (first-turn (start .before .before .pre) (c .before .before .wide .ensures .0) (c .wide2 .ensures .0), λ p g. rw (c .wide2 .ensures .0) (joined-none (start .start-words2 .ensures)))
 
 element-copy-out-wide-3 : tie.Need-element-copy-out-wide-3 Inv-loop μ-loop
 element-copy-out-wide-3 c =
@@ -26,14 +26,14 @@ element-copy-out-wide-3 c =
 merged-requires : tie.Need-merged-requires Inv-loop μ-loop
 merged-requires c κs =
     let l = c .before .before .before in
-    kid-small (l .before .before .before .before .before .before .before .pre) (position (l .loop .inv .0) (c .before .before .loop-test .taken)) (c .wide3 .ensures)
+    kid-small (l .before .before .before .before .before .before .before .pre) (position (l .loop .inv .0) (c .before .before .loop-test .taken)) (c .wide3 .ensures .0)
 
 loop-again : tie.Need-loop-again Inv-loop μ-loop
 loop-again c =
     let l = c .before .before .before .before in
     let turn = l .loop .inv .0 in
     let test = c .before .before .before .loop-test .taken in
-    let e = c .before .wide3 .ensures in (
+    let e = c .before .wide3 .ensures .0 in (
       next-turn turn test,
       λ p g. joined-more e (turn .low) (c .merged .ensures) (child-row g e (position turn test) .says)
           (unmasked (l .before .before .before .before .before .before .start-words .ensures)) (l .loop .inv .1 p g),

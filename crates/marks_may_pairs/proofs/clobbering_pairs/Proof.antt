@@ -6,18 +6,18 @@ use Rattle.marks_may_pairs.proofs.clobbering_pairs.Statement.{statement
 use Rattle.marks_may_pairs.proofs.clobbering_pairs.Tie as tie
 
 abbrev Inv-loop : tie.InvT-loop
-Inv-loop from kids order rows n node left₀ found₀ first₀ left found first = Progress from kids order rows n node left₀ left found first
+Inv-loop from kids order rows n node left₀ found₀ child₀ partner₀ left found child partner = Progress from kids order rows n node left₀ left found child partner
 
 abbrev μ-loop : tie.MeasureT-loop
-μ-loop from kids order rows n node left₀ found₀ first₀ left found first = left .clear + left .set
+μ-loop from kids order rows n node left₀ found₀ child₀ partner₀ left found child partner = left .clear + left .set
 
 loop-holds : tie.Need-loop-holds Inv-loop μ-loop
 loop-holds c =
     let s = c .before .before in
-    rw (c .wide .ensures) (at-first _ _ _ _ _ _ _ (s .pre .0 .starts (s .args .node) (s .pre .1)))
+    rw (c .wide .ensures .0) (at-first _ _ _ _ _ _ _ (s .pre .0 .starts (s .args .node) (s .pre .1)))
 
 clobbering-pair-requires : tie.Need-clobbering-pair-requires Inv-loop μ-loop
-clobbering-pair-requires c κs = (c .before .before .before .pre, (c .loop .inv .low, c .loop .inv .high))
+clobbering-pair-requires c κs = (c .before .before .before .pre, c .loop .inv .stands)
 
 returns : tie.Need-returns Inv-loop μ-loop
 returns c = all-found _ _ _ _ _ _ _ _ (c .before .before .before .before .loop .inv) (c .before .before .before .clobbering-pair .ensures) (c .if1 .taken)

@@ -26,7 +26,7 @@ abbrev μ-loop : tie.MeasureT-loop
 
 loop-holds : tie.Need-loop-holds Inv-loop μ-loop
 loop-holds c =
-    (first-turn (c .before .before .before .before .pre .0) (c .before .before .wide .ensures) (c .wide2 .ensures), λ p g v q f m. rw (c .wide2 .ensures) none-more)
+    (first-turn (c .before .before .before .before .pre .0) (c .before .before .wide .ensures .0) (c .wide2 .ensures .0), λ p g v q f m. rw (c .wide2 .ensures .0) none-more)
 
 element-copy-out-wide-3 : tie.Need-element-copy-out-wide-3 Inv-loop μ-loop
 element-copy-out-wide-3 c = position-small (c .before .before .before .before .before .before .pre .0) (position (c .before .loop .inv .0) (c .loop-test .taken))
@@ -35,7 +35,7 @@ must-pairs-of-requires : tie.Need-must-pairs-of-requires Inv-loop μ-loop
 must-pairs-of-requires c κs =
     let l = c .before .before .before in
     let s = l .before .before .before .before .before in
-    (s .pre, kid-below (s .pre .0) (position (l .loop .inv .0) (c .before .before .loop-test .taken)) (c .wide3 .ensures))
+    (s .pre, kid-below (s .pre .0) (position (l .loop .inv .0) (c .before .before .loop-test .taken)) (c .wide3 .ensures .0))
 
 loop-again : tie.Need-loop-again Inv-loop μ-loop
 loop-again c =
@@ -43,7 +43,7 @@ loop-again c =
     let turn = l .loop .inv .0 in
     let test = c .before .before .before .loop-test .taken in
     let at = position turn test in
-    let e = c .before .wide3 .ensures in (
+    let e = c .before .wide3 .ensures .0 in (
       next-turn turn test,
       λ p g v q f m. child-more (turn .low) (l .loop .inv .1 p g v q f m)
           (rw e at (c .must-pairs-of .ensures p g (kid g e at) v q f m)),

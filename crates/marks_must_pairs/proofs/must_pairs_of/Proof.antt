@@ -34,7 +34,7 @@ returns c =
 
 loop-holds : tie.Need-loop-holds Inv-loop μ-loop
 loop-holds c =
-    (first-turn (c .before .before .before .before .before .before .pre .0 .0) (c .before .before .wide .ensures) (c .wide2 .ensures), λ p g hc v q f m. rw (c .wide2 .ensures) none-more)
+    (first-turn (c .before .before .before .before .before .before .pre .0 .0) (c .before .before .wide .ensures .0) (c .wide2 .ensures .0), λ p g hc v q f m. rw (c .wide2 .ensures .0) none-more)
 
 must-pair-word-requires : tie.Need-must-pair-word-requires Inv-loop μ-loop
 must-pair-word-requires c κs =

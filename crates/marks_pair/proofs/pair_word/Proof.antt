@@ -8,42 +8,42 @@ use Rattle.marks_pair.proofs.pair_word.Statement.{statement}
 use Rattle.marks_pair.proofs.pair_word.Tie as tie
 
 returns : tie.Need-returns
-returns c = pair-kid (c .before .before .before .before .before .wide .ensures)
+returns c = pair-kid (c .before .before .before .before .before .wide .ensures .0)
     (none-shared _ _ _ (c .before .before .before .if1 .taken) (c .before .before .word-at .ensures) (c .before .word-at2 .ensures) (c .if2 .taken))
 
 returns-2 : tie.Need-returns-2
-returns-2 c = let e = c .before .before .before .before .before .before .wide .ensures in
+returns-2 c = let e = c .before .before .before .before .before .before .wide .ensures .0 in
     pair-kid e (shared-passes _ _ _ (c .before .before .before .before .if1 .taken) (c .before .before .before .word-at .ensures) (c .before .before .word-at2 .ensures)
     (passing-kid e (c .passing .ensures)))
 
 returns-3 : tie.Need-returns-3
-returns-3 c = pair-kid (c .before .before .before .before .before .before .wide .ensures)
+returns-3 c = pair-kid (c .before .before .before .before .before .before .wide .ensures .0)
     (apart-both _ _ _ ((c .before .before .before .apart .ensures) .0 (rw (c .before .before .if3 .taken) tt)) (c .before .word-at3 .ensures) (c .word-at4 .ensures))
 
 returns-4 : tie.Need-returns-4
-returns-4 c = pair-kid (c .before .before .before .before .wide .ensures)
+returns-4 c = pair-kid (c .before .before .before .before .wide .ensures .0)
     (neither-rule _ (c .before .before .if1 .left) (λ u. rw (c .if3 .left) at ((c .before .apart .ensures) .1 u)))
 
 element-copy-out-wide : tie.Need-element-copy-out-wide
 element-copy-out-wide c = position-small (c .pre .0 .0) (c .pre .1 .1)
 
 mul-if1 : tie.Need-mul-if1
-mul-if1 c = let s = c .before .before in omega (arith, s .pre, s .pre .0 .0 .0 .small, kid-small (s .pre .0 .0) (s .pre .1 .1) (c .wide .ensures))
+mul-if1 c = let s = c .before .before in omega (arith, s .pre, s .pre .0 .0 .0 .small, kid-small (s .pre .0 .0) (s .pre .1 .1) (c .wide .ensures .0))
 
 add-if1 : tie.Need-add-if1
-add-if1 c = let s = c .before .before in omega (arith, s .pre, s .pre .0 .0 .0 .small, kid-small (s .pre .0 .0) (s .pre .1 .1) (c .wide .ensures))
+add-if1 c = let s = c .before .before in omega (arith, s .pre, s .pre .0 .0 .0 .small, kid-small (s .pre .0 .0) (s .pre .1 .1) (c .wide .ensures .0))
 
 element-copy-out-if1 : tie.Need-element-copy-out-if1
-element-copy-out-if1 c = let s = c .before .before in omega (arith, s .pre, s .pre .0 .0 .0 .small, kid-small (s .pre .0 .0) (s .pre .1 .1) (c .wide .ensures))
+element-copy-out-if1 c = let s = c .before .before in omega (arith, s .pre, s .pre .0 .0 .0 .small, kid-small (s .pre .0 .0) (s .pre .1 .1) (c .wide .ensures .0))
 
 word-at-requires : tie.Need-word-at-requires
-word-at-requires c κs = let s = c .before .before .before .before in omega (arith, s .pre, s .pre .0 .0 .0 .small, kid-small (s .pre .0 .0) (s .pre .1 .1) (c .before .before .wide .ensures))
+word-at-requires c κs = let s = c .before .before .before .before in omega (arith, s .pre, s .pre .0 .0 .0 .small, kid-small (s .pre .0 .0) (s .pre .1 .1) (c .before .before .wide .ensures .0))
 
 apart-requires : tie.Need-apart-requires
-apart-requires c κs = let s = c .before .before .before .before in omega (arith, s .pre, s .pre .0 .0 .0 .small, kid-small (s .pre .0 .0) (s .pre .1 .1) (c .before .before .wide .ensures))
+apart-requires c κs = let s = c .before .before .before .before in omega (arith, s .pre, s .pre .0 .0 .0 .small, kid-small (s .pre .0 .0) (s .pre .1 .1) (c .before .before .wide .ensures .0))
 
 word-at-requires-4 : tie.Need-word-at-requires-4
-word-at-requires-4 c κs = let s = c .before .before .before .before .before .before .before in omega (arith, s .pre, s .pre .0 .0 .0 .small, kid-small (s .pre .0 .0) (s .pre .1 .1) (c .before .before .before .before .before .wide .ensures))
+word-at-requires-4 c κs = let s = c .before .before .before .before .before .before .before in omega (arith, s .pre, s .pre .0 .0 .0 .small, kid-small (s .pre .0 .0) (s .pre .1 .1) (c .before .before .before .before .before .wide .ensures .0))
 
 pub pair-word-spec : {M : Type 1} → statement M
 pair-word-spec =

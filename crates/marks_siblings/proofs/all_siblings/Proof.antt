@@ -24,7 +24,7 @@ abbrev μ-loop : tie.MeasureT-loop
 
 loop-holds : tie.Need-loop-holds Inv-loop μ-loop
 loop-holds c =
-    (first-turn (c .before .before .before .before .pre .0) (c .before .before .wide .ensures) (c .wide2 .ensures), λ p g o hc. rw (c .wide2 .ensures) (no-siblings g o hc refl))
+    (first-turn (c .before .before .before .before .pre .0) (c .before .before .wide .ensures .0) (c .wide2 .ensures .0), λ p g o hc. rw (c .wide2 .ensures .0) (no-siblings g o hc refl))
 
 element-copy-out-wide-3 : tie.Need-element-copy-out-wide-3 Inv-loop μ-loop
 element-copy-out-wide-3 c =
@@ -34,7 +34,7 @@ with-sibling-requires : tie.Need-with-sibling-requires Inv-loop μ-loop
 with-sibling-requires c κs =
     let l = c .before .before .before in
     let s = l .before .before .before .before .before in
-    let b = kid-small (s .pre .0) (position (l .loop .inv .0) (c .before .before .loop-test .taken)) (c .wide3 .ensures) in
+    let b = kid-small (s .pre .0) (position (l .loop .inv .0) (c .before .before .loop-test .taken)) (c .wide3 .ensures .0) in
     omega (arith, s .pre .0 .0 .small, s .pre .1, b)
 
 loop-again : tie.Need-loop-again Inv-loop μ-loop
@@ -42,7 +42,7 @@ loop-again c =
     let l = c .before .before .before .before in
     let turn = l .loop .inv .0 in
     let test = c .before .before .before .loop-test .taken in
-    let e = c .before .wide3 .ensures in (
+    let e = c .before .wide3 .ensures .0 in (
       next-turn turn test,
       λ p g o hc. with-sibling g o hc (turn .low) e (listed (g .tree) (g .node) e (position turn test)) (c .with-sibling .ensures) (l .loop .inv .1 p g o hc),
     )

@@ -5,7 +5,7 @@ use Rattle.marks_siblings.proofs.narrowed.Statement.{statement}
 use Rattle.marks_siblings.proofs.narrowed.Tie as tie
 
 returns : tie.Need-returns
-returns c = narrows-taken _ (rw (c .if1 .taken) tt) refl
+returns c = narrows-taken (rw (c .if1 .taken) tt) refl refl
 
 returns-2 : tie.Need-returns-2
 returns-2 c = narrows-kept (λ t. rw (c .if1 .left) at t) refl

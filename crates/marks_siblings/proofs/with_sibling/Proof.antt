@@ -10,9 +10,9 @@ returns : tie.Need-returns
 returns c =
     let e = c .before .before .before .before .before .before .if1 .taken in
     record {
-      avoid-before = narrows-taken _ e (rw (c .before .before .before .before .before .word-at .ensures));
-      clear-before = narrows-taken _ e (rw (c .before .before .before .word-at2 .ensures));
-      set-before = narrows-taken _ e (rw (c .before .word-at3 .ensures));
+      avoid-before = narrows-taken e (c .before .before .before .before .before .word-at .ensures) refl;
+      clear-before = narrows-taken e (c .before .before .before .word-at2 .ensures) refl;
+      set-before = narrows-taken e (c .before .word-at3 .ensures) refl;
       avoid-after = narrows-kept (λ q. omega (arith, e, q)) refl;
       silent-apart = narrows-kept (λ a. a .not-before e) refl;
     }
@@ -24,7 +24,7 @@ returns-2 c =
       avoid-before = narrows-kept (λ q. omega (arith, e, q)) refl;
       clear-before = narrows-kept (λ q. omega (arith, e, q)) refl;
       set-before = narrows-kept (λ q. omega (arith, e, q)) refl;
-      avoid-after = narrows-taken _ e (rw (c .before .word-at4 .ensures));
+      avoid-after = narrows-taken e (c .before .word-at4 .ensures) refl;
       silent-apart = narrows-kept (λ a. a .not-after e) refl;
     }
 
@@ -49,8 +49,8 @@ returns-4 c =
       set-before = narrows-kept not-before refl;
       avoid-after = narrows-kept not-after refl;
       silent-apart = narrows-map (λ a. a, λ a. a) (neither _ _)
-          (narrows-taken _ (record { not-before = not-before; not-after = not-after; distinct = c .before .before .if3 .left })
-          (rw (c .before .neither .ensures)));
+          (narrows-taken (record { not-before = not-before; not-after = not-after; distinct = c .before .before .if3 .left })
+          (c .before .neither .ensures) refl);
     }
 
 pub with-sibling-spec : {M : Type 1} → statement M

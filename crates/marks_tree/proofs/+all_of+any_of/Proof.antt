@@ -7,10 +7,10 @@ use borrow.Author.Needs.{needs}
 use borrow.Fn.Kinds.{In}
 use borrow.Fn.PlainCycle.{Measures, is, falls, and}
 use Rattle.marks_row.proofs.Turns.{Turn, first-turn, position-small, kid-small, position, next-turn, last-turn}
-use Rattle.marks_row.proofs.wide.Reads as wide-reads
+use Rattle.base.proofs.wide.Reads as wide-reads
 use Rattle.marks_row.proofs.write_row.Reads as write-row-reads
 use Rattle.marks_group.proofs.any_words.Reads as any-words-reads
-use Rattle.marks_tree.proofs.Children.{kid-later, ChildrenTo, children-none, child-more, task-filled, all-filled, any-filled}
+use Rattle.marks_tree.proofs.Children.{is-task, is-all, is-any, kid-later, ChildrenTo, children-none, child-more, task-filled, all-filled, any-filled}
 use Rattle.marks_tree.proofs.all_row.Reads as all-row-reads
 use Rattle.marks_tree.proofs.all_of.Reads as all-of
 use Rattle.marks_tree.proofs.all_of.Kinds as all-of-kinds
@@ -64,7 +64,7 @@ all-of-element-copy-out-wide-2 t c = let s = c .before .before in omega (arith, 
 all-of-loop-holds : (t : ℕ) → all-of-lts.Need-loop-holds (all-of-claims t) (all-of-at t) all-of.Post all-of-Inv-loop all-of-μ-loop
 all-of-loop-holds t c =
     let s = c .before .before .before .before in
-    (first-turn (s .pre .1 .0) (c .before .before .wide .ensures) (c .wide2 .ensures), rw (c .wide2 .ensures) (children-none _ _ _ _ _ _ _ (s .pre .1 .1 .0)))
+    (first-turn (s .pre .1 .0) (c .before .before .wide .ensures .0) (c .wide2 .ensures .0), rw (c .wide2 .ensures .0) (children-none _ _ _ _ _ _ _ (s .pre .1 .1)))
 
 all-of-element-copy-out-wide-3 : (t : ℕ) → all-of-lts.Need-element-copy-out-wide-3 (all-of-claims t) (all-of-at t) all-of.Post all-of-Inv-loop all-of-μ-loop
 all-of-element-copy-out-wide-3 t c =
@@ -73,21 +73,21 @@ all-of-element-copy-out-wide-3 t c =
 all-of-element-copy-out-k : (t : ℕ) → all-of-lts.Need-element-copy-out-k (all-of-claims t) (all-of-at t) all-of.Post all-of-Inv-loop all-of-μ-loop
 all-of-element-copy-out-k t c =
     let l = c .before .before .before in
-    kid-small (l .before .before .before .before .before .pre .1 .0) (position (l .loop .inv .0) (c .before .before .loop-test .taken)) (c .wide3 .ensures)
+    kid-small (l .before .before .before .before .before .pre .1 .0) (position (l .loop .inv .0) (c .before .before .loop-test .taken)) (c .wide3 .ensures .0)
 
 all-of-all-of-requires : (t : ℕ) → all-of-lts.Need-all-of-requires (all-of-claims t) (all-of-at t) all-of.Post all-of-Inv-loop all-of-μ-loop
 all-of-all-of-requires t c κs =
     let l = c .before .before .before .before .before .before in
     let s = l .before .before .before .before .before in
-    let later = kid-later (s .pre .1 .0) (position (l .loop .inv .0) (c .before .before .before .before .before .loop-test .taken)) (c .before .before .before .wide3 .ensures) in
-    (nearer (s .pre .0) later, ((s .pre .1 .0 .0, later .1), (l .loop .inv .1 .long, c .before .if1 .taken)))
+    let later = kid-later (s .pre .1 .0) (position (l .loop .inv .0) (c .before .before .before .before .before .loop-test .taken)) (c .before .before .before .wide3 .ensures .0) in
+    (nearer (s .pre .0) later, ((s .pre .1 .0 .0, later .1), l .loop .inv .1 .long))
 
 all-of-any-of-requires : (t : ℕ) → all-of-lts.Need-any-of-requires (all-of-claims t) (all-of-at t) all-of.Post all-of-Inv-loop all-of-μ-loop
 all-of-any-of-requires t c κs =
     let l = c .before .before .before .before .before .before .before in
     let s = l .before .before .before .before .before in
-    let later = kid-later (s .pre .1 .0) (position (l .loop .inv .0) (c .before .before .before .before .before .before .loop-test .taken)) (c .before .before .before .before .wide3 .ensures) in
-    (nearer (s .pre .0) later, ((s .pre .1 .0 .0, later .1), (l .loop .inv .1 .long, c .before .if2 .taken)))
+    let later = kid-later (s .pre .1 .0) (position (l .loop .inv .0) (c .before .before .before .before .before .before .loop-test .taken)) (c .before .before .before .before .wide3 .ensures .0) in
+    (nearer (s .pre .0) later, ((s .pre .1 .0 .0, later .1), l .loop .inv .1 .long))
 
 all-of-loop-again : (t : ℕ) → all-of-lts.Need-loop-again (all-of-claims t) (all-of-at t) all-of.Post all-of-Inv-loop all-of-μ-loop
 all-of-loop-again t c =
@@ -95,11 +95,11 @@ all-of-loop-again t c =
     let turn = l .loop .inv .0 in
     let test = c .before .before .before .before .loop-test .taken in
     let at = position turn test in
-    let e = c .before .before .wide3 .ensures in (
+    let e = c .before .before .wide3 .ensures .0 in (
       next-turn turn test,
-      ⊎-elim (λ w. child-more _ _ _ _ _ _ e at (l .loop .inv .1) (w .3) (w .2 .ensures))
-          (⊎-elim (λ w. child-more _ _ _ _ _ _ e at (l .loop .inv .1) (w .4) (w .3 .ensures))
-          (λ w. child-more _ _ _ _ _ _ e at (l .loop .inv .1) (w .2) (task-filled _ _ _ _ _ _ (l .loop .inv .1 .long) (w .0 .left) (w .1 .left))))
+      ⊎-elim (λ w. child-more _ _ _ _ _ _ e at (l .loop .inv .1) (w .3) (is-all (w .0 .taken)) (w .2 .ensures))
+          (⊎-elim (λ w. child-more _ _ _ _ _ _ e at (l .loop .inv .1) (w .4) (is-any (w .1 .taken)) (w .3 .ensures))
+          (λ w. child-more _ _ _ _ _ _ e at (l .loop .inv .1) (w .2) (is-task (w .0 .left) (w .1 .left)) (task-filled _ _ _ _ _ _ (l .loop .inv .1 .long))))
           (c .if1 .came),
     )
 
@@ -114,9 +114,8 @@ all-of-write-row-requires t c κs =
 all-of-returns : (t : ℕ) → all-of-lts.Need-returns (all-of-claims t) (all-of-at t) all-of.Post all-of-Inv-loop all-of-μ-loop
 all-of-returns t c =
     let l = c .before .before .before .before .before in
-    let s = l .before .before .before .before .before in
     let e = last-turn (l .loop .inv .0) (c .before .before .before .before .loop-test .left) in
-    all-filled _ _ _ _ _ _ (rw e at (l .loop .inv .1)) (c .write-row .ensures) (s .pre .1 .1 .1) (c .before .before .all-row .ensures)
+    all-filled _ _ _ _ _ _ (rw e at (l .loop .inv .1)) (c .write-row .ensures) (c .before .before .all-row .ensures)
 
 abbrev any-of-claims : ℕ → any-of-lts.Claims
 any-of-claims t = (wide-reads.Asked, wide-reads.Learnt, all-of-below t, all-of.Post, any-of-below t, any-of.Post, any-words-reads.Asked, any-words-reads.Learnt, write-row-reads.Asked, write-row-reads.Learnt)
@@ -139,7 +138,7 @@ any-of-element-copy-out-wide-2 t c = let s = c .before .before in omega (arith, 
 any-of-loop-holds : (t : ℕ) → any-of-lts.Need-loop-holds (any-of-claims t) (any-of-at t) any-of.Post any-of-Inv-loop any-of-μ-loop
 any-of-loop-holds t c =
     let s = c .before .before .before .before in
-    (first-turn (s .pre .1 .0) (c .before .before .wide .ensures) (c .wide2 .ensures), rw (c .wide2 .ensures) (children-none _ _ _ _ _ _ _ (s .pre .1 .1 .0)))
+    (first-turn (s .pre .1 .0) (c .before .before .wide .ensures .0) (c .wide2 .ensures .0), rw (c .wide2 .ensures .0) (children-none _ _ _ _ _ _ _ (s .pre .1 .1)))
 
 any-of-element-copy-out-wide-3 : (t : ℕ) → any-of-lts.Need-element-copy-out-wide-3 (any-of-claims t) (any-of-at t) any-of.Post any-of-Inv-loop any-of-μ-loop
 any-of-element-copy-out-wide-3 t c =
@@ -148,21 +147,21 @@ any-of-element-copy-out-wide-3 t c =
 any-of-element-copy-out-k : (t : ℕ) → any-of-lts.Need-element-copy-out-k (any-of-claims t) (any-of-at t) any-of.Post any-of-Inv-loop any-of-μ-loop
 any-of-element-copy-out-k t c =
     let l = c .before .before .before in
-    kid-small (l .before .before .before .before .before .pre .1 .0) (position (l .loop .inv .0) (c .before .before .loop-test .taken)) (c .wide3 .ensures)
+    kid-small (l .before .before .before .before .before .pre .1 .0) (position (l .loop .inv .0) (c .before .before .loop-test .taken)) (c .wide3 .ensures .0)
 
 any-of-all-of-requires : (t : ℕ) → any-of-lts.Need-all-of-requires (any-of-claims t) (any-of-at t) any-of.Post any-of-Inv-loop any-of-μ-loop
 any-of-all-of-requires t c κs =
     let l = c .before .before .before .before .before .before in
     let s = l .before .before .before .before .before in
-    let later = kid-later (s .pre .1 .0) (position (l .loop .inv .0) (c .before .before .before .before .before .loop-test .taken)) (c .before .before .before .wide3 .ensures) in
-    (nearer (s .pre .0) later, ((s .pre .1 .0 .0, later .1), (l .loop .inv .1 .long, c .before .if1 .taken)))
+    let later = kid-later (s .pre .1 .0) (position (l .loop .inv .0) (c .before .before .before .before .before .loop-test .taken)) (c .before .before .before .wide3 .ensures .0) in
+    (nearer (s .pre .0) later, ((s .pre .1 .0 .0, later .1), l .loop .inv .1 .long))
 
 any-of-any-of-requires : (t : ℕ) → any-of-lts.Need-any-of-requires (any-of-claims t) (any-of-at t) any-of.Post any-of-Inv-loop any-of-μ-loop
 any-of-any-of-requires t c κs =
     let l = c .before .before .before .before .before .before .before in
     let s = l .before .before .before .before .before in
-    let later = kid-later (s .pre .1 .0) (position (l .loop .inv .0) (c .before .before .before .before .before .before .loop-test .taken)) (c .before .before .before .before .wide3 .ensures) in
-    (nearer (s .pre .0) later, ((s .pre .1 .0 .0, later .1), (l .loop .inv .1 .long, c .before .if2 .taken)))
+    let later = kid-later (s .pre .1 .0) (position (l .loop .inv .0) (c .before .before .before .before .before .before .loop-test .taken)) (c .before .before .before .before .wide3 .ensures .0) in
+    (nearer (s .pre .0) later, ((s .pre .1 .0 .0, later .1), l .loop .inv .1 .long))
 
 any-of-loop-again : (t : ℕ) → any-of-lts.Need-loop-again (any-of-claims t) (any-of-at t) any-of.Post any-of-Inv-loop any-of-μ-loop
 any-of-loop-again t c =
@@ -170,11 +169,11 @@ any-of-loop-again t c =
     let turn = l .loop .inv .0 in
     let test = c .before .before .before .before .loop-test .taken in
     let at = position turn test in
-    let e = c .before .before .wide3 .ensures in (
+    let e = c .before .before .wide3 .ensures .0 in (
       next-turn turn test,
-      ⊎-elim (λ w. child-more _ _ _ _ _ _ e at (l .loop .inv .1) (w .3) (w .2 .ensures))
-          (⊎-elim (λ w. child-more _ _ _ _ _ _ e at (l .loop .inv .1) (w .4) (w .3 .ensures))
-          (λ w. child-more _ _ _ _ _ _ e at (l .loop .inv .1) (w .2) (task-filled _ _ _ _ _ _ (l .loop .inv .1 .long) (w .0 .left) (w .1 .left))))
+      ⊎-elim (λ w. child-more _ _ _ _ _ _ e at (l .loop .inv .1) (w .3) (is-all (w .0 .taken)) (w .2 .ensures))
+          (⊎-elim (λ w. child-more _ _ _ _ _ _ e at (l .loop .inv .1) (w .4) (is-any (w .1 .taken)) (w .3 .ensures))
+          (λ w. child-more _ _ _ _ _ _ e at (l .loop .inv .1) (w .2) (is-task (w .0 .left) (w .1 .left)) (task-filled _ _ _ _ _ _ (l .loop .inv .1 .long))))
           (c .if1 .came),
     )
 
@@ -189,9 +188,8 @@ any-of-write-row-requires t c κs =
 any-of-returns : (t : ℕ) → any-of-lts.Need-returns (any-of-claims t) (any-of-at t) any-of.Post any-of-Inv-loop any-of-μ-loop
 any-of-returns t c =
     let l = c .before .before .before .before .before in
-    let s = l .before .before .before .before .before in
     let e = last-turn (l .loop .inv .0) (c .before .before .before .before .loop-test .left) in
-    any-filled _ _ _ _ _ _ (rw e at (l .loop .inv .1)) (c .write-row .ensures) (s .pre .1 .1 .1) (c .before .before .any-words .ensures)
+    any-filled _ _ _ _ _ _ (rw e at (l .loop .inv .1)) (c .write-row .ensures) (c .before .before .any-words .ensures)
 
 pub +all-of+any-of-spec : {M : Type 1} → statement M
 +all-of+any-of-spec = close μ-all-of μ-any-of (λ t. all-of-lts.spec (all-of-claims t)

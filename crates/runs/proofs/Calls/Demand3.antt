@@ -1,11 +1,11 @@
 -- Demand 3 holds of every well-formed plan, whatever flags are set at the start; and the same for what computes.
-use Rattle.runs.proofs.Base.{_≡_, refl, sym, ap, _∙_, _≢_, _⊎_, inl, inr, _↔_, Bool, Option, none, some, List, [], _∷_, ℕ, _≤_, arith}
+use Rattle.runs.proofs.Base.{_≡_, refl, sym, ap, _∙_, _⊎_, inl, inr, _↔_, Bool, Option, none, some, List, [], _∷_, Among, ℕ, _≤_, arith}
 use Rattle.runs.specs.Plan.{Place, inc, post, Plan, WellFormed}
 use Rattle.runs.specs.Execution.{waiting, Status-discrete, Event, start, finish, History, statusAfter, Complete, lastAssertedOf, asserts}
 use Rattle.runs.specs.Execution.{lastAsserted}
 use Rattle.runs.specs.Verdict.{Clear, Doomed}
-use Rattle.runs.specs.Calls.{Call, World, fresh, Refusal, pre-unmet, inc-broken, number, Task, Among, Worked}
-use Rattle.runs.specs.Demand3.{Demand3}
+use Rattle.runs.specs.Calls.{Call, World, fresh, Refusal, pre-unmet, inc-broken, number, Task, Worked}
+use Rattle.runs.specs.Demand3.{NoViolation, Demand3}
 use Rattle.runs.specs.Model.Monitor.{returns, states}
 use Rattle.runs.specs.Model.Verdicts.{verdict}
 use Rattle.runs.proofs.Plan.{under-node}
@@ -19,11 +19,7 @@ use Rattle.runs.proofs.Calls.Rows.{Violating}
 use Rattle.runs.proofs.Calls.Violation.{flagAfter}
 
 module _ (p : Plan) (w : WellFormed p) (F : ℕ → Bool) where
-  -- no return of a list is 21 or 22
-  abbrev pub NeverViolates : List ℕ → Type 0
-  NeverViolates ns = (r : ℕ) → Among r ns → (r ≢ 21) × (r ≢ 22)
-
-  never-in : (cs : List Call) → Clear p F → NeverViolates (returns p (fresh F) cs)
+  never-in : (cs : List Call) → Clear p F → NoViolation (returns p (fresh F) cs)
   never-in cs c r x = (
     λ z. hit pre-unmet (inl refl) (rw z at x),
     λ z. hit inc-broken (inr refl) (rw z at x),
@@ -33,17 +29,17 @@ module _ (p : Plan) (w : WellFormed p) (F : ℕ → Bool) where
       hit q v y = clear-no-first-violation p w F c (list-violates p w F (record { calls = cs; refusal = q; violating = v; hit = y }))
 
   -- CLEAR exactly if no call in any list returns 21 or 22
-  pub clear-exact : Clear p F ↔ ((cs : List Call) → NeverViolates (returns p (fresh F) cs))
+  pub clear-exact : Clear p F ↔ ((cs : List Call) → NoViolation (returns p (fresh F) cs))
   clear-exact = (λ c cs. never-in cs c, λ g. from g (clear-or-first-violation p w F))
     where
-      no-list : ((cs : List Call) → NeverViolates (returns p (fresh F) cs)) → ¬ ViolatingList p F
+      no-list : ((cs : List Call) → NoViolation (returns p (fresh F) cs)) → ¬ ViolatingList p F
       no-list g x = at (x .violating)
         where
           at : Violating (x .refusal) → ⊥
           at (inl q) = (g (x .calls) (number (x .refusal)) (x .hit)) .0 (ap number q)
           at (inr q) = (g (x .calls) (number (x .refusal)) (x .hit)) .1 (ap number q)
 
-      from : ((cs : List Call) → NeverViolates (returns p (fresh F) cs)) → Clear p F ⊎ FirstViolation p F → Clear p F
+      from : ((cs : List Call) → NoViolation (returns p (fresh F) cs)) → Clear p F ⊎ FirstViolation p F → Clear p F
       from g (inl c) = c
       from g (inr x) = absurd (no-list g (violating-list p w F x))
 
@@ -106,7 +102,7 @@ module _ (p : Plan) (w : WellFormed p) (F : ℕ → Bool) where
       beyond : {cs : List Call} {ns : List ℕ} {a : World} → Worked p (fresh F) cs ns a → (f : ℕ) → p .cond .flags ≤ f → a .flag f ≡ F f
       beyond {cs} y f l = let (e, q) = worked-only p w y in rw q (others-keep cs f l)
 
-      never : {cs : List Call} {ns : List ℕ} {a : World} → Clear p F → Worked p (fresh F) cs ns a → NeverViolates ns
+      never : {cs : List Call} {ns : List ℕ} {a : World} → Clear p F → Worked p (fresh F) cs ns a → NoViolation ns
       never {cs} c y = let (e, q) = worked-only p w y in rw e (clear-exact .0 c cs)
 
       doomed : {cs : List Call} {ns : List ℕ} {a : World} → Doomed p F → Worked p (fresh F) cs ns a → ¬ Complete p (a .status) 0

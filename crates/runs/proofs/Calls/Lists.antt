@@ -1,12 +1,11 @@
 -- Lists of calls, the first call first, refused calls anywhere among them: the states that they leave are those after the accepted ones, and a return
 -- is 21 or 22 in some list exactly if some accepted list comes to a violation.
 use Rattle.runs.proofs.Base.{_≡_, refl, sym, ap, _∙_, fun-ext, _⊎_, inl, inr, Bool, Option, none, some, Option·getD, List, [], _∷_, _++_}
-use Rattle.runs.proofs.Base.{reverseAux, ℕ}
+use Rattle.runs.proofs.Base.{reverseAux, Among, here, there, among-none, among-cases, ℕ}
 use Rattle.runs.specs.Plan.{Plan, WellFormed}
 use Rattle.runs.specs.Execution.{Event, History, statusAfter, latest, lastAssertedOf, asserts, lastAsserted}
-use Rattle.runs.specs.Calls.{Call, events, World, fresh, happen, happenAll, Refusal, number, Among, here, there}
+use Rattle.runs.specs.Calls.{Call, events, World, fresh, happen, happenAll, Refusal, number}
 use Rattle.runs.specs.Model.Monitor.{code, settle, refusalOf, returned, step, returns, states}
-use Rattle.runs.proofs.Reflect.{clash}
 use Rattle.runs.proofs.Calls.Accepted.{flat, EnabledCall, ViolatesCall, AcceptedAll, no-call, call-more, FirstViolation}
 use Rattle.runs.proofs.Calls.First.{code-inj}
 use Rattle.runs.proofs.Calls.Rows.{Violating, accepted-is, violates-to, violates-from}
@@ -24,14 +23,6 @@ pub record Reached (p : Plan) (F : ℕ → Bool) (b : World) : Type 0 where
   pub calls : List Call
   pub accepted : AcceptedAll p F calls
   pub same : b ≡ worldAfter p F (flat calls)
-
-among-inv : {r x : ℕ} {l : List ℕ} → Among r (x ∷ l) → (r ≡ x) ⊎ Among r l
-among-inv here = inl refl
-among-inv (there y) = inr y
-
-among-nil : {r : ℕ} {l : List ℕ} → Among r l → l ≡ [] → ⊥
-among-nil here q = clash cc
-among-nil (there y) q = clash cc
 
 module _ (p : Plan) (w : WellFormed p) (F : ℕ → Bool) where
   fresh-is : fresh F ≡ worldAfter p F []
@@ -97,13 +88,13 @@ module _ (p : Plan) (w : WellFormed p) (F : ℕ → Bool) where
   }
     where
       top : (r : Refusal) → refusalOf p (After (x .calls)) (x .call) ≡ some r → Among (number r) (returns p (After (x .calls)) (x .call ∷ []))
-      top r q = rw (sym (ap code q)) here
+      top r q = here (sym (ap code q))
 
   violates-in : (cs : List Call) {ds : List Call} → AcceptedAll p F ds → (r : Refusal) → Violating r → Among (number r) (returns p (After ds) cs)
       → FirstViolation p F
   unfolding returns returned
-  violates-in [] k r v x = absurd (among-nil x refl)
-  violates-in (c ∷ cs) {ds} k r v x = go (among-inv x) (λ g m y. violates-in cs {ds = g} m r v y)
+  violates-in [] k r v x = absurd (among-none x)
+  violates-in (c ∷ cs) {ds} k r v x = go (among-cases x) (λ g m y. violates-in cs {ds = g} m r v y)
     where
       go : (number r ≡ code (refusalOf p (After ds) c)) ⊎ Among (number r) (returns p (step p (After ds) c) cs)
           → ((g : List Call) → AcceptedAll p F g → Among (number r) (returns p (After g) cs) → FirstViolation p F) → FirstViolation p F

@@ -2,7 +2,7 @@
 use Rattle.runs.proofs.Base.{_≡_, _↔_, [], _∷_, ℕ, T}
 use Rattle.runs.specs.Plan.{all-of, Plan, Child, Under, WellFormed}
 use Rattle.runs.specs.Execution.{State, Event, History, nodeOf, Begins, statusAfter, all-done, Complete, Enabled, Execution, none-yet, one-more}
-use Rattle.runs.specs.Execution.{Completed, Earlier, now, then}
+use Rattle.runs.specs.Execution.{Completed, Earlier, none-later, one-later}
 use Rattle.runs.proofs.Plan.{child-under, Branch}
 use Rattle.runs.proofs.Execution.Locality.{enabled-local, Admits, AdmitsEvent, admits-of, enabled-up, branch-of}
 use Rattle.runs.proofs.Execution.Parts.{part, part-in, after-part, part-execution, part-complete, execution-tail, execution-last}
@@ -34,7 +34,7 @@ module _ (p : Plan) (w : WellFormed p) where
   join-step {n} e h k a = enabled-up p w (statusAfter h) hc ok gate
     where
       b : Branch p n (nodeOf e)
-      b = a .inside e h now
+      b = a .inside e h none-later
 
       hc : Child p n (b .via)
       hc = b .child
@@ -44,14 +44,14 @@ module _ (p : Plan) (w : WellFormed p) where
           (execution-last p w (rw (part-in p w (b .via) e h (b .beneath)) at (a .parts (b .via) hc)))
 
       gate : AdmitsEvent p n (b .via) (statusAfter h) e
-      gate be = no-choice k (λ x hx o. part-complete p w x h .1 ((a .orders x (b .via) e h hx hc o be now (b .beneath)) .complete))
+      gate be = no-choice k (λ x hx o. part-complete p w x h .1 ((a .orders x (b .via) e h hx hc o be none-later (b .beneath)) .complete))
 
   pub all-of-join : {n : ℕ} (h : History) → p .tree .kind n ≡ all-of → AllOfExecution n h → Execution p n h
   all-of-join [] k a = none-yet
   all-of-join (e ∷ h) k a = one-more (all-of-join h k (record {
-    inside = λ e′ r q. a .inside e′ r (then q);
+    inside = λ e′ r q. a .inside e′ r (one-later q);
     parts = λ c hc. part-tail p w c e h (a .parts c hc);
-    orders = λ x b e r hx hb o be q u. a .orders x b e r hx hb o be (then q) u;
+    orders = λ x b e r hx hb o be q u. a .orders x b e r hx hb o be (one-later q) u;
   })) (join-step e h k a)
 
   -- a history is an execution of an all-of group exactly if it is so in terms of the children

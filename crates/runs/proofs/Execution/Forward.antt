@@ -1,8 +1,7 @@
--- The same executions read forwards, the first event first; and `Earlier` as a split of the list.
-use Rattle.runs.proofs.Base.{_≡_, refl, ap, _↔_, [], _∷_, _++_, reverse, reverseAux, ℕ}
+-- The same executions read forwards, the first event first.
+use Rattle.runs.proofs.Base.{_↔_, [], _∷_, reverse, reverseAux, ℕ}
 use Rattle.runs.specs.Plan.{Plan}
-use Rattle.runs.specs.Execution.{State, Event, History, moved, statusAfter, Enabled, Execution, none-yet, one-more, Earlier, now, then}
-use Rattle.runs.proofs.Execution.Histories.{earlier-append}
+use Rattle.runs.specs.Execution.{State, Event, History, moved, statusAfter, Enabled, Execution, none-yet, one-more}
 
 -- each event is allowed in the states that those before it leave
 pub data Forward (p : Plan) (n : ℕ) : State → History → Type 0 where
@@ -33,11 +32,3 @@ module _ (p : Plan) (n : ℕ) where
   -- a list of events read forwards is an execution exactly if its history is
   pub forwards : (es : History) → Forward p n (statusAfter []) es ↔ Execution p n (reverse es)
   forwards es = (forward-free es [] none-yet, free-forward es [])
-
-split-of : {r h : History} → Earlier r h → (g : History) × (h ≡ g ++ r)
-split-of now = ([], refl)
-split-of (then {e = e} q) = let (g, z) = split-of q in (e ∷ g, ap (λ l. e ∷ l) z)
-
--- r is an earlier stage of h exactly if h is r and then some more events
-pub earlier-is-split : {r h : History} → Earlier r h ↔ ((g : History) × (h ≡ g ++ r))
-earlier-is-split {r} {h} = (split-of, λ x. rw (x .1) (earlier-append (x .0) r))

@@ -1,6 +1,6 @@
 -- Histories: the states that they leave, what holds of all their events, and what they were earlier.
 use Rattle.runs.proofs.Base.{_≡_, refl, ap, _≢_, _⊎_, inl, inr, Bool, true, false, cond, [], _∷_, _++_, ℕ, T, eqb, eqb→eq, eqb-refl}
-use Rattle.runs.specs.Execution.{waiting, Event, History, nodeOf, statusOf, statusAfter, Earlier, now, then}
+use Rattle.runs.specs.Execution.{waiting, Event, History, nodeOf, statusOf, statusAfter, Earlier, none-later, one-later}
 use Rattle.runs.specs.Classes.{All, all-nil, all-cons, Anything}
 use Rattle.runs.proofs.Reflect.{clash, T-true}
 
@@ -35,8 +35,8 @@ module _ {Q : Event → Type 0} where
   all-left (e ∷ g) h (all-cons q a) = all-cons q (all-left g h a)
 
   all-earlier : {r h : History} → Earlier r h → All Q h → All Q r
-  all-earlier now a = a
-  all-earlier (then q) (all-cons x a) = all-earlier q a
+  all-earlier none-later a = a
+  all-earlier (one-later q) (all-cons x a) = all-earlier q a
 
   all-head : {e : Event} {r : History} → All Q (e ∷ r) → Q e
   all-head (all-cons x y) = x
@@ -50,22 +50,22 @@ all-anything (e ∷ h) = all-cons tt (all-anything h)
 
 -- what a history was earlier
 pub earlier-append : (g h : History) → Earlier h (g ++ h)
-earlier-append [] h = now
-earlier-append (e ∷ g) h = then (earlier-append g h)
+earlier-append [] h = none-later
+earlier-append (e ∷ g) h = one-later (earlier-append g h)
 
 pub earlier-compare : {r s h : History} → Earlier r h → Earlier s h → Earlier r s ⊎ Earlier s r
-earlier-compare now y = inr y
-earlier-compare (then x) now = inl (then x)
-earlier-compare (then x) (then y) = earlier-compare x y
+earlier-compare none-later y = inr y
+earlier-compare (one-later x) none-later = inl (one-later x)
+earlier-compare (one-later x) (one-later y) = earlier-compare x y
 
 pub earlier-nil : {e : Event} {r h : History} → Earlier (e ∷ r) h → h ≡ [] → ⊥
-earlier-nil now q = clash cc
-earlier-nil (then x) q = clash cc
+earlier-nil none-later q = clash cc
+earlier-nil (one-later x) q = clash cc
 
 pub earlier-inv : {x : Event} {r k : History} → Earlier r (x ∷ k) → (r ≡ x ∷ k) ⊎ Earlier r k
-earlier-inv now = inl refl
-earlier-inv (then q) = inr q
+earlier-inv none-later = inl refl
+earlier-inv (one-later q) = inr q
 
 pub earlier-trans : {a b c : History} → Earlier a b → Earlier b c → Earlier a c
-earlier-trans x now = x
-earlier-trans x (then y) = then (earlier-trans x y)
+earlier-trans x none-later = x
+earlier-trans x (one-later y) = one-later (earlier-trans x y)

@@ -1,7 +1,7 @@
 -- The part of a history that falls under a node: it has the states there, and is an execution of that node.
 use Rattle.runs.proofs.Base.{_≡_, refl, sym, ap, _∙_, _≢_, _↔_, [], _∷_, _++_, ℕ}
 use Rattle.runs.specs.Plan.{Plan, Child, Under, WellFormed}
-use Rattle.runs.specs.Execution.{Event, History, nodeOf, statusAfter, Complete, Enabled, Execution, none-yet, one-more, Earlier, now, then}
+use Rattle.runs.specs.Execution.{Event, History, nodeOf, statusAfter, Complete, Enabled, Execution, none-yet, one-more, Earlier, none-later, one-later}
 use Rattle.runs.proofs.Plan.{one-branch, decUnder}
 use Rattle.runs.specs.Classes.{All, all-nil, all-cons}
 use Rattle.runs.proofs.Execution.Histories.{after-other, after-cong}
@@ -71,8 +71,8 @@ module _ (p : Plan) (w : WellFormed p) where
   execution-last (one-more f m) = m
 
   pub earlier-execution : {n : ℕ} {r h : History} → Earlier r h → Execution p n h → Execution p n r
-  earlier-execution now f = f
-  earlier-execution (then q) f = earlier-execution q (execution-tail f)
+  earlier-execution none-later f = f
+  earlier-execution (one-later q) f = earlier-execution q (execution-tail f)
 
   pub part-tail : {n : ℕ} (c : ℕ) (e : Event) (h : History) → Execution p n (part c (e ∷ h)) → Execution p n (part c h)
   part-tail {n} c e h f = go (decUnder p w c (nodeOf e))

@@ -2,7 +2,7 @@
 use Rattle.runs.proofs.Base.{_≡_, ap, sym, _∙_, _≢_, [], _∷_, ℕ, ℕ-discrete}
 use Rattle.runs.specs.Plan.{task, Plan, Node, Under, WellFormed}
 use Rattle.runs.specs.Execution.{Status, waiting, running, done, Event, start, finish, History, nodeOf, statusAfter, Complete, can-finish}
-use Rattle.runs.specs.Execution.{Execution, none-yet, one-more, Earlier, now, then}
+use Rattle.runs.specs.Execution.{Execution, none-yet, one-more, Earlier, none-later, one-later}
 use Rattle.runs.proofs.Reflect.{clash}
 use Rattle.runs.proofs.Plan.{decUnder}
 use Rattle.runs.proofs.Execution.Histories.{after-nil, after-same, after-other}
@@ -17,8 +17,8 @@ running-started (e ∷ h) t q = go e (ℕ-discrete t (nodeOf e)) q (λ y. runnin
   where
     go : (e : Event) → Dec (t ≡ nodeOf e) → statusAfter (e ∷ h) t ≡ running → (statusAfter h t ≡ running → (r : History) × Earlier (start t ∷ r) h)
         → (r : History) × Earlier (start t ∷ r) (e ∷ h)
-    go e (no k) q ih = let (r, x) = ih (sym (after-other e h t k) ∙ q) in (r, then x)
-    go (start x) (yes k) q ih = (h, rw k now)
+    go e (no k) q ih = let (r, x) = ih (sym (after-other e h t k) ∙ q) in (r, one-later x)
+    go (start x) (yes k) q ih = (h, rw k none-later)
     go (finish x) (yes k) q ih = let y : statusAfter (finish x ∷ h) x ≡ done = after-same (finish x) h in
         let u : statusAfter (finish x ∷ h) x ≡ running = rw k at q in clash cc
 

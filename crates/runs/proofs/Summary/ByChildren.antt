@@ -3,7 +3,7 @@
 use Rattle.runs.proofs.Base.{_≡_, refl, _∙_, _⊎_, inl, inr, _↔_, Iff·trans, Bool, Option, none, some, [], _∷_, ℕ}
 use Rattle.runs.specs.Tests.{negate}
 use Rattle.runs.specs.Plan.{all-of, pre, inc, post, Plan, Node, Child, Before, WellFormed}
-use Rattle.runs.specs.Execution.{Event, start, finish, History, lastAssertedOf, lastAsserted, Earlier, now, then}
+use Rattle.runs.specs.Execution.{Event, start, finish, History, lastAssertedOf, lastAsserted, Earlier, none-later, one-later}
 use Rattle.runs.specs.Summary.{May, Must, ExternalPre, ExternalPost, Incondition}
 use Rattle.runs.specs.Model.Marks.{quietB, beginsIncB}
 use Rattle.runs.proofs.Reflect.{clash, Reflects, decided, r-negate}
@@ -46,7 +46,7 @@ module _ (p : Plan) (w : WellFormed p) where
       -- at a task: it has the condition
       pub pre-task : (n : ℕ) → ExternalPre p f v (whole n) ↔ (p .cond .sign pre n f ≡ some v)
       unfolding lastAssertedOf
-      pre-task n = (λ x. at (x .needs) (one-of n (x .at)), λ q. record { event = start n; before = []; at = then now; needs = q; unasserted = refl })
+      pre-task n = (λ x. at (x .needs) (one-of n (x .at)), λ q. record { event = start n; before = []; at = one-later none-later; needs = q; unasserted = refl })
         where
           at : {e : Event} → PreOn p f v e → (e ≡ finish n) ⊎ (e ≡ start n) → p .cond .sign pre n f ≡ some v
           at q (inl z) = let y : PreOn p f v (finish n) = rw z at q in clash cc
@@ -65,7 +65,7 @@ module _ (p : Plan) (w : WellFormed p) where
       pub inc-task : (n : ℕ) → Incondition p f v (whole n) ↔ (p .cond .sign inc n f ≡ some v)
       inc-task n = (
         λ x. let b = incondition-begun p f v x in at (b .begins) (one-of n (b .at)),
-        λ q. begun-incondition p f v (record { event = start n; before = []; at = then now; begins = q }),
+        λ q. begun-incondition p f v (record { event = start n; before = []; at = one-later none-later; begins = q }),
       )
         where
           at : {e : Event} → BeginsInc p f v e → (e ≡ finish n) ⊎ (e ≡ start n) → p .cond .sign inc n f ≡ some v

@@ -1,7 +1,7 @@
 -- May and must incondition, through quiet and meet: a task with it runs at some time exactly if an event of the history begins it.
 use Rattle.runs.proofs.Base.{_⊎_, inl, inr, _↔_, Bool, [], _∷_, _++_, ℕ}
 use Rattle.runs.specs.Plan.{Plan, Node, WellFormed}
-use Rattle.runs.specs.Execution.{Event, start, finish, History, Completed, Earlier, now, then}
+use Rattle.runs.specs.Execution.{Event, start, finish, History, Completed, Earlier, none-later, one-later}
 use Rattle.runs.specs.Summary.{May, Must, Incondition}
 use Rattle.runs.proofs.Reflect.{decided}
 use Rattle.runs.specs.Classes.{All, all-nil, all-cons, Anything, BeginsInc, MayQuiet, MayMeet}
@@ -62,9 +62,9 @@ module _ (p : Plan) (f : ℕ) (v : Bool) where
         look (e ∷ h) = go (decided (r-begins-inc p f v e)) (look h)
           where
             go : Dec (BeginsInc p f v e) → All (λ e. ¬ BeginsInc p f v e) h ⊎ Begun h → All (λ e. ¬ BeginsInc p f v e) (e ∷ h) ⊎ Begun (e ∷ h)
-            go d (inr x) = inr (record { event = x .event; before = x .before; at = then (x .at); begins = x .begins })
+            go d (inr x) = inr (record { event = x .event; before = x .before; at = one-later (x .at); begins = x .begins })
             go (no k) (inl a) = inl (all-cons k a)
-            go (yes q) (inl a) = inr (record { event = e; before = h; at = now; begins = q })
+            go (yes q) (inl a) = inr (record { event = e; before = h; at = none-later; begins = q })
 
         at : (¬ MayQuiet p (λ e. ¬ BeginsInc p f v e) n) → (h : History) → Completed p n h → All (λ e. ¬ BeginsInc p f v e) h ⊎ Begun h
             → Incondition p f v h

@@ -2,7 +2,7 @@
 use Rattle.runs.proofs.Base.{_≡_, refl, sym, _≢_, _⊎_, inl, inr, Bool, not, Option, none, some, [], _∷_, ℕ, ℕ-discrete}
 use Rattle.runs.specs.Plan.{all-of, Plan, Child, Under, Before, Unordered, WellFormed, Node}
 use Rattle.runs.specs.Execution.{Event, History, nodeOf, statusAfter, Execution, Completed, preOf, lastAssertedOf, asserts, lastAsserted}
-use Rattle.runs.specs.Execution.{Earlier, now, then}
+use Rattle.runs.specs.Execution.{Earlier, none-later, one-later}
 use Rattle.runs.specs.Summary.{Must, ExternalPre, ExternalPost, Silent, MustClobber, by-any-of, by-child, by-pair, MayClobber, precondition}
 use Rattle.runs.proofs.Reflect.{clash}
 use Rattle.runs.proofs.Plan.{Branch, decUnder, decBefore}
@@ -33,7 +33,7 @@ module _ (p : Plan) (w : WellFormed p) where
   in-history c e k (x ∷ h) q = go (decUnder p w c (nodeOf x)) (λ z. in-history c e k h z)
     where
       up : InHistory c e k h → InHistory c e k (x ∷ h)
-      up i = record { before = i .before; at = then (i .at); same = i .same; beneath = i .beneath }
+      up i = record { before = i .before; at = one-later (i .at); same = i .same; beneath = i .beneath }
 
       go : Dec (Under p c (nodeOf x)) → (Earlier (e ∷ k) (part p w c h) → InHistory c e k h) → InHistory c e k (x ∷ h)
       go (no n) ih = up (ih (rw (part-out p w c x h n) at q))
@@ -42,14 +42,14 @@ module _ (p : Plan) (w : WellFormed p) where
           split : (e ∷ k ≡ x ∷ part p w c h) ⊎ Earlier (e ∷ k) (part p w c h) → InHistory c e k (x ∷ h)
           split (inr z) = up (ih z)
           split (inl z) = let same-e : e ≡ x = cc in let same-k : k ≡ part p w c h = cc in
-              record { before = h; at = rw same-e now; same = sym same-k; beneath = rw same-e u }
+              record { before = h; at = rw same-e none-later; same = sym same-k; beneath = rw same-e u }
 
   pub earlier-part : {b : ℕ} {e : Event} {s r : History} → Under p b (nodeOf e) → Earlier (e ∷ s) r → Earlier (e ∷ part p w b s) (part p w b r)
-  earlier-part {b} {e} {s} u now = rw (part-in p w b e s u) now
-  earlier-part {b} {e} {s} u (then {e = x} {h = l} y) = lift (decUnder p w b (nodeOf x)) (earlier-part u y)
+  earlier-part {b} {e} {s} u none-later = rw (part-in p w b e s u) none-later
+  earlier-part {b} {e} {s} u (one-later {e = x} {h = l} y) = lift (decUnder p w b (nodeOf x)) (earlier-part u y)
     where
       lift : Dec (Under p b (nodeOf x)) → Earlier (e ∷ part p w b s) (part p w b l) → Earlier (e ∷ part p w b s) (part p w b (x ∷ l))
-      lift (yes v) y = rw (part-in p w b x l v) (then y)
+      lift (yes v) y = rw (part-in p w b x l v) (one-later y)
       lift (no k) y = rw (part-out p w b x l k) y
 
   -- a part's last assertion is the history's, if no other one comes after the part has begun
@@ -58,14 +58,14 @@ module _ (p : Plan) (w : WellFormed p) where
       → lastAsserted p (part p w c r) f ≡ some u → lastAsserted p r f ≡ some u
   unfolding lastAssertedOf
   last-of-part f u c [] k q = rw (part-nil p w c) at q
-  last-of-part f u c (e ∷ s) k q = go (decUnder p w c (nodeOf e)) (asserts p e f) refl (λ z. last-of-part f u c s (λ x r y. k x r (then y)) z)
+  last-of-part f u c (e ∷ s) k q = go (decUnder p w c (nodeOf e)) (asserts p e f) refl (λ z. last-of-part f u c s (λ x r y. k x r (one-later y)) z)
     where
       go : Dec (Under p c (nodeOf e)) → (o : Option Bool) → asserts p e f ≡ o
           → (lastAsserted p (part p w c s) f ≡ some u → lastAsserted p s f ≡ some u) → lastAsserted p (e ∷ s) f ≡ some u
       go (yes v) none wr ih = let q′ : lastAsserted p (e ∷ part p w c s) f ≡ some u = rw (part-in p w c e s v) at q in rw wr (ih (rw wr at q′))
       go (yes v) (some o) wr ih = let q′ : lastAsserted p (e ∷ part p w c s) f ≡ some u = rw (part-in p w c e s v) at q in rw wr (rw wr at q′)
       go (no n) none wr ih = rw wr (ih (rw (part-out p w c e s n) at q))
-      go (no n) (some o) wr ih = absurd (at (k e s now (λ z. clash cc)))
+      go (no n) (some o) wr ih = absurd (at (k e s none-later (λ z. clash cc)))
         where
           at : Under p c (nodeOf e) ⊎ (part p w c s ≡ []) → ⊥
           at (inl v) = n v
@@ -79,6 +79,19 @@ module _ (p : Plan) (w : WellFormed p) where
           → Earlier (e ∷ s) r → Under p b (nodeOf e) → ⊥
       not-yet hb fr ut q x u = earlier-nil (earlier-part u x) (apart p w fr hb q ut)
 
+      -- an event that asserts is one of c, or comes before c has begun, if no child that is not before c can have it
+      where-is : {c : ℕ} {e : Event} {s : History} → Child p n c → Execution p n (e ∷ s)
+          → ((b : ℕ) → Child p n b → Under p b (nodeOf e) → b ≢ c → ¬ Before p b c → ⊥) → Under p c (nodeOf e) ⊎ (part p w c s ≡ [])
+      where-is {c} {e} {s} hc fe others = go (ℕ-discrete (be .via) c) (decBefore p w (be .via) c)
+        where
+          be : Branch p n (nodeOf e)
+          be = branch-of p w (statusAfter s) kn (execution-last p w fe)
+
+          go : Dec (be .via ≡ c) → Dec (Before p (be .via) c) → Under p c (nodeOf e) ⊎ (part p w c s ≡ [])
+          go (yes z) y = inl (rw z at (be .beneath))
+          go (no k) (yes y) = inr (apart p w fe hc y (be .beneath))
+          go (no k) (no y) = absurd (others (be .via) (be .child) (be .beneath) k y)
+
       child-fails : (c : ℕ) → Child p n c → ((b : ℕ) → Child p n b → Unordered p b c → Silent p f b) → (h : History) → Execution p n h
           → Fails p f v (part p w c h) → Fails p f v h
       child-fails c hc un h fh y = record {
@@ -86,32 +99,24 @@ module _ (p : Plan) (w : WellFormed p) where
         before = i .before;
         at = i .at;
         needs = y .needs;
-        opposed = last-of-part f (not v) c (i .before) where-is (rw (i .same) (y .opposed));
+        opposed = last-of-part f (not v) c (i .before) in-c (rw (i .same) (y .opposed));
       }
         where
           i : InHistory c (y .event) (y .before) h
           i = in-history c (y .event) (y .before) h (y .at)
 
-          where-is : (e : Event) (s : History) → Earlier (e ∷ s) (i .before) → ¬ Unasserted p f e → Under p c (nodeOf e) ⊎ (part p w c s ≡ [])
-          where-is e s x nu = go (ℕ-discrete b c) (decBefore p w b c) (decBefore p w c b)
-            where
-              fr : Execution p n (y .event ∷ i .before)
-              fr = earlier-execution p w (i .at) fh
+          fr : Execution p n (y .event ∷ i .before)
+          fr = earlier-execution p w (i .at) fh
 
+          in-c : (e : Event) (s : History) → Earlier (e ∷ s) (i .before) → ¬ Unasserted p f e → Under p c (nodeOf e) ⊎ (part p w c s ≡ [])
+          in-c e s x nu = where-is hc fe (λ b hb ub k y. go b hb ub k y (decBefore p w c b))
+            where
               fe : Execution p n (e ∷ s)
               fe = earlier-execution p w x (execution-tail p w fr)
 
-              be : Branch p n (nodeOf e)
-              be = branch-of p w (statusAfter s) kn (execution-last p w fe)
-
-              b : ℕ
-              b = be .via
-
-              go : Dec (b ≡ c) → Dec (Before p b c) → Dec (Before p c b) → Under p c (nodeOf e) ⊎ (part p w c s ≡ [])
-              go (yes z) y₁ y₂ = inl (rw z at (be .beneath))
-              go (no k) (yes y) y₂ = inr (apart p w fe hc y (be .beneath))
-              go (no k) (no y) (yes z) = absurd (not-yet (be .child) fr (i .beneath) z x (be .beneath))
-              go (no k) (no y) (no z) = absurd (nu (un b (be .child) (record { distinct = k; not-before = y; not-after = z }) e (enabled-of-task p (execution-last p w fe)) (be .beneath)))
+              go : (b : ℕ) → Child p n b → Under p b (nodeOf e) → b ≢ c → ¬ Before p b c → Dec (Before p c b) → ⊥
+              go b hb ub k y (yes z) = not-yet hb fr (i .beneath) z x ub
+              go b hb ub k y (no z) = nu (un b hb (record { distinct = k; not-before = y; not-after = z }) e (enabled-of-task p (execution-last p w fe)) ub)
 
       pair-fails : (c d : ℕ) → Child p n c → Child p n d → Before p d c → Must p d (ExternalPost p f (not v)) → Must p c (ExternalPre p f v)
           → ((b : ℕ) → Child p n b → b ≢ c → b ≢ d → ¬ Before p b d → ¬ Before p c b → Silent p f b) → (h : History) → Completed p n h → Fails p f v h
@@ -120,7 +125,7 @@ module _ (p : Plan) (w : WellFormed p) where
         before = i .before;
         at = i .at;
         needs = nx .needs;
-        opposed = last-of-part f (not v) d (i .before) where-is (ml (part p w d (i .before)) whole-d);
+        opposed = last-of-part f (not v) d (i .before) in-d (ml (part p w d (i .before)) whole-d);
       }
         where
           nx : ExternalPre p f v (part p w c h)
@@ -129,34 +134,25 @@ module _ (p : Plan) (w : WellFormed p) where
           i : InHistory c (nx .event) (nx .before) h
           i = in-history c (nx .event) (nx .before) h (nx .at)
 
+          fr : Execution p n (nx .event ∷ i .before)
+          fr = earlier-execution p w (i .at) (wh .execution)
+
           whole-d : Completed p d (part p w d (i .before))
-          whole-d = completed-before p w (nx .event) (i .before) hc (earlier-execution p w (i .at) (wh .execution)) (i .beneath) dc
+          whole-d = completed-before p w (nx .event) (i .before) hc fr (i .beneath) dc
 
-          where-is : (e : Event) (s : History) → Earlier (e ∷ s) (i .before) → ¬ Unasserted p f e → Under p d (nodeOf e) ⊎ (part p w d s ≡ [])
-          where-is e s x nu = go (ℕ-discrete b d) (ℕ-discrete b c) (decBefore p w b d) (decBefore p w c b)
+          in-d : (e : Event) (s : History) → Earlier (e ∷ s) (i .before) → ¬ Unasserted p f e → Under p d (nodeOf e) ⊎ (part p w d s ≡ [])
+          in-d e s x nu = where-is hd fe (λ b hb ub k y. go b hb ub k y (ℕ-discrete b c) (decBefore p w c b))
             where
-              fr : Execution p n (nx .event ∷ i .before)
-              fr = earlier-execution p w (i .at) (wh .execution)
-
               fe : Execution p n (e ∷ s)
               fe = earlier-execution p w x (execution-tail p w fr)
 
-              be : Branch p n (nodeOf e)
-              be = branch-of p w (statusAfter s) kn (execution-last p w fe)
+              in-part : {b : ℕ} → Under p b (nodeOf e) → b ≡ c → Earlier (e ∷ part p w c s) (part p w c (i .before))
+              in-part ub z = earlier-part (rw z at ub) x
 
-              b : ℕ
-              b = be .via
-
-              in-part : b ≡ c → Earlier (e ∷ part p w c s) (part p w c (i .before))
-              in-part z = earlier-part (rw z at (be .beneath)) x
-
-              go : Dec (b ≡ d) → Dec (b ≡ c) → Dec (Before p b d) → Dec (Before p c b) → Under p d (nodeOf e) ⊎ (part p w d s ≡ [])
-              go (yes z) y₁ y₂ y₃ = inl (rw z at (be .beneath))
-              go (no k) (yes z) y₂ y₃ = absurd (nu (all-at {Q = Unasserted p f} (in-part z)
-                  (rw (i .same) (unasserted-all p f (nx .before) (nx .unasserted)))))
-              go (no k) (no k′) (yes y) y₃ = inr (apart p w fe hd y (be .beneath))
-              go (no k) (no k′) (no y) (yes z) = absurd (not-yet (be .child) fr (i .beneath) z x (be .beneath))
-              go (no k) (no k′) (no y) (no z) = absurd (nu (others b (be .child) k′ k y z e (enabled-of-task p (execution-last p w fe)) (be .beneath)))
+              go : (b : ℕ) → Child p n b → Under p b (nodeOf e) → b ≢ d → ¬ Before p b d → Dec (b ≡ c) → Dec (Before p c b) → ⊥
+              go b hb ub k y (yes z) y₁ = nu (all-at {Q = Unasserted p f} (in-part ub z) (rw (i .same) (unasserted-all p f (nx .before) (nx .unasserted))))
+              go b hb ub k y (no k′) (yes z) = not-yet hb fr (i .beneath) z x ub
+              go b hb ub k y (no k′) (no z) = nu (others b hb k′ k y z e (enabled-of-task p (execution-last p w fe)) ub)
 
     -- every completed execution of a node that must clobber fails
     pub must-clobber-fails : {n : ℕ} → MustClobber p f v n → (h : History) → Completed p n h → Fails p f v h

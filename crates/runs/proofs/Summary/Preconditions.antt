@@ -1,7 +1,7 @@
 -- May and must external precondition, through quiet and meet.
 use Rattle.runs.proofs.Base.{_≡_, _⊎_, inl, inr, _↔_, Bool, none, [], _∷_, _++_, ℕ}
 use Rattle.runs.specs.Plan.{Plan, Node, WellFormed}
-use Rattle.runs.specs.Execution.{Event, History, Execution, Completed, asserts, Earlier, now, then}
+use Rattle.runs.specs.Execution.{Event, History, Execution, Completed, asserts, Earlier, none-later, one-later}
 use Rattle.runs.specs.Summary.{May, Must, ExternalPre}
 use Rattle.runs.proofs.Reflect.{decided}
 use Rattle.runs.specs.Classes.{All, all-nil, all-cons, Unasserted, PreOn, Neutral, Covers, MayQuiet, MayMeet}
@@ -50,11 +50,11 @@ module _ (p : Plan) (w : WellFormed p) (f : ℕ) (v : Bool) where
   outcome-next e h (all-neutral a) = go (decided (r-pre p f v e)) (decided (r-unasserted p f e))
     where
       go : Dec (PreOn p f v e) → Dec (asserts p e f ≡ none) → Outcome (e ∷ h)
-      go (yes q) d = needed (record { event = e; before = h; at = now; needs = q; unasserted = all-unasserted p f (neutral-unasserted a) })
+      go (yes q) d = needed (record { event = e; before = h; at = none-later; needs = q; unasserted = all-unasserted p f (neutral-unasserted a) })
       go (no k) (yes u) = all-neutral (all-cons (k, u) a)
-      go (no k) (no k′) = covered e h now (k, k′) a
-  outcome-next e h (needed x) = needed (record { event = x .event; before = x .before; at = then (x .at); needs = x .needs; unasserted = x .unasserted })
-  outcome-next e h (covered x r q s a) = covered x r (then q) s a
+      go (no k) (no k′) = covered e h none-later (k, k′) a
+  outcome-next e h (needed x) = needed (record { event = x .event; before = x .before; at = one-later (x .at); needs = x .needs; unasserted = x .unasserted })
+  outcome-next e h (covered x r q s a) = covered x r (one-later q) s a
 
   outcome : (h : History) → Outcome h
   outcome [] = all-neutral all-nil
@@ -69,10 +69,10 @@ module _ (p : Plan) (w : WellFormed p) (f : ℕ) (v : Bool) where
 
       not-both : {h : History} (e : Event) (r : History) → Covers p f v e → All (Neutral p f v) r → (x : ExternalPre p f v h)
           → Earlier (e ∷ r) (x .event ∷ x .before) ⊎ Earlier (x .event ∷ x .before) (e ∷ r) → ⊥
-      not-both e r s a x (inl now) = s .0 (x .needs)
-      not-both e r s a x (inl (then q)) = s .1 (all-at q (unasserted-all p f (x .before) (x .unasserted)))
-      not-both e r s a x (inr now) = s .0 (x .needs)
-      not-both e r s a x (inr (then q)) = (all-at q a) .0 (x .needs)
+      not-both e r s a x (inl none-later) = s .0 (x .needs)
+      not-both e r s a x (inl (one-later q)) = s .1 (all-at q (unasserted-all p f (x .before) (x .unasserted)))
+      not-both e r s a x (inr none-later) = s .0 (x .needs)
+      not-both e r s a x (inr (one-later q)) = (all-at q a) .0 (x .needs)
 
       meet-not : ((h : History) → Completed p n h → ExternalPre p f v h) → MayMeet p (Neutral p f v) (Covers p f v) n → ⊥
       meet-not m q = let g : Extended p w n (q .event ∷ q .before) = extends p w n l (q .event ∷ q .before) (q .execution) in

@@ -71,7 +71,7 @@ module _ (p : Plan) (w : WellFormed p) (F : ℕ → Bool) where
       at c f v (inl x) = c .no-clobber f v x
       at c f v (inr (q, x)) = c .no-pre f v q x
 
-  doomed-is : Doomed p F ↔ SomeLiteral (MustFail p F)
+  pub doomed-is : Doomed p F ↔ SomeLiteral (MustFail p F)
   doomed-is = (to, λ x. from (x .0) (x .1) (x .2))
     where
       to : Doomed p F → SomeLiteral (MustFail p F)

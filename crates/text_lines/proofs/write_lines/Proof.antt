@@ -2,7 +2,8 @@
 use Prim.Native.Nat.{_-_, _≤_}
 use Rattle.plan_check.proofs.Accepted.{clean}
 use Rattle.text_decimals.proofs.Written.{wrote-long}
-use Rattle.text_lines.proofs.Text.{LinesTo, ranking-short, lines-none, line-task, lines-turn, lines-all}
+use Rattle.text_order.proofs.Order.{ranking-length}
+use Rattle.text_lines.proofs.Text.{LinesTo, lines-none, line-task, lines-turn, lines-all}
 use native.Mathlib.Omega.{arith}
 use borrow.Author.Needs.{needs}
 use Rattle.text_lines.proofs.write_lines.Statement.{statement}
@@ -18,7 +19,7 @@ loop-holds : tie.Need-loop-holds Inv-loop μ-loop
 loop-holds c = (omega arith, lines-none (clean _ (c .before .before .pre .0)))
 
 element-copy-out-wide : tie.Need-element-copy-out-wide Inv-loop μ-loop
-element-copy-out-wide c = let s = c .before .before .before .before in omega (arith, s .pre .2 .count, ranking-short (clean _ (s .pre .0)))
+element-copy-out-wide c = let s = c .before .before .before .before in omega (arith, s .pre .2 .count, ranking-length _ (clean _ (s .pre .0)))
 
 mul-wait : tie.Need-mul-wait Inv-loop μ-loop
 mul-wait c = omega (arith, c .wide .ensures)
@@ -36,7 +37,7 @@ write-line-requires c κs =
     let s = l .before .before .before in
     let ok = clean _ (s .pre .0) in
     let t = line-task ok (s .pre .2) (omega arith) (c .before .before .wide .ensures .0) .0 in
-    (s .pre .0, t, s .pre .1 .is _ t, omega (arith, s .pre .3, s .pre .2 .count, l .loop .inv .1 .short, ranking-short ok, wrote-long (l .loop .inv .1 .wrote)))
+    (s .pre .0, t, s .pre .1 .is _ t, omega (arith, s .pre .3, s .pre .2 .count, l .loop .inv .1 .short, ranking-length _ ok, wrote-long (l .loop .inv .1 .wrote)))
 
 loop-again : tie.Need-loop-again Inv-loop μ-loop
 loop-again c =

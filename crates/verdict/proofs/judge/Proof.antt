@@ -14,7 +14,7 @@ returns c = judged-clear _ (c .before .before .before .before .before .before .p
 returns-2 : tie.Need-returns-2
 returns-2 c =
     let d = c .before .before .before .before in
-    judged-doomed _ (d .before .before .before .before .before .pre) (d .before .before .before .node-words .ensures) (d .before .before .start-word .ensures) (search needs) (search needs) (d .failing .ensures) (c .before .before .before .if1 .left) (c .before .failing2 .ensures) (c .if2 .taken)
+    judged-doomed _ (d .before .before .before .before .before .pre) (d .before .before .before .node-words .ensures) (d .before .before .start-word .ensures) (search needs) (c .before .failing2 .ensures) (c .if2 .taken)
 
 returns-3 : tie.Need-returns-3
 returns-3 c =

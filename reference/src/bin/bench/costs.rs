@@ -1,164 +1,124 @@
-//! Plans of many shapes, from the slightest to the worst that are known, and what each makes much
-//! work of.
+//! The time of every call on plans of many shapes: the table of docs/costs.md.
 
-use reference::format::{Plan, Sizes, CLEAR, NO_PARENT, SET};
-use reference::generate::{plan, Shape, LIMITS};
-use reference::random::Random;
+use std::hint::black_box;
 
-pub struct Shaped {
-    pub name: &'static str,
-    pub most_work: &'static str,
-    pub plan: Plan,
-}
+use reference::model::calls::Call;
+use reference::model::events::{Event, Statuses};
+use reference::model::format::{Plan, PRECONDITION, SET};
+use reference::model::listing::LISTING_LEN;
+use reference::model::monitor::{state_len, State};
+use reference::model::summary::summary_len;
+use reference::model::verdict::verdict;
+use reference::tools::archive;
+use reference::tools::scenario::Case;
 
-/// All shapes, the slightest first.
-pub fn shapes() -> Vec<Shaped> {
-    let mut random = Random::new(102);
-    let mut all = nested(&mut random);
-    all.extend(flat(&mut random));
-    all.extend(worst());
-    all
-}
+use crate::shapes::{shapes, Shaped};
+use crate::timing::{grouped, least, medians};
 
-fn shaped(name: &'static str, most_work: &'static str, plan: Plan) -> Shaped {
-    Shaped {
-        name,
-        most_work,
-        plan,
+/// Each time is the least of so many medians, taken in rounds over all plans.
+const ROUNDS: usize = 8;
+
+/// The calls of one plan.
+const CALLS: usize = 8;
+
+pub fn print() {
+    let shapes = shapes();
+    let cases: Vec<[Case; CALLS]> = shapes.iter().map(|shaped| cases(&shaped.plan)).collect();
+    cases.iter().flatten().for_each(check);
+    let round = |_| cases.iter().map(times).collect();
+    let rounds: Vec<Vec<[f64; CALLS]>> = (0..ROUNDS).map(round).collect();
+    heading(&cases[0]);
+    for (at, shaped) in shapes.iter().enumerate() {
+        let of_call = |call: usize| least(rounds.iter().map(|round| round[at][call]));
+        row(shaped, (0..CALLS).map(of_call));
     }
 }
 
-fn drawn(random: &mut Random, conditions: usize, orders: usize, shape: Shape) -> Plan {
-    let sizes = Sizes {
-        conditions,
-        orders,
-        ..LIMITS
+/// Every call as it is timed: accepted, so that it makes all its checks. Start and finish are those
+/// of one task that nothing has to come before, with its needs met; the status is that after both.
+fn cases(plan: &Plan) -> [Case; CALLS] {
+    let task = first_task(plan);
+    let (start, finish) = (Event::Start(task), Event::Finish(task));
+    let waiting = ready(plan, task);
+    let running = waiting.step(plan, start).expect("an admitted start");
+    let done = running.step(plan, finish).expect("an admitted finish");
+    let bytes = |state: &State| {
+        let mut bytes = vec![0; state_len(plan)];
+        state.write(&mut bytes);
+        bytes
     };
-    plan(random, sizes, shape)
-}
-
-/// Random plans of groups in groups.
-fn nested(random: &mut Random) -> Vec<Shaped> {
-    let rules = "rules, blank tables";
-    let siblings = "each two siblings of its eight groups";
-    let shapes = [
-        ("each node under the one before it", rules, Shape::Chain),
-        ("deep, random", rules, Shape::Deep),
-        ("even, random", rules, Shape::Even),
-        ("bushy, random", siblings, Shape::Bushy),
-    ];
-    let draw = |(name, most_work, shape)| {
-        let plan = drawn(random, LIMITS.conditions, LIMITS.orders, shape);
-        shaped(name, most_work, plan)
-    };
-    shapes.into_iter().map(draw).collect()
-}
-
-/// One group of 127 tasks.
-fn flat(random: &mut Random) -> Vec<Shaped> {
-    let siblings = "each two siblings";
-    vec![
-        shaped("flat, bare, no order", siblings, Plan::flat(64, 128)),
-        shaped("flat, one chain, bare", siblings, chain(127, 0, 0)),
-        shaped(
-            "flat, 1,024 random conditions, no order",
-            siblings,
-            drawn(random, 1_024, 0, Shape::Flat),
-        ),
-        shaped(
-            "flat, 1,024 random conditions, 512 random orders",
-            siblings,
-            drawn(random, 1_024, 512, Shape::Flat),
-        ),
+    [
+        (Call::Refusal, Vec::new()),
+        (Call::Verdict, Vec::new()),
+        (Call::Summary(0), vec![0; summary_len(plan)]),
+        (Call::Fresh, vec![0; state_len(plan)]),
+        (Call::Event(start), bytes(&waiting)),
+        (Call::Event(finish), bytes(&running)),
+        (Call::Status, bytes(&done)),
+        (Call::Listing, vec![0; LISTING_LEN]),
     ]
+    .map(|(call, lent)| Case {
+        call,
+        plan: plan.bytes(),
+        lent,
+    })
 }
 
-/// One group of 127 tasks, made so that the search has much to do.
-fn worst() -> Vec<Shaped> {
-    let shared = "each two siblings, those that share a literal";
-    let settled = "for each two siblings that share a literal, the children up to the one that \
-                   settles it";
-    vec![
-        shaped(
-            "flat, no order, 126 clashes, all with the last child",
-            "each two siblings",
-            unordered(chain(126, 0, 63)),
-        ),
-        shaped(
-            "flat, one chain, each needs what the last left",
-            shared,
-            chain(127, 4, 0),
-        ),
-        shaped(
-            "such a chain and 122 such clashes",
-            shared,
-            chain(126, 3, 61),
-        ),
-        shaped(
-            "flat, 84 tasks, one after them all, 42 after that one",
-            settled,
-            funnel(84, 42),
-        ),
-    ]
+/// The first child of the first child and so on from the root: orders go upwards, so none applies.
+fn first_task(plan: &Plan) -> usize {
+    let mut node = 0;
+    while let Some(child) = plan.children(node).next() {
+        node = child;
+    }
+    node
 }
 
-/// An all-of root with so many tasks in a chain.
-///
-/// Each needs the `toggled` flags as the one before left them. Most pairs of tasks share a literal
-/// that the one leaves and the other needs the opposite of, and only what stands between shows that
-/// it is left otherwise by then.
-///
-/// With `broken` flags a last task, unordered, needs them clear and holds them set, and for each of
-/// their literals one task of the chain leaves the opposite: the search finds one clash at a time,
-/// each at the last child.
-fn chain(tasks: usize, toggled: u16, broken: u16) -> Plan {
-    let mut plan = Plan::new(64).all_of(b"ROOT", NO_PARENT);
-    // A literal broken costs a condition of a task in the chain, a flag three of the last task.
-    let room = LIMITS.conditions - usize::from(2 * broken + 3 * broken);
-    let mut toggles = 0;
-    for task in 0..tasks {
-        plan = plan.task(b"TASK", 0, 1);
-        for flag in 0..toggled {
-            let sign = |task: usize| (task >> flag & 1) as u16;
-            if toggles + 2 <= room {
-                plan = plan.pre(flag, sign(task)).post(flag, sign(task + 1));
-                toggles += 2;
-            }
-        }
-        if task < usize::from(2 * broken) {
-            plan = plan.post(63 - task as u16 / 2, task as u16 % 2);
-        }
-        if task > 0 {
-            plan = plan.order(task as u8, task as u8 + 1);
-        }
+/// All tasks wait, and the flags are as at the start but for the needs of the task, which are met.
+fn ready(plan: &Plan, task: usize) -> State {
+    let mut flags = u64::from_le_bytes(plan.start);
+    for need in plan.conditions_of(task, PRECONDITION) {
+        let bit = 1 << need.flag;
+        flags = if need.sign == SET {
+            flags | bit
+        } else {
+            flags & !bit
+        };
     }
-    if broken > 0 {
-        plan = plan.task(b"LAST", 0, 1);
-        for flag in 64 - broken..64 {
-            plan = plan.pre(flag, CLEAR).inc(flag, SET).post(flag, CLEAR);
-        }
+    State {
+        flags,
+        statuses: Statuses::all_waiting(plan),
     }
-    plan.conditions.sort_by_key(|c| (c.node, c.value));
-    plan
 }
 
-/// An all-of root with `before` unordered tasks, one after all of them, and `after` unordered tasks
-/// after that one, which puts right what the first leave and the last need.
-fn funnel(before: u8, after: u8) -> Plan {
-    let mut plan = Plan::new(64).all_of(b"ROOT", NO_PARENT);
-    for _ in 0..before {
-        plan = plan.task(b"FIRS", 0, 1).post(1, CLEAR).post(0, SET);
-    }
-    plan = plan.task(b"MIDD", 0, 1).post(0, CLEAR).post(1, SET);
-    for _ in 0..after {
-        plan = plan.task(b"LAST", 0, 1).pre(0, CLEAR).pre(1, SET);
-    }
-    let middle = before + 1;
-    plan = (1..middle).fold(plan, |plan, first| plan.order(first, middle));
-    (middle + 1..=middle + after).fold(plan, |plan, last| plan.order(middle, last))
+/// What is timed must be right, and accepted.
+fn check(case: &Case) {
+    let returned = case.compare(archive::make);
+    assert!(returned == 0 || returned >= 128, "{returned}");
 }
 
-fn unordered(mut plan: Plan) -> Plan {
-    plan.orders.clear();
-    plan
+/// Each call by itself, with what it is lent written anew each time.
+fn times(cases: &[Case; CALLS]) -> [f64; CALLS] {
+    cases.each_ref().map(|case| {
+        let (mut plan, mut lent) = (case.plan.clone(), case.lent.clone());
+        let mut call = || {
+            lent.copy_from_slice(&case.lent);
+            archive::make(case.call, black_box(&mut plan), black_box(&mut lent))
+        };
+        let [time] = medians([&mut call]);
+        time
+    })
+}
+
+fn heading(cases: &[Case; CALLS]) {
+    let names: Vec<&str> = cases.iter().map(|case| case.call.name()).collect();
+    println!("| plan | C | K | answer | {} |", names.join(" | "));
+    println!("|---|---|---|---{}|", "|---".repeat(CALLS));
+}
+
+fn row(Shaped { name, plan }: &Shaped, times: impl Iterator<Item = f64>) {
+    let [conditions, orders] = [plan.conditions.len(), plan.orders.len()].map(grouped);
+    let word = verdict(plan).word();
+    let times: Vec<String> = times.map(|time| format!("{time:.0}")).collect();
+    let times = times.join(" | ");
+    println!("| {name} | {conditions} | {orders} | {word} | {times} |");
 }

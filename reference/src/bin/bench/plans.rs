@@ -1,12 +1,12 @@
-//! The plans that are timed: all have 128 nodes and 64 flags.
+//! The plans on which the verdict is set against plain Rust: all have 128 nodes and 64 flags.
 
 use std::iter::repeat_with;
 
-use reference::format::{Plan, ALL_OF};
-use reference::generate::clear::{clear_plan, shaken_plan};
-use reference::generate::{Shape, LIMITS};
-use reference::random::Random;
-use reference::verdict::{verdict, Verdict};
+use reference::model::format::{Plan, ALL_OF};
+use reference::model::verdict::{verdict, Verdict};
+use reference::tools::generate::clear::{clear_plan, shaken_plan};
+use reference::tools::generate::{Shape, LIMITS};
+use reference::tools::random::Random;
 
 const SHAPES: [(&str, Shape); 4] = [
     ("flat", Shape::Flat),

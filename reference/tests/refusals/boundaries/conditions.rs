@@ -1,6 +1,6 @@
 //! Refusals 9 to 12.
 
-use reference::format::{
+use reference::model::format::{
     Condition, Plan, CLEAR, INCONDITION, NO_PARENT, POSTCONDITION, PRECONDITION, SET,
 };
 

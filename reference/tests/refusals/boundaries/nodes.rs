@@ -1,6 +1,6 @@
 //! Refusals 4 to 8.
 
-use reference::format::{Plan, ALL_OF, ANY_OF, NO_PARENT, TASK};
+use reference::model::format::{Plan, ALL_OF, ANY_OF, NO_PARENT, TASK};
 
 use crate::tally::Tally;
 

@@ -1,6 +1,6 @@
 //! Refusals 13 and 14.
 
-use reference::format::{Order, Plan, NO_PARENT};
+use reference::model::format::{Order, Plan, NO_PARENT};
 
 use crate::tally::Tally;
 

@@ -1,6 +1,6 @@
 //! Refusals 1, 2 and 3.
 
-use reference::format::{Condition, Order, Plan};
+use reference::model::format::{Condition, Order, Plan};
 
 use crate::tally::Tally;
 

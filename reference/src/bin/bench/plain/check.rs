@@ -168,7 +168,9 @@ impl<'a> Fields<'a> {
     }
 }
 
-/// The parts of an accepted plan, or the first refusal that applies.
+/// The parts of an accepted plan, or the first refusal that applies. A function of its own, so that
+/// its instructions can be counted.
+#[inline(never)]
 pub fn accept<'a>(bytes: &'a [u8]) -> Result<Fields<'a>, u32> {
     let fields = Fields::new(bytes)?;
     type Rule<'a> = (u32, fn(&Fields<'a>) -> bool);

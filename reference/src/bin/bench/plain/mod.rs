@@ -1,19 +1,24 @@
 //! The verdict in plain Rust, by the shortcuts that the proved crates take: rules in passes over
 //! the bytes, words whose bit f speaks of flag f, the children of a group as a segment of one
-//! array, chains of orders filled backwards, a search over pairs that goes on at the child where it
-//! stood, children passed over that require nothing wanted, and shared literals narrowed until none
-//! is left.
+//! array, chains of orders filled backwards, pairs each looked at once, children passed over that
+//! require nothing wanted, and shared literals narrowed until none is left.
+//!
+//! Its modules in their order: words, row; check, tables; siblings, pairs; rows.
 //!
 //! It is no reference: tests compare it with the reference, and nothing else rests on it.
 
 mod check;
 mod pairs;
+mod row;
 mod rows;
+mod siblings;
 mod tables;
+mod words;
 
 use check::Fields;
-use rows::{and, or, Row};
+use row::Row;
 use tables::Tables;
+use words::{and, or};
 
 /// The working memory of one call, in bytes.
 pub const BUFFERS: usize = size_of::<Tables>() + 128 * size_of::<Row>();
@@ -43,12 +48,12 @@ fn judged(fields: &Fields, root: Row) -> u32 {
 #[cfg(test)]
 mod tests {
     use super::verdict;
-    use reference::calls::{make, Call};
-    use reference::edit::edit;
-    use reference::format::{Plan, Sizes};
-    use reference::generate::clear::shaken_plan;
-    use reference::generate::{any_plan, dense_plan, plan, LIMITS, SHAPES};
-    use reference::random::Random;
+    use reference::model::calls::{make, Call};
+    use reference::model::format::{Plan, Sizes};
+    use reference::tools::edit::edit;
+    use reference::tools::generate::clear::shaken_plan;
+    use reference::tools::generate::{any_plan, dense_plan, plan, LIMITS, SHAPES};
+    use reference::tools::random::Random;
 
     #[test]
     fn agrees_with_the_reference() {

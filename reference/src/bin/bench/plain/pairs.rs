@@ -1,7 +1,8 @@
 //! The pairs of children of an all-of group that may, or must, clobber a literal.
 
-use super::rows::{and, and_not, or, Row, Rows};
+use super::row::{Row, Rows};
 use super::tables::{place, Tables, AFTER, BEFORE};
+use super::words::{and, and_not, or, swap, Literals};
 
 /// The children of an all-of group, with their rows and what orders them.
 pub struct Group<'a> {
@@ -11,44 +12,46 @@ pub struct Group<'a> {
 }
 
 impl Group<'_> {
-    /// The wanted literals that some pair may clobber. After each pair found the search goes on at
-    /// the child where it stood: none before it clobbers what is still wanted.
-    pub fn may_clobber(&self, wanted: [u64; 2]) -> [u64; 2] {
-        let (mut left, mut at) = (wanted, 0);
-        while let Some((pair, stood)) = self.clobbering_pair(left, at) {
-            left = and_not(left, pair);
-            at = stood;
-        }
+    /// The wanted literals that some pair may clobber.
+    pub fn may_clobber(&self, wanted: Literals) -> Literals {
+        let children = self.children.iter().map(|&child| place(child));
+        let left = children.fold(wanted, |left, c| self.left_with(left, c));
         and_not(wanted, left)
     }
 
     /// The known literals, and those that some pair must clobber.
-    pub fn must_clobber(&self, known: [u64; 2]) -> [u64; 2] {
+    pub fn must_clobber(&self, known: Literals) -> Literals {
         let children = self.children.iter().map(|&child| place(child));
         children.fold(known, |found, c| self.must_clobber_with(found, c))
     }
 
-    /// The wanted literals of the first pair that has any, from this position of its first child
-    /// on, and the position. A child that requires no wanted literal is passed over.
-    fn clobbering_pair(&self, wanted: [u64; 2], from: usize) -> Option<([u64; 2], usize)> {
-        for (at, &c) in self.children.iter().enumerate().skip(from) {
-            let c = place(c);
-            let required = or(self.rows[c].wants, self.rows[c].may_pre);
-            if and(wanted, required) == [0; 2] {
-                continue;
-            }
-            for d in 0..self.children.len() {
-                let pair = self.clobbered(wanted, c, d);
-                if pair != [0; 2] {
-                    return Some((pair, at));
+    /// The wanted literals that no pair with c may clobber. The search ends when c requires none
+    /// that is left.
+    fn left_with(&self, wanted: Literals, c: usize) -> Literals {
+        let required = or(self.rows[c].wants, self.rows[c].may_pre);
+        let (mut left, mut at) = (wanted, 0);
+        while and(left, required) != [0; 2] {
+            match self.clobbering(left, c, at) {
+                Some((pair, partner)) => {
+                    left = and_not(left, pair);
+                    at = partner + 1;
                 }
+                None => return left,
             }
         }
-        None
+        left
+    }
+
+    /// The wanted literals of the first pair with c that has any, from this position on, and the
+    /// partner's position.
+    fn clobbering(&self, wanted: Literals, c: usize, from: usize) -> Option<(Literals, usize)> {
+        let partners = from..self.children.len();
+        let mut pairs = partners.map(|at| (self.clobbered(wanted, c, at), at));
+        pairs.find(|(pair, _)| *pair != [0; 2])
     }
 
     /// The wanted literals that the child at this position may clobber for c.
-    fn clobbered(&self, wanted: [u64; 2], c: usize, at: usize) -> [u64; 2] {
+    fn clobbered(&self, wanted: Literals, c: usize, at: usize) -> Literals {
         let d = place(self.children[at]);
         let (row, other) = (&self.rows[c], &self.rows[d]);
         match self.tables.order[c][d] {
@@ -64,7 +67,7 @@ impl Group<'_> {
 
     /// The known literals, and those that some pair with c must clobber, if c must require any that
     /// is not known.
-    fn must_clobber_with(&self, known: [u64; 2], c: usize) -> [u64; 2] {
+    fn must_clobber_with(&self, known: Literals, c: usize) -> Literals {
         let required = self.rows[c].must_pre();
         let mut wanted = and_not(required, known);
         if wanted == [0; 2] {
@@ -95,11 +98,11 @@ impl Group<'_> {
     /// after this position come first: there the literals are soonest settled.
     fn narrowed(
         &self,
-        literals: [u64; 2],
+        literals: Literals,
         at: usize,
         test: impl Fn(usize) -> bool,
         flags: impl Fn(&Row) -> u64,
-    ) -> [u64; 2] {
+    ) -> Literals {
         let mut left = literals;
         if left == [0; 2] {
             return left;
@@ -118,9 +121,4 @@ impl Group<'_> {
         }
         left
     }
-}
-
-/// The same flags with the other sign.
-fn swap(literals: [u64; 2]) -> [u64; 2] {
-    [literals[1], literals[0]]
 }

@@ -1,0 +1,70 @@
+-- The numbers of answers tell what the answers do. Assumes nothing.
+use mathlib.Core.Path.{_≡_, refl, sym, ap, _∙_}
+use mathlib.Core.Logic.{_⊎_, inr, _↔_, Iff·trans}
+use mathlib.Core.Bool.{cond}
+use mathlib.Core.List.{List}
+use Prim.Native.Nat.{ℕ}
+use lib.Dec.{eqb}
+use Rattle.base.proofs.First.{answer-none}
+use Rattle.plan_rules.specs.Rules.{refusal}
+use Rattle.runs.specs.Verdict.{Verdict, CLEAR, DOOMED, OPEN}
+use Rattle.run_state.specs.State.{stateRefusal}
+use Rattle.run_monitor.specs.declared.Progress.{Progress}
+use Rattle.run_monitor.specs.Status as status
+use Rattle.run_monitor.specs.Status.{Word, COMPLETE, UNFINISHED, Told, statusAnswer}
+use Rattle.verdict.specs.declared.Answer.{Answer}
+use Rattle.verdict.specs.Verdict.{said, answerOf, Assessed}
+use Rattle.listing.specs.declared.Listed.{Listed}
+use Rattle.listing.specs.Listing.{told, Lists}
+use Rattle.capi_numbers.specs.Numbers.{verdictNumber, statusNumber, listingNumber}
+use Rattle.capi.specs.Told.{VerdictNumber, StatusNumber, ListingNumber}
+
+-- a number from which the word can be told is that of a word exactly if the answer is that word
+number-tells : {A : Type 0} (num : ℕ ⊎ A → ℕ) (of : ℕ → A) → ((v : A) → of (num (inr v)) ≡ v) → {x : ℕ ⊎ A} {u : A} → x ≡ inr u
+    → (v : A) → (num x ≡ num (inr v)) ↔ (x ≡ inr v)
+number-tells num of back {u = u} e v = (λ q. e ∙ ap inr (sym (back u) ∙ ap of (ap num (sym e) ∙ q) ∙ back v), λ q. ap num q)
+
+-- the word of a number
+verdictIn : ℕ → Verdict
+verdictIn n = cond (eqb n 128) CLEAR (cond (eqb n 129) DOOMED OPEN)
+
+verdict-back : (v : Verdict) → verdictIn (verdictNumber (inr v)) ≡ v
+unfolding verdictIn
+verdict-back CLEAR = refl
+verdict-back DOOMED = refl
+verdict-back OPEN = refl
+
+wordIn : ℕ → Word
+wordIn n = cond (eqb n 128) COMPLETE UNFINISHED
+
+word-back : (v : Word) → wordIn (statusNumber (inr v)) ≡ v
+unfolding wordIn
+word-back COMPLETE = refl
+word-back UNFINISHED = refl
+
+pub verdict-told : (b : List ℕ) (a : Answer) {r : ℕ} → Assessed b a → r ≡ verdictNumber (said a) → VerdictNumber b r
+unfolding answerOf
+verdict-told b a x q =
+    record {
+      number = q ∙ ap verdictNumber (x .answer);
+      judged = λ acc v.
+          rw q
+          (Iff·trans
+          (number-tells verdictNumber verdictIn verdict-back (x .answer ∙ sym (answer-none (refusal b) _ acc)) v)
+          (x .judged acc v));
+    }
+
+pub status-told : (b s : List ℕ) (a : Progress) {r : ℕ} → Told b s a → r ≡ statusNumber (status.said a) → StatusNumber b s r
+unfolding statusAnswer
+status-told b s a x q =
+    record {
+      number = q ∙ ap statusNumber (x .answer);
+      complete = λ ok.
+          rw q
+          (Iff·trans
+          (number-tells statusNumber wordIn word-back (x .answer ∙ sym (answer-none (stateRefusal b s) _ ok)) COMPLETE)
+          (λ c. x .complete .0 c .1, λ c. x .complete .1 (ok, c)));
+    }
+
+pub listing-told : (b out : List ℕ) (a : Listed) {r : ℕ} {out′ : List ℕ} → Lists b out a out′ → r ≡ listingNumber (told a) → ListingNumber b out r out′
+listing-told b out a x q = record { number = q ∙ ap listingNumber (x .answer); bytes = x .bytes; judged = x .judged }

@@ -1,0 +1,152 @@
+//! The monitor (01: keeper): the calls on a state (01: record) and refusals 15 to 22.
+
+use crate::model::events::{Event, Status, Statuses};
+use crate::model::format::{Plan, INCONDITION, PRECONDITION, SET};
+use crate::model::literal::Literal;
+
+/// What the bytes of a well-formed state say.
+#[derive(Clone, Debug, PartialEq, Eq, Hash)]
+pub struct State {
+    /// Bit f is flag f.
+    pub flags: u64,
+    pub statuses: Statuses,
+}
+
+#[derive(Clone, Copy, Debug, PartialEq, Eq)]
+pub enum Progress {
+    Complete,
+    Unfinished,
+}
+
+/// The length of a state: 8 + N.
+pub fn state_len(plan: &Plan) -> usize {
+    8 + plan.nodes.len()
+}
+
+/// The call on an accepted plan: writes the first state, or meets refusal 15.
+pub fn fresh(plan: &Plan, state: &mut [u8]) -> Result<(), u32> {
+    long_enough(plan, state)?;
+    State::fresh(plan).write(state);
+    Ok(())
+}
+
+/// The call on an accepted plan: takes in the start or finish of a task, or meets the first of
+/// refusals 15 to 22.
+pub fn happen(plan: &Plan, state: &mut [u8], event: Event) -> Result<(), u32> {
+    let before = State::read(plan, state)?;
+    before.step(plan, event)?.write(state);
+    Ok(())
+}
+
+/// The call on an accepted plan: how far the root is, or refusal 15 or 16.
+pub fn status(plan: &Plan, state: &[u8]) -> Result<Progress, u32> {
+    Ok(State::read(plan, state)?.progress(plan))
+}
+
+/// 15: lent state too short.
+fn long_enough(plan: &Plan, state: &[u8]) -> Result<(), u32> {
+    if state.len() < state_len(plan) {
+        return Err(15);
+    }
+    Ok(())
+}
+
+impl State {
+    pub fn fresh(plan: &Plan) -> State {
+        State {
+            flags: u64::from_le_bytes(plan.start),
+            statuses: Statuses::all_waiting(plan),
+        }
+    }
+
+    /// What the bytes say, or refusal 15 or 16.
+    pub fn read(plan: &Plan, bytes: &[u8]) -> Result<State, u32> {
+        long_enough(plan, bytes)?;
+        let mut flags = [0; 8];
+        flags.copy_from_slice(&bytes[..8]);
+        let flags = u64::from_le_bytes(flags);
+        if (usize::from(plan.flags)..64).any(|flag| flags >> flag & 1 == 1) {
+            return Err(16);
+        }
+        let mut statuses = Statuses::all_waiting(plan);
+        for (node, status) in statuses.0.iter_mut().enumerate() {
+            *status = match bytes[8 + node] {
+                0 => Status::Waiting,
+                1 if plan.is_task(node) => Status::Running,
+                2 if plan.is_task(node) => Status::Done,
+                _ => return Err(16),
+            };
+        }
+        Ok(State { flags, statuses })
+    }
+
+    /// Writes the first 8 + N bytes.
+    pub fn write(&self, bytes: &mut [u8]) {
+        bytes[..8].copy_from_slice(&self.flags.to_le_bytes());
+        for (node, status) in self.statuses.0.iter().enumerate() {
+            bytes[8 + node] = match status {
+                Status::Waiting => 0,
+                Status::Running => 1,
+                Status::Done => 2,
+            };
+        }
+    }
+
+    pub fn progress(&self, plan: &Plan) -> Progress {
+        if self.statuses.complete(plan, 0) {
+            Progress::Complete
+        } else {
+            Progress::Unfinished
+        }
+    }
+
+    /// The state after the event, or the first of refusals 17 to 22.
+    pub fn step(&self, plan: &Plan, event: Event) -> Result<State, u32> {
+        self.statuses.check(plan, 0, event)?;
+        if self.precondition_unmet(plan, event) {
+            return Err(21);
+        }
+        if self.breaks_incondition(plan, event) {
+            return Err(22);
+        }
+        let mut flags = self.flags;
+        for literal in event.asserts(plan) {
+            let bit = 1 << literal.flag;
+            if literal.sign == SET {
+                flags |= bit;
+            } else {
+                flags &= !bit;
+            }
+        }
+        Ok(State {
+            flags,
+            statuses: self.statuses.after(event),
+        })
+    }
+
+    fn is_true(&self, literal: Literal) -> bool {
+        (self.flags >> literal.flag & 1 == 1) == (literal.sign == SET)
+    }
+
+    /// 21: a precondition is unmet at a start.
+    fn precondition_unmet(&self, plan: &Plan, event: Event) -> bool {
+        match event {
+            Event::Start(task) => {
+                let mut conditions = plan.conditions_of(task, PRECONDITION);
+                conditions.any(|literal| !self.is_true(literal))
+            }
+            Event::Finish(_) => false,
+        }
+    }
+
+    /// 22: the event would break an incondition of another running task.
+    fn breaks_incondition(&self, plan: &Plan, event: Event) -> bool {
+        event.asserts(plan).any(|literal| {
+            plan.tasks().any(|other| {
+                other != event.task()
+                    && self.statuses.runs(other)
+                    && plan.has(other, INCONDITION, literal.opposite())
+            })
+        })
+    }
+}

@@ -1,0 +1,56 @@
+//! All executions of one node, judged on that node alone: the paths of a graph from its point 0.
+
+use std::collections::HashMap;
+
+use crate::model::events::{Event, Statuses};
+use crate::model::format::Plan;
+
+pub struct Graph {
+    pub points: Vec<Point>,
+}
+
+pub struct Point {
+    pub statuses: Statuses,
+    /// Whether the node is complete here.
+    pub completed: bool,
+    /// The allowed events, and the point after each.
+    pub next: Vec<(Event, usize)>,
+}
+
+impl Graph {
+    pub fn new(plan: &Plan, node: usize) -> Graph {
+        let tasks = || plan.tasks_under(node);
+        let events: Vec<Event> = tasks()
+            .map(Event::Start)
+            .chain(tasks().map(Event::Finish))
+            .collect();
+        let mut points = vec![Point::new(plan, node, Statuses::all_waiting(plan))];
+        let mut numbers = HashMap::from([(points[0].statuses.clone(), 0)]);
+        let mut at = 0;
+        while at < points.len() {
+            for &event in &events {
+                if points[at].statuses.check(plan, node, event).is_ok() {
+                    let after = points[at].statuses.after(event);
+                    let number = *numbers.entry(after.clone()).or_insert(points.len());
+                    if number == points.len() {
+                        points.push(Point::new(plan, node, after));
+                    }
+                    points[at].next.push((event, number));
+                }
+            }
+            at += 1;
+        }
+        Graph { points }
+    }
+}
+
+impl Point {
+    fn new(plan: &Plan, node: usize, statuses: Statuses) -> Point {
+        let completed = statuses.complete(plan, node);
+        Point {
+            statuses,
+            completed,
+            next: Vec::new(),
+        }
+    }
+}

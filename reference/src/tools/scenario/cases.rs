@@ -1,0 +1,103 @@
+//! Cases of every call on given bytes of a plan.
+
+use super::lists::any_event;
+use super::states::{any_state, bytes, malformed, reached_state};
+use super::{any_number, Case};
+use crate::model::calls::Call;
+use crate::model::events::Event;
+use crate::model::format::Plan;
+use crate::model::listing::LISTING_LEN;
+use crate::model::monitor::state_len;
+use crate::model::rules::accept;
+use crate::model::summary::summary_len;
+use crate::tools::random::Random;
+
+/// Lengths of lent memory below, at and above the length that a call needs.
+pub fn lengths_around(needed: usize) -> [usize; 6] {
+    [0, 1, needed - 1, needed, needed + 1, needed + 40]
+}
+
+/// Cases of every call: on an accepted plan with lengths around the limits, all sorts of states
+/// and numbers; on a refused one with any of them.
+pub fn cases(random: &mut Random, plan: &[u8]) -> Vec<Case> {
+    let found = match accept(plan) {
+        Ok(fields) => on_accepted(random, &fields),
+        Err(_) => on_refused(random),
+    };
+    let case = |(call, lent)| Case {
+        call,
+        plan: plan.to_vec(),
+        lent,
+    };
+    found.into_iter().map(case).collect()
+}
+
+type Lending = (Call, Vec<u8>);
+
+fn on_refused(random: &mut Random) -> Vec<Lending> {
+    let number = random.below(129);
+    let calls = [
+        Call::Refusal,
+        Call::Verdict,
+        Call::Summary(number),
+        Call::Fresh,
+        Call::Event(Event::Start(number)),
+        Call::Event(Event::Finish(number)),
+        Call::Status,
+        Call::Listing,
+    ];
+    let lending = |call| {
+        let len = random.pick(&[0, 7, 200, 4_096]);
+        (call, random.bytes(len))
+    };
+    calls.into_iter().map(lending).collect()
+}
+
+fn on_accepted(random: &mut Random, plan: &Plan) -> Vec<Lending> {
+    let nodes = plan.nodes.len();
+    let mut found = vec![
+        (Call::Refusal, random.bytes(8)),
+        (Call::Verdict, random.bytes(8)),
+    ];
+    for len in lengths_around(summary_len(plan)) {
+        for node in [0, nodes - 1, nodes, any_number(random, plan)] {
+            found.push((Call::Summary(node), random.bytes(len)));
+        }
+    }
+    for len in lengths_around(LISTING_LEN) {
+        found.push((Call::Listing, random.bytes(len)));
+    }
+    for len in lengths_around(state_len(plan)) {
+        found.push((Call::Fresh, random.bytes(len)));
+    }
+    for state in states(random, plan) {
+        found.push((Call::Status, state.clone()));
+        for _ in 0..4 {
+            found.push((Call::Event(any_event(random, plan)), state.clone()));
+        }
+    }
+    found
+}
+
+/// States reachable and not, malformed, and of lengths around the limit.
+fn states(random: &mut Random, plan: &Plan) -> Vec<Vec<u8>> {
+    let mut found = Vec::new();
+    for _ in 0..16 {
+        let extra = random.below(4);
+        for state in [any_state(random, plan), reached_state(random, plan)] {
+            found.push(bytes(random, plan, &state, extra));
+        }
+    }
+    for len in lengths_around(state_len(plan)) {
+        let state = reached_state(random, plan);
+        let mut bytes = bytes(random, plan, &state, 40);
+        bytes.truncate(len);
+        found.push(bytes);
+    }
+    let state = reached_state(random, plan);
+    let mut wrong = malformed(random, plan, &state);
+    random.shuffle(&mut wrong);
+    wrong.truncate(16);
+    found.extend(wrong);
+    found
+}

@@ -1,0 +1,113 @@
+//! An endless stream of plans of all sizes, whole and damaged, and every call on each.
+
+use super::cases::cases;
+use super::lists::{list, long_list};
+use super::tally::Tally;
+use super::Case;
+use crate::model::calls::{Answers, Call};
+use crate::model::format::{Plan, Sizes};
+use crate::model::rules::accept;
+use crate::tools::edit::edit;
+use crate::tools::generate::clear::{clear_plan, shaken_plan};
+use crate::tools::generate::{any_plan, dense_plan, plan, LIMITS, SHAPES};
+use crate::tools::random::Random;
+
+/// How often a plan is damaged.
+#[derive(Clone, Copy, Debug, PartialEq, Eq)]
+pub enum Damage {
+    Sometimes,
+    Mostly,
+}
+
+/// A random plan as bytes, which may be refused.
+pub fn any_bytes(random: &mut Random, damage: Damage) -> Vec<u8> {
+    let mut plan = any_size(random);
+    let whole = match damage {
+        Damage::Sometimes => 3,
+        Damage::Mostly => 1,
+    };
+    match random.below(4 + whole) {
+        0 | 1 => {
+            for _ in 0..random.within(1, 3) {
+                edit(&mut plan, random);
+            }
+            plan.bytes()
+        }
+        2 => {
+            let mut bytes = plan.bytes();
+            let at = random.below(bytes.len());
+            bytes[at] = random.byte();
+            bytes
+        }
+        3 => {
+            let mut bytes = plan.bytes();
+            let len = random.below(bytes.len() + 20);
+            bytes.resize(len, random.byte());
+            bytes
+        }
+        _ => plan.bytes(),
+    }
+}
+
+/// A valid plan: of a few nodes, of some, or of any number up to 128.
+fn any_size(random: &mut Random) -> Plan {
+    let nodes = random.within(1, LIMITS.nodes);
+    let sizes = Sizes {
+        nodes: random.pick(&[nodes, LIMITS.nodes]),
+        conditions: random.within(0, LIMITS.conditions),
+        orders: random.within(0, LIMITS.orders),
+        flags: random.within(1, LIMITS.flags),
+    };
+    let few = Sizes {
+        nodes: 30,
+        conditions: 60,
+        orders: 30,
+        flags: 64,
+    };
+    let shape = random.pick(&SHAPES);
+    match random.below(8) {
+        0..=2 => dense_plan(random, 1 + nodes % 12),
+        3 | 4 => any_plan(random, few),
+        5 => plan(random, sizes, shape),
+        6 => clear_plan(random, sizes, shape),
+        _ => shaken_plan(random, sizes, shape),
+    }
+}
+
+/// Every call on these bytes; on an accepted plan every node's summary and a list of calls too.
+pub fn every_call(tally: &mut Tally, random: &mut Random, bytes: &[u8]) {
+    let accepted = accept(bytes);
+    let answers = match &accepted {
+        Ok(plan) if plan.nodes.len() <= 8 && plan.flags <= 2 => Answers::by_runs(bytes),
+        _ => Answers::by_rules(bytes),
+    };
+    for case in cases(random, bytes) {
+        tally.compare(&answers, &case);
+    }
+    if let Ok(plan) = accepted {
+        every_summary(tally, random, &plan, &answers);
+        replay(tally, random, &plan, &answers);
+    }
+}
+
+fn every_summary(tally: &mut Tally, random: &mut Random, plan: &Plan, answers: &Answers) {
+    for node in 0..plan.nodes.len() {
+        let case = Case {
+            call: Call::Summary(node),
+            plan: plan.bytes(),
+            lent: random.bytes(1_024),
+        };
+        tally.compare(answers, &case);
+    }
+}
+
+/// Fresh and then a list of calls, each with the state as the last one left it.
+fn replay(tally: &mut Tally, random: &mut Random, plan: &Plan, answers: &Answers) {
+    let events = match random.below(2) {
+        0 => long_list(random, plan),
+        _ => list(random, plan, 60),
+    };
+    let mut calls = vec![Call::Fresh];
+    calls.extend(events.into_iter().map(Call::Event));
+    tally.replay(answers, &plan.bytes(), &calls, random.bytes(140));
+}

@@ -1,0 +1,81 @@
+//! Comparisons of the archive with the reference, and how many there were.
+
+use std::collections::BTreeMap;
+use std::fmt;
+
+use super::{After, Case};
+use crate::model::calls::{Answers, Call};
+use crate::tools::archive;
+
+/// How often each call returned what.
+#[derive(Clone, Debug, Default)]
+pub struct Tally {
+    /// Answers with a length count as 256.
+    counts: BTreeMap<(&'static str, u32), usize>,
+}
+
+impl Tally {
+    /// Archive and reference agree on what the case returns and leaves.
+    #[track_caller]
+    pub fn compare(&mut self, answers: &Answers, case: &Case) -> After {
+        match case.compared(answers, archive::make) {
+            Ok(after) => {
+                *self.count(case.call, after.returned) += 1;
+                after
+            }
+            Err(message) => panic!("the archive differs: {message}"),
+        }
+    }
+
+    /// The calls one after another, each lent what the last one left, and after each the status.
+    #[track_caller]
+    pub fn replay(&mut self, answers: &Answers, plan: &[u8], calls: &[Call], mut lent: Vec<u8>) {
+        for call in calls.iter().flat_map(|&call| [call, Call::Status]) {
+            let case = Case {
+                call,
+                plan: plan.to_vec(),
+                lent,
+            };
+            lent = self.compare(answers, &case).lent;
+        }
+    }
+
+    fn count(&mut self, call: Call, returned: u32) -> &mut usize {
+        let key = (call.name(), returned.min(256));
+        self.counts.entry(key).or_default()
+    }
+
+    /// How often a call of this name returned this.
+    pub fn met(&self, name: &'static str, returned: u32) -> usize {
+        self.counts.get(&(name, returned)).copied().unwrap_or(0)
+    }
+
+    pub fn total(&self) -> usize {
+        self.counts.values().sum()
+    }
+
+    /// Takes in the counts of another.
+    pub fn add(&mut self, other: &Tally) {
+        for (&key, count) in &other.counts {
+            *self.counts.entry(key).or_default() += count;
+        }
+    }
+}
+
+/// A line for each call: its comparisons, by return.
+impl fmt::Display for Tally {
+    fn fmt(&self, f: &mut fmt::Formatter) -> fmt::Result {
+        let mut last = "";
+        for (&(name, returned), count) in &self.counts {
+            if name != last {
+                let line = self.counts.iter().filter(|(key, _)| key.0 == name);
+                let sum: usize = line.map(|(_, count)| count).sum();
+                let end = if last.is_empty() { "" } else { "\n" };
+                write!(f, "{end}{name:10}{sum:8} comparisons, by return:")?;
+                last = name;
+            }
+            write!(f, " {returned}: {count}")?;
+        }
+        Ok(())
+    }
+}

@@ -1,0 +1,48 @@
+//! Requests to valgrind's memory checker about pieces of memory. Outside valgrind they do nothing.
+
+use std::arch::asm;
+
+const RUNNING_ON_VALGRIND: usize = 0x1001;
+
+/// The first of the memory checker's own numbers.
+const MEMORY_CHECKER: usize = (b'M' as usize) << 24 | (b'C' as usize) << 16;
+
+pub fn is_running() -> bool {
+    request(RUNNING_ON_VALGRIND, &[]) != 0
+}
+
+/// From now on it is an error to read or write these bytes.
+pub fn forbid(bytes: &[u8]) {
+    request(MEMORY_CHECKER, bytes);
+}
+
+/// From now on it is an error to decide anything by these bytes, until they are written.
+pub fn forget(bytes: &[u8]) {
+    request(MEMORY_CHECKER + 1, bytes);
+}
+
+/// All is allowed again. The bytes are as they were.
+pub fn allow(bytes: &[u8]) {
+    request(MEMORY_CHECKER + 2, bytes);
+}
+
+/// A request in the form that valgrind knows (valgrind.h, x86-64).
+fn request(number: usize, bytes: &[u8]) -> usize {
+    let words = [number, bytes.as_ptr() as usize, bytes.len(), 0, 0, 0];
+    let mut answer = 0;
+    // SAFETY: the rotations add up to 128 bits and the exchange is one of a register with itself,
+    // so that nothing changes outside valgrind; inside it `answer` and the checker's own tables do.
+    unsafe {
+        asm!(
+            "rol rdi, 3",
+            "rol rdi, 13",
+            "rol rdi, 61",
+            "rol rdi, 51",
+            "xchg rbx, rbx",
+            in("rax") words.as_ptr(),
+            inout("rdx") answer,
+            options(nostack)
+        );
+    }
+    answer
+}

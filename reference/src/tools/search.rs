@@ -1,0 +1,54 @@
+//! All lists of calls on a small plan, for what demand 3 says of its verdict.
+
+use std::collections::HashSet;
+
+use crate::model::calls::{Answers, Call};
+use crate::model::events::Event;
+use crate::model::format::Plan;
+use crate::model::monitor::state_len;
+
+/// What the status call returns then.
+const COMPLETE: u32 = 128;
+
+/// What some list of start and finish calls, from the fresh state, can bring about.
+#[derive(Clone, Copy, Debug, PartialEq, Eq)]
+pub struct Outcome {
+    /// Some call returns 21 or 22.
+    pub conflict: bool,
+    /// The root is complete after some list.
+    pub completable: bool,
+}
+
+/// By the reference.
+pub fn search(plan: &Plan) -> Outcome {
+    let answers = Answers::by_rules(&plan.bytes());
+    search_by(plan, |call, _, lent| answers.make(call, lent))
+}
+
+/// Goes through every state that these calls reach. Numbers beyond the nodes only ever return 17.
+pub fn search_by(plan: &Plan, make: impl Fn(Call, &mut [u8], &mut [u8]) -> u32) -> Outcome {
+    let mut outcome = Outcome {
+        conflict: false,
+        completable: false,
+    };
+    let mut bytes = plan.bytes();
+    let mut make = |call, state: &mut [u8]| make(call, &mut bytes, state);
+    let mut fresh = vec![0; state_len(plan)];
+    assert_eq!(make(Call::Fresh, &mut fresh), 0);
+    let mut seen = HashSet::from([fresh.clone()]);
+    let mut open = vec![fresh];
+    while let Some(mut state) = open.pop() {
+        outcome.completable |= make(Call::Status, &mut state) == COMPLETE;
+        for number in 0..plan.nodes.len() {
+            for event in [Event::Start(number), Event::Finish(number)] {
+                let mut after = state.clone();
+                match make(Call::Event(event), &mut after) {
+                    0 if seen.insert(after.clone()) => open.push(after),
+                    21 | 22 => outcome.conflict = true,
+                    _ => {}
+                }
+            }
+        }
+    }
+    outcome
+}

@@ -1,0 +1,131 @@
+/* Plan B of document 01 through every call of knowetop.h, as C11 and as C++17. The argument is the
+   path of samples/b.plan. All numbers and bytes that are expected were made by hand from 01. */
+#include "knowetop.h"
+
+#undef NDEBUG
+#include <assert.h>
+#include <stdio.h>
+#include <string.h>
+
+/* The nodes of B: under MOOR (all of) first CAST, then COMS (any of), which is RADI or SATL. */
+enum { MOOR, CAST, COMS, RADI, SATL, NODES };
+
+/* B has two flags, so a summary has four entries of eight marks. */
+enum { FLAGS = 2, SUMMARY = 16 * FLAGS, STATE = 8 + NODES, LISTING = 2048 };
+
+static int same(const uint8_t *found, const uint8_t *wanted, size_t len)
+{
+    return memcmp(found, wanted, len) == 0;
+}
+
+/* Whether all these bytes are still the 7 that they were. */
+static int kept(const uint8_t *bytes, size_t len)
+{
+    for (size_t i = 0; i < len; i++) {
+        if (bytes[i] != 7) {
+            return 0;
+        }
+    }
+    return 1;
+}
+
+static void refusal_and_verdict(const uint8_t *plan, size_t len)
+{
+    assert(knowetop_refusal(plan, len) == 0);
+    assert(knowetop_refusal(plan, 15) == 1);
+    assert(knowetop_refusal(plan, len - 1) == 3);
+    assert(knowetop_verdict(plan, len) == KNOWETOP_CLEAR);
+    assert(knowetop_verdict(plan, len - 1) == 3);
+}
+
+static void summary(const uint8_t *plan, size_t len)
+{
+    static const uint8_t of_root[SUMMARY] = {
+        1, 1, 1, 1, 0, 0, 0, 0, /* flag 0 clear: CAST must need it and must leave it */
+        0, 0, 0, 0, 1, 1, 0, 0, /* flag 0 set: CAST must hold it */
+        0, 0, 1, 1, 0, 0, 0, 0, /* flag 1 clear: RADI and SATL both leave it */
+        0, 0, 0, 0, 1, 1, 0, 0, /* flag 1 set: RADI and SATL both hold it */
+    };
+    uint8_t out[SUMMARY + 8];
+    memset(out, 7, sizeof out);
+    assert(knowetop_summary(plan, len, MOOR, out, SUMMARY - 1) == 15);
+    assert(knowetop_summary(plan, len, NODES, out, sizeof out) == 17);
+    assert(kept(out, sizeof out));
+    assert(knowetop_summary(plan, len, MOOR, out, sizeof out) == 0);
+    assert(same(out, of_root, SUMMARY) && kept(out + SUMMARY, sizeof out - SUMMARY));
+}
+
+/* A run from the beginning to the end, and the calls that the monitor refuses on the way. */
+static void run(const uint8_t *plan, size_t len)
+{
+    static const uint8_t at_first[STATE] = {0};
+    static const uint8_t casting[STATE] = {1, 0, 0, 0, 0, 0, 0, 0, 0, 1, 0, 0, 0};
+    static const uint8_t cast[STATE] = {0, 0, 0, 0, 0, 0, 0, 0, 0, 2, 0, 0, 0};
+    static const uint8_t calling[STATE] = {2, 0, 0, 0, 0, 0, 0, 0, 0, 2, 0, 0, 1};
+    static const uint8_t at_last[STATE] = {0, 0, 0, 0, 0, 0, 0, 0, 0, 2, 0, 0, 2};
+    uint8_t state[STATE];
+
+    assert(knowetop_fresh(plan, len, state, sizeof state) == 0);
+    assert(same(state, at_first, STATE));
+    assert(knowetop_start(plan, len, state, sizeof state, COMS) == 17); /* no task */
+    assert(knowetop_start(plan, len, state, sizeof state, RADI) == 20); /* CAST comes first */
+    assert(knowetop_finish(plan, len, state, sizeof state, CAST) == 18); /* it does not run */
+    assert(same(state, at_first, STATE));
+
+    assert(knowetop_start(plan, len, state, sizeof state, CAST) == 0);
+    assert(same(state, casting, STATE));
+    assert(knowetop_start(plan, len, state, sizeof state, CAST) == 18); /* it does not wait */
+    assert(knowetop_finish(plan, len, state, sizeof state, CAST) == 0);
+    assert(same(state, cast, STATE));
+    assert(knowetop_status(plan, len, state, sizeof state) == KNOWETOP_UNFINISHED);
+
+    assert(knowetop_start(plan, len, state, sizeof state, SATL) == 0);
+    assert(same(state, calling, STATE));
+    assert(knowetop_start(plan, len, state, sizeof state, RADI) == 19); /* SATL was chosen */
+    assert(knowetop_finish(plan, len, state, sizeof state, SATL) == 0);
+    assert(same(state, at_last, STATE));
+    assert(knowetop_status(plan, len, state, sizeof state) == KNOWETOP_COMPLETE);
+}
+
+/* States that are too short or malformed, and bytes after the state. */
+static void lent_states(const uint8_t *plan, size_t len)
+{
+    uint8_t state[STATE + 3];
+    memset(state, 7, sizeof state);
+    assert(knowetop_fresh(plan, len, state, STATE - 1) == 15);
+    assert(knowetop_status(plan, len, state, sizeof state) == 16);
+    assert(knowetop_start(plan, len, state, sizeof state, CAST) == 16);
+    assert(knowetop_finish(plan, len, state, sizeof state, CAST) == 16);
+    assert(kept(state, sizeof state));
+    assert(knowetop_fresh(plan, len, state, sizeof state) == 0);
+    assert(kept(state + STATE, sizeof state - STATE));
+}
+
+static void listing(const uint8_t *plan, size_t len)
+{
+    static const char text[] = "CLEAR 17\nRADI 12\nSATL 12\nCAST 0\n";
+    size_t text_len = strlen(text);
+    uint8_t out[LISTING];
+    memset(out, 7, sizeof out);
+    assert(knowetop_listing(plan, len, out, LISTING - 1) == 15);
+    assert(kept(out, sizeof out));
+    assert(knowetop_listing(plan, len, out, sizeof out) == KNOWETOP_TEXT + text_len);
+    assert(memcmp(out, text, text_len) == 0 && kept(out + text_len, sizeof out - text_len));
+}
+
+int main(int argc, char **argv)
+{
+    uint8_t plan[82 + 1], lent[82];
+    FILE *file = argc == 2 ? fopen(argv[1], "rb") : NULL;
+    assert(file != NULL && fread(plan, 1, sizeof plan, file) == sizeof lent);
+    fclose(file);
+    memcpy(lent, plan, sizeof lent);
+
+    refusal_and_verdict(lent, sizeof lent);
+    summary(lent, sizeof lent);
+    run(lent, sizeof lent);
+    lent_states(lent, sizeof lent);
+    listing(lent, sizeof lent);
+    assert(same(lent, plan, sizeof lent));
+    return 0;
+}

@@ -1,0 +1,5 @@
+//! The model stands by itself: here it is compiled, and its own tests run, without the tools.
+
+#[allow(dead_code)]
+#[path = "../src/model/mod.rs"]
+mod model;
