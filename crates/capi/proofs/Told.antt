@@ -67,4 +67,4 @@ status-told b s a x q =
     }
 
 pub listing-told : (b out : List ℕ) (a : Listed) {r : ℕ} {out′ : List ℕ} → Lists b out a out′ → r ≡ listingNumber (told a) → ListingNumber b out r out′
-listing-told b out a x q = record { number = q ∙ ap listingNumber (x .answer); bytes = x .bytes; judged = x .judged }
+listing-told b out a x q = record { number = q ∙ ap listingNumber (x .answer); bytes = x .bytes; text = x .text }

@@ -10,7 +10,9 @@ use Rattle.runs.specs.Verdict.{Verdict, Judged}
 use Rattle.run_state.specs.State.{stateRefusal, statusIn}
 use Rattle.run_monitor.specs.Status.{COMPLETE, statusAnswer}
 use Rattle.verdict.specs.Verdict.{answerOf}
-use Rattle.listing.specs.Listing.{listedOf, listingLeft, TellsVerdict}
+use Rattle.listing.specs.Text.{textOf}
+use Rattle.listing.specs.Sentences.{IsListing}
+use Rattle.listing.specs.Listing.{listedOf, listingLeft}
 use Rattle.capi_numbers.specs.Numbers.{verdictNumber, statusNumber, listingNumber}
 
 -- r is the number of the answer for the plan; accepted, it is the number of the verdict that 01 defines
@@ -23,8 +25,8 @@ pub record StatusNumber (b s : List ℕ) (r : ℕ) : Type 0 where
   pub number : r ≡ statusNumber (statusAnswer b s)
   pub complete : stateRefusal b s ≡ 0 → (r ≡ statusNumber (inr COMPLETE)) ↔ Complete (planOf b) (statusIn b s) 0
 
--- r is the number of the answer, and out′ has every byte that the listing leaves
+-- r is the number of the answer, and out′ has every byte that the listing leaves; accepted, its text is the listing that 01 describes
 pub record ListingNumber (b out : List ℕ) (r : ℕ) (out′ : List ℕ) : Type 0 where
   pub number : r ≡ listingNumber (listedOf b out)
   pub bytes : out′ ≡ listingLeft b out
-  pub judged : TellsVerdict b
+  pub text : refusal b ≡ 0 → IsListing b (textOf b)

@@ -10,7 +10,7 @@ use lib.ListN.{getD}
 use Rattle.base.specs.Bits.{bit, Says}
 use Rattle.base.proofs.Says.{says-map, says-self, says-none, no-flag}
 use Rattle.runs.specs.Plan.{Plan, Child}
-use Rattle.marks_row.specs.Tables.{Position, Shaped}
+use Rattle.marks_row.specs.Tables.{Position, AtGroup}
 use Rattle.marks_row.specs.Columns.{avoid}
 use Rattle.marks_row.proofs.Rows.{cell}
 use Rattle.marks_row.proofs.Segments.{listed, every-next, every-child, joined}
@@ -19,11 +19,11 @@ use Rattle.marks_siblings.proofs.Sibling.{silent-cell}
 use Rattle.marks_between.specs.Passing.{Passes, InTheWay, LetsPass, Part, PartWord, PassingPart, Pairing, PassingWord}
 
 -- the part from low to high of a segment
-pub part-of : {from kids : List ℕ} {size n low high : ℕ} → Shaped from kids size → n < size → getD from n 0 ≤ low → low ≤ high → high ≤ getD from (n + 1) 0 → Part kids low high
-part-of {n = n} s l a b c = record {
+pub part-of : {from kids : List ℕ} {size n low high : ℕ} → AtGroup from kids size n → getD from n 0 ≤ low → low ≤ high → high ≤ getD from (n + 1) 0 → Part kids low high
+part-of {n = n} s a b c = record {
   rises = b;
-  ends = omega (arith, s .ends n l);
-  nodes = record { each = λ i x y. let k = s .rises n i l (record { low = omega arith; high = omega arith }) in omega (arith, s .small, k .1) };
+  ends = omega (arith, s .shaped .ends n (s .below));
+  nodes = record { each = λ i x y. let k = s .shaped .rises n i (s .below) (record { low = omega arith; high = omega arith }) in omega (arith, s .shaped .small, k .1) };
 }
 
 -- the given flags for which every child in a part has Q

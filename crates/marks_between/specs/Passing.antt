@@ -10,6 +10,7 @@ use Rattle.runs.specs.Plan.{Plan, Child, Before}
 use Rattle.runs.specs.Summary.{Silent}
 use Rattle.marks_row.specs.Tables.{code, RepresentsOrder}
 use Rattle.marks_row.specs.Columns.{avoid, asserts, Fact, wordIn}
+use Rattle.marks_row.specs.Musts.{SaysOf}
 use Rattle.marks_row.specs.Segments.{Every}
 use Rattle.marks_siblings.specs.Group.{Group}
 
@@ -75,6 +76,11 @@ OfPlans from kids order rows size n Q = (p : Plan) → Pairing from kids order r
 pub record PassingWord (from kids order rows : List ℕ) (size n : ℕ) (always : Bool) (flags c d r : ℕ) : Type 0 where
   pub among : (f : ℕ) → f < 64 → T (bit r f) → T (bit flags f)
   pub says : OfPlans from kids order rows size n (λ p. Child p n c → Child p n d → (f : ℕ) → f < 64 → Says r f (T (bit flags f) × Passes p n f always c d))
+
+-- the wanted flags of the sign s for which the pair c, d of children of n has P
+pub record PairWord (P : Plan → ℕ → ℕ → Bool → ℕ → ℕ → Type 0) (from kids order rows : List ℕ) (size n s wanted c d r : ℕ) : Type 0 where
+  pub among : (f : ℕ) → f < 64 → T (bit r f) → T (bit wanted f)
+  pub says : OfPlans from kids order rows size n (λ p. Child p n c → Child p n d → SaysOf s r (λ f v. T (bit wanted f) × P p n f v c d))
 
 -- some pair of children of n
 abbrev pub SomePair : Plan → ℕ → (ℕ → ℕ → Type 0) → Type 0

@@ -5,7 +5,7 @@ ghost use Prim.Native.Nat.{ℕ, _<_};
 ghost use lib.Dec.{T};
 ghost use lib.ListN.{getD};
 ghost use Rattle.base.specs.Bits.{bit};
-ghost use Rattle.marks_row.specs.Tables.{Position, Shaped};
+ghost use Rattle.marks_row.specs.Tables.{AtPair};
 ghost use Rattle.marks_between.specs.Passing.{StandsBetween, Disturbs, InTheWay, LetsPass, Part, PassingPart, PassingWord};
 use base::wide;
 use marks_row::columns::ASSERTS;
@@ -110,7 +110,7 @@ pub fn passing(
     c: usize,
     j: usize,
 ) -> u64
-    requires { ⌜ (Shaped (now from) (now kids) n × (node < n)) × ((c < n) × Position (now from) node j) ⌝ }
+    requires { ⌜ AtPair (now from) (now kids) n node c j ⌝ }
     ensures { λ r. ⌜ PassingWord (now (from .entry)) (now (kids .entry)) (now (order .entry)) (now (rows .entry)) n node always flags c (getD (now (kids .entry)) j 0) r ⌝ }
 {
     let d = wide(kids[j]);

@@ -1,7 +1,7 @@
 // The row of an any-of group from the rows of its children; that of an all-of group but for the pairs of children that clobber.
 ghost use Prim.Native.Nat.{_≤_, _<_};
 ghost use Rattle.marks_row.specs.Columns.{RowIs};
-ghost use Rattle.marks_row.specs.Tables.{Shaped};
+ghost use Rattle.marks_row.specs.Tables.{AtGroup};
 ghost use Rattle.marks_group.specs.Groups.{AnyRow, AllRow, JoinedWord, Merged, Unmerged};
 ghost use Rattle.marks_group.specs.Masks.{maskOf};
 use base::ALL;
@@ -99,7 +99,7 @@ pub fn any_words(
     n: usize,
     node: usize,
 ) -> [u64; 21]
-    requires { ⌜ Shaped (now from) (now kids) n × (node < n) ⌝ }
+    requires { ⌜ AtGroup (now from) (now kids) n node ⌝ }
     ensures { λ r. ⌜ AnyRow (now (from .entry)) (now (kids .entry)) (now (rows .entry)) n node r ⌝ }
 {
     let mask = start_words(AVOID, END);
@@ -123,7 +123,7 @@ pub fn all_words(
     n: usize,
     node: usize,
 ) -> [u64; 21]
-    requires { ⌜ Shaped (now from) (now kids) n × (node < n) ⌝ }
+    requires { ⌜ AtGroup (now from) (now kids) n node ⌝ }
     ensures { λ r. ⌜ AllRow (now (from .entry)) (now (kids .entry)) (now (order .entry)) (now (rows .entry)) n node r ⌝ }
 {
     let mut words = start_words(AVOID, COVERED);

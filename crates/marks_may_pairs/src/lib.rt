@@ -1,6 +1,5 @@
 // The pairs of children of an all-of group that may clobber a literal: a search that ends as soon as a pair is found, asked again for what is still wanted.
-ghost use Prim.Native.Nat.{_<_};
-ghost use Rattle.marks_row.specs.Tables.{Shaped};
+ghost use Rattle.marks_row.specs.Tables.{AtGroup};
 ghost use Rattle.marks_may_pairs.specs.Search.{Stands, Search, AllPairs};
 use base::wide;
 use marks_pair::Literals;
@@ -26,7 +25,7 @@ pub fn clobbering_pair(
     child: usize,
     partner: usize,
 ) -> Found
-    requires { ⌜ (Shaped (now from) (now kids) n × (node < n)) × Stands (now from) (now kids) (now order) (now rows) n node wanted child partner ⌝ }
+    requires { ⌜ AtGroup (now from) (now kids) n node × Stands (now from) (now kids) (now order) (now rows) n node wanted child partner ⌝ }
     ensures { λ r. ⌜ Search (now (from .entry)) (now (kids .entry)) (now (order .entry)) (now (rows .entry)) n node wanted r ⌝ }
 {
     let end = wide(from[node + 1]);
@@ -65,7 +64,7 @@ pub fn clobbering_pairs(
     node: usize,
     wanted: Literals,
 ) -> Literals
-    requires { ⌜ Shaped (now from) (now kids) n × (node < n) ⌝ }
+    requires { ⌜ AtGroup (now from) (now kids) n node ⌝ }
     ensures { λ r. ⌜ AllPairs (now (from .entry)) (now (kids .entry)) (now (order .entry)) (now (rows .entry)) n node wanted r ⌝ }
 {
     let mut left = wanted;

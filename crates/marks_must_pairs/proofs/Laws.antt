@@ -9,44 +9,36 @@ use lib.Bits.{bitAnd, bitOr, bitXor}
 use lib.Dec.{T}
 use lib.ListN.{getD}
 use Rattle.base.specs.Bits.{bit, ones, Says}
-use Rattle.base.proofs.Says.{says-map, says-dec, says-self, says-and, says-or, says-not, says-none, says-among, no-flag}
-use Rattle.runs.specs.Plan.{Plan, Child, signNumber}
+use Rattle.base.proofs.Says.{says-map, says-dec, says-self, says-and, says-or, says-not, no-flag}
+use Rattle.runs.specs.Plan.{Plan, Child}
 use Rattle.runs.specs.Summary.{Must, ExternalPre, ExternalPost}
 use Rattle.marks_row.specs.Tables.{code}
 use Rattle.marks_row.specs.Segments.{Some}
-use Rattle.marks_row.specs.Musts.{MustPreWord, MustPostWord}
+use Rattle.marks_row.specs.Musts.{SaysOf, MustPreWord, MustPostWord}
 use Rattle.runs.proofs.Plan.Numbers.{opposite}
 use Rattle.marks_row.proofs.Segments.{some-next, some-child}
-use Rattle.marks_between.specs.Passing.{PassingWord, Pairing}
-use Rattle.marks_must_pairs.specs.MustPairs.{MustPair, MustPairWord}
+use Rattle.marks_between.specs.Passing.{OfPlans, PassingWord, Pairing, PairWord}
+use Rattle.marks_between.proofs.Pair.{no-pair, pass-none, pass-some}
+use Rattle.marks_must_pairs.specs.MustPairs.{MustPair}
 
 -- a word for each place where `must_pair_word` returns
 module _ {from kids order rows : List ℕ} {size n s c d : ℕ} (w : ℕ) where
-  -- d stands before c: what is shared passes from d to c in every execution
+  -- d stands before c: what d must leave, and c must require
   module _ (x y : ℕ) (q : code order d c ≡ 1) (ex : MustPostWord rows d (1 - s) x) (ey : MustPreWord rows c s y) where
-    shared : {p : Plan} → Pairing from kids order rows size n p → Child p n c → Child p n d → (v : Bool) → s ≡ signNumber v → (f : ℕ) → f < 64
-        → Says (bitAnd w (bitAnd x y)) f (T (bit w f) × (Must p d (ExternalPost p f (not v)) × Must p c (ExternalPre p f v)))
-    shared g hc hd v e f l = let formed = g .group .well-formed in
-        says-and {x = w} {y = bitAnd x y} refl (says-self w f) (says-and {x = x} {y = y} refl
-        (ex _ formed (g .group .children d hd) (not v) (opposite v s e) f l) (ey _ formed (hc .node) (g .group .children c hc) v e f l))
+    shared : OfPlans from kids order rows size n (λ p. Child p n c → Child p n d
+        → SaysOf s (bitAnd x y) (λ f v. Must p d (ExternalPost p f (not v)) × Must p c (ExternalPre p f v)))
+    shared p g hc hd v e f l = let formed = g .group .well-formed in says-and {x = x} {y = y} refl
+        (ex _ formed (g .group .children d hd) (not v) (opposite v s e) f l) (ey _ formed (hc .node) (g .group .children c hc) v e f l)
 
-    pub none-shared : bitAnd w (bitAnd x y) ≡ 0 → MustPairWord from kids order rows size n s w c d 0
-    none-shared z = record { says = λ p g hc hd v e f l. says-none refl (λ u. no-flag _ f z (shared g hc hd v e f l .from (u .0, u .1 .1 .0))) }
+    pub none-shared : bitAnd w (bitAnd x y) ≡ 0 → PairWord MustPair from kids order rows size n s w c d 0
+    none-shared = pass-none w (bitAnd x y) true q (λ p b f v. (λ u. (b, u), λ u. u .1)) shared
 
-    pub shared-passes : {r : ℕ} → PassingWord from kids order rows size n true (bitAnd w (bitAnd x y)) c d r → MustPairWord from kids order rows size n s w c d r
-    shared-passes h = record {
-      says = λ p g hc hd v e f l. says-map (
-        λ u. (u .0 .0, ((g .orders .before d c (hd .node) (hc .node)) .0 q, (u .0 .1, u .1))),
-        λ u. ((u .0, u .1 .1 .0), u .1 .1 .1),
-      ) (says-among (shared g hc hd v e f l) (h .says p g hc hd f l));
-    }
+    pub shared-passes : {r : ℕ} → PassingWord from kids order rows size n true (bitAnd w (bitAnd x y)) c d r
+        → PairWord MustPair from kids order rows size n s w c d r
+    shared-passes = pass-some w (bitAnd x y) true q (λ p b f v. (λ u. (b, u), λ u. u .1)) shared
 
-  pub not-before : ¬ (code order d c ≡ 1) → MustPairWord from kids order rows size n s w c d 0
-  not-before k = record { says = λ p g hc hd v e f l. says-none refl (λ u. k ((g .orders .before d c (hd .node) (hc .node)) .1 (u .1 .0))) }
-
--- the child d by its position
-pub pair-kid : {from kids order rows : List ℕ} {size n s w c d k r : ℕ} → d ≡ k → MustPairWord from kids order rows size n s w c d r → MustPairWord from kids order rows size n s w c k r
-pair-kid e h = rw e at h
+  pub not-before : ¬ (code order d c ≡ 1) → PairWord MustPair from kids order rows size n s w c d 0
+  not-before k = no-pair w (λ p g hc hd f v u. k ((g .orders .before _ _ (hd .node) (hc .node)) .1 (u .0)))
 
 module _ {p : Plan} {n c f : ℕ} {v : Bool} where
   -- no pair with c adds a flag, if c must not require one that is not yet known

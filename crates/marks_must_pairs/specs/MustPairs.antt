@@ -15,10 +15,6 @@ abbrev pub MustPair : Plan → ℕ → ℕ → Bool → ℕ → ℕ → Type 0
 MustPair p n f v c d = Before p d c × ((Must p d (ExternalPost p f (not v)) × Must p c (ExternalPre p f v)) × Undisturbed p n f c d)
 
 module _ (from kids order rows : List ℕ) (size n : ℕ) where
-  -- the wanted flags of one sign that the pair c, d must clobber
-  pub record MustPairWord (s wanted c d r : ℕ) : Type 0 where
-    pub says : OfPlans from kids order rows size n (λ p. Child p n c → Child p n d → SaysOf s r (λ f v. T (bit wanted f) × MustPair p n f v c d))
-
   -- the known flags, and those that some pair with c must clobber; that some pair must clobber
   abbrev pub WithChildWord : ℕ → ℕ → ℕ → ℕ → Type 0
   WithChildWord s known c r = OfPlans from kids order rows size n

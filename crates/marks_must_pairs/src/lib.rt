@@ -1,8 +1,9 @@
 // Rule (b) of must clobber: the pairs of children of an all-of group that clobber a literal in every completed execution; for all flags at once.
 ghost use Prim.Native.Nat.{_<_};
 ghost use lib.ListN.{getD};
-ghost use Rattle.marks_row.specs.Tables.{Position, Shaped};
-ghost use Rattle.marks_must_pairs.specs.MustPairs.{MustPairWord, WithChildWord, MustPairsWord};
+ghost use Rattle.marks_row.specs.Tables.{AtGroup, AtPair};
+ghost use Rattle.marks_between.specs.Passing.{PairWord};
+ghost use Rattle.marks_must_pairs.specs.MustPairs.{MustPair, WithChildWord, MustPairsWord};
 use base::ALL;
 use base::wide;
 use marks_between::passing;
@@ -22,8 +23,8 @@ fn must_pair_word(
     c: usize,
     j: usize,
 ) -> u64
-    requires { ⌜ ((Shaped (now from) (now kids) n × (node < n)) × (sign < 2)) × ((c < n) × Position (now from) node j) ⌝ }
-    ensures { λ r. ⌜ MustPairWord (now (from .entry)) (now (kids .entry)) (now (order .entry)) (now (rows .entry)) n node sign wanted c (getD (now (kids .entry)) j 0) r ⌝ }
+    requires { ⌜ AtPair (now from) (now kids) n node c j × (sign < 2) ⌝ }
+    ensures { λ r. ⌜ PairWord MustPair (now (from .entry)) (now (kids .entry)) (now (order .entry)) (now (rows .entry)) n node sign wanted c (getD (now (kids .entry)) j 0) r ⌝ }
 {
     let d = wide(kids[j]);
     if order[d * 128 + c] == 1 {
@@ -48,7 +49,7 @@ fn must_pairs_of(
     known: u64,
     c: usize,
 ) -> u64
-    requires { ⌜ ((Shaped (now from) (now kids) n × (node < n)) × (sign < 2)) × (c < n) ⌝ }
+    requires { ⌜ AtGroup (now from) (now kids) n node × ((sign < 2) × (c < n)) ⌝ }
     ensures { λ r. ⌜ WithChildWord (now (from .entry)) (now (kids .entry)) (now (order .entry)) (now (rows .entry)) n node sign known c r ⌝ }
 {
     if (known ^ ALL) & must_pre(rows, c, sign) == 0 {
@@ -75,7 +76,7 @@ pub fn must_pairs(
     sign: usize,
     known: u64,
 ) -> u64
-    requires { ⌜ (Shaped (now from) (now kids) n × (node < n)) × (sign < 2) ⌝ }
+    requires { ⌜ AtGroup (now from) (now kids) n node × (sign < 2) ⌝ }
     ensures { λ r. ⌜ MustPairsWord (now (from .entry)) (now (kids .entry)) (now (order .entry)) (now (rows .entry)) n node sign known r ⌝ }
 {
     let mut flags = known;

@@ -8,7 +8,6 @@ use lib.Dec.{T}
 use Rattle.base.specs.Bits.{bit, Says}
 use Rattle.runs.specs.Plan.{Plan, Child, Before, Unordered}
 use Rattle.marks_row.specs.Columns.{may-pre, may-post, requires, asserts, Fact, wordIn}
-use Rattle.marks_row.specs.Musts.{SaysOf}
 use Rattle.marks_between.specs.Passing.{Between, OfPlans}
 use Rattle.marks_pair.specs.declared.Literals.{Literals}
 
@@ -16,11 +15,6 @@ use Rattle.marks_pair.specs.declared.Literals.{Literals}
 abbrev pub Pair : Plan → ℕ → ℕ → Bool → ℕ → ℕ → Type 0
 Pair p n f v c d = (Unordered p c d × (Fact p c f (requires v) × Fact p d f (asserts (not v))))
     ⊎ (Before p d c × ((Fact p d f (may-post (not v)) × Fact p c f (may-pre v)) × Between p n f c d))
-
--- the wanted flags of one sign that the pair c, d clobbers
-pub record PairWord (from kids order rows : List ℕ) (size n s wanted c d r : ℕ) : Type 0 where
-  pub among : (f : ℕ) → f < 64 → T (bit r f) → T (bit wanted f)
-  pub says : OfPlans from kids order rows size n (λ p. Child p n c → Child p n d → SaysOf s r (λ f v. T (bit wanted f) × Pair p n f v c d))
 
 -- the word of one sign
 abbrev pub signWord : Literals → Bool → ℕ

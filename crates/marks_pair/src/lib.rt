@@ -1,8 +1,9 @@
 // The literals that a pair of children of an all-of group may clobber: for all flags at once, from the rows of the children.
 ghost use Prim.Native.Nat.{_<_};
 ghost use lib.ListN.{getD};
-ghost use Rattle.marks_row.specs.Tables.{Position, Shaped};
-ghost use Rattle.marks_pair.specs.Pairs.{PairWord, PairWords, NextPartner};
+ghost use Rattle.marks_row.specs.Tables.{AtPair};
+ghost use Rattle.marks_between.specs.Passing.{PairWord};
+ghost use Rattle.marks_pair.specs.Pairs.{Pair, PairWords, NextPartner};
 use base::wide;
 use marks_between::passing;
 use marks_row::columns::ASSERTS;
@@ -31,8 +32,8 @@ fn pair_word(
     c: usize,
     j: usize,
 ) -> u64
-    requires { ⌜ ((Shaped (now from) (now kids) n × (node < n)) × (sign < 2)) × ((c < n) × Position (now from) node j) ⌝ }
-    ensures { λ r. ⌜ PairWord (now (from .entry)) (now (kids .entry)) (now (order .entry)) (now (rows .entry)) n node sign wanted c (getD (now (kids .entry)) j 0) r ⌝ }
+    requires { ⌜ AtPair (now from) (now kids) n node c j × (sign < 2) ⌝ }
+    ensures { λ r. ⌜ PairWord Pair (now (from .entry)) (now (kids .entry)) (now (order .entry)) (now (rows .entry)) n node sign wanted c (getD (now (kids .entry)) j 0) r ⌝ }
 {
     let d = wide(kids[j]);
     if order[d * 128 + c] == 1 {
@@ -62,7 +63,7 @@ pub fn pair_words(
     c: usize,
     j: usize,
 ) -> Literals
-    requires { ⌜ (Shaped (now from) (now kids) n × (node < n)) × ((c < n) × Position (now from) node j) ⌝ }
+    requires { ⌜ AtPair (now from) (now kids) n node c j ⌝ }
     ensures { λ r. ⌜ PairWords (now (from .entry)) (now (kids .entry)) (now (order .entry)) (now (rows .entry)) n node wanted c (getD (now (kids .entry)) j 0) r ⌝ }
 {
     let clear = pair_word(from, kids, order, rows, n, node, 0, wanted.clear, c, j);

@@ -35,6 +35,17 @@ pub record Shaped (from kids : List ℕ) (n : ℕ) : Type 0 where
   pub ends : (g : ℕ) → g < n → getD from (g + 1) 0 ≤ 128
   pub rises : (g i : ℕ) → g < n → Position from g i → (g < getD kids i 0) × (getD kids i 0 < n)
 
+-- what is asked where a node is worked out: it is one of shaped tables
+pub record AtGroup (from kids : List ℕ) (n node : ℕ) : Type 0 where
+  pub shaped : Shaped from kids n
+  pub below : node < n
+
+-- what is asked where two children of a node are compared: c, and the one at position j
+pub record AtPair (from kids : List ℕ) (n node c j : ℕ) : Type 0 where
+  pub group : AtGroup from kids n node
+  pub child : c < n
+  pub other : Position from node j
+
 pub record RepresentsKinds (kind : List ℕ) (p : Plan) : Type 0 where
   pub is : (i : ℕ) → Node p i → getD kind i 0 ≡ kindNumber (p .tree .kind i)
 

@@ -3,7 +3,7 @@ ghost use mathlib.Core.Logic.{_↔_};
 ghost use Prim.Native.Nat.{_<_};
 ghost use lib.Dec.{T};
 ghost use Rattle.base.specs.Bits.{bit};
-ghost use Rattle.marks_row.specs.Tables.{Shaped};
+ghost use Rattle.marks_row.specs.Tables.{AtGroup};
 ghost use Rattle.marks_siblings.specs.Siblings.{Apart, Narrows, Limits, SiblingsOf};
 use base::ALL;
 use base::wide;
@@ -99,7 +99,7 @@ pub fn all_siblings(
     node: usize,
     child: usize,
 ) -> Siblings
-    requires { ⌜ (Shaped (now from) (now kids) n × (node < n)) × (child < n) ⌝ }
+    requires { ⌜ AtGroup (now from) (now kids) n node × (child < n) ⌝ }
     ensures { λ r. ⌜ SiblingsOf (now (from .entry)) (now (kids .entry)) (now (order .entry)) (now (rows .entry)) n node child r ⌝ }
 {
     let mut s = Siblings {

@@ -10,7 +10,7 @@ use Rattle.base.proofs.Says.{says-eq}
 use Rattle.runs.specs.Plan.{Kind, task, all-of, any-of, Plan, Node, Under, itself, WellFormed, kindNumber}
 use Rattle.runs.proofs.Plan.Trees.{Branch, branch, under-root}
 use Rattle.runs.proofs.Execution.Final.{under-task}
-use Rattle.marks_row.specs.Tables.{Position, Shaped, RepresentsKinds, RepresentsConditions, Represents}
+use Rattle.marks_row.specs.Tables.{Position, AtGroup, RepresentsKinds, RepresentsConditions, Represents}
 use Rattle.marks_row.specs.Columns.{indexOf, Right, Row, Written}
 use Rattle.marks_row.specs.Segments.{Every}
 use Rattle.marks_row.specs.Tasks.{Task}
@@ -51,8 +51,8 @@ module _ {kind : List ℕ} {c : ℕ} where
       at any-of a b = absurd (b refl)
 
 -- a child has a greater number than its group
-pub kid-later : {from kids : List ℕ} {n node i c : ℕ} → Shaped from kids n × (node < n) → Position from node i → c ≡ getD kids i 0 → (node < c) × (c < n)
-kid-later s at e = rw e (s .0 .rises _ _ (s .1) at)
+pub kid-later : {from kids : List ℕ} {n node i c : ℕ} → AtGroup from kids n node → Position from node i → c ≡ getD kids i 0 → (node < c) × (c < n)
+kid-later s at e = rw e (s .shaped .rises _ _ (s .below) at)
 
 module _ (kind from kids order : List ℕ) (n node : ℕ) where
   -- the children at the positions before i are worked out, with all under them

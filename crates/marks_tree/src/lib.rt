@@ -4,7 +4,7 @@ ghost use Prim.Native.Nat.{_≤_, _<_};
 ghost use lib.ListN.{length};
 ghost use Rattle.runs.specs.Plan.{all-of, any-of};
 ghost use Rattle.marks_row.specs.Columns.{RowIs};
-ghost use Rattle.marks_row.specs.Tables.{Shaped};
+ghost use Rattle.marks_row.specs.Tables.{AtGroup};
 ghost use Rattle.marks_tree.specs.Clobbers.{AllOfRow, clobberOf, Ored};
 ghost use Rattle.marks_tree.specs.Filled.{Filled, TasksFilled, AllFilled};
 use base::ALL;
@@ -69,7 +69,7 @@ fn all_row(
     n: usize,
     node: usize,
 ) -> [u64; 21]
-    requires { ⌜ Shaped (now from) (now kids) n × (node < n) ⌝ }
+    requires { ⌜ AtGroup (now from) (now kids) n node ⌝ }
     ensures { λ r. ⌜ AllOfRow (now (from .entry)) (now (kids .entry)) (now (order .entry)) (now (rows .entry)) n node r ⌝ }
 {
     let words = all_words(from, kids, order, rows, n, node);
@@ -98,7 +98,7 @@ fn all_of(
     n: usize,
     node: usize,
 )
-    requires { ⌜ (Shaped (now from) (now kids) n × (node < n)) × (length (now rows) ≡ 2688) ⌝ }
+    requires { ⌜ AtGroup (now from) (now kids) n node × (length (now rows) ≡ 2688) ⌝ }
     ensures { λ r. ⌜ Filled all-of (now (kind .entry)) (now (from .entry)) (now (kids .entry)) (now (order .entry)) (now (rows .entry)) (now (rows .exit)) n node ⌝ }
 {
     let end = wide(from[node + 1]);
@@ -127,7 +127,7 @@ fn any_of(
     n: usize,
     node: usize,
 )
-    requires { ⌜ (Shaped (now from) (now kids) n × (node < n)) × (length (now rows) ≡ 2688) ⌝ }
+    requires { ⌜ AtGroup (now from) (now kids) n node × (length (now rows) ≡ 2688) ⌝ }
     ensures { λ r. ⌜ Filled any-of (now (kind .entry)) (now (from .entry)) (now (kids .entry)) (now (order .entry)) (now (rows .entry)) (now (rows .exit)) n node ⌝ }
 {
     let end = wide(from[node + 1]);
@@ -171,7 +171,7 @@ pub fn node_rows(
     rows: &mut [u64; 2688],
     n: usize,
 )
-    requires { ⌜ (Shaped (now from) (now kids) n × (0 < n)) × (length (now rows) ≡ 2688) ⌝ }
+    requires { ⌜ AtGroup (now from) (now kids) n 0 × (length (now rows) ≡ 2688) ⌝ }
     ensures { λ r. ⌜ AllFilled (now (kind .entry)) (now (from .entry)) (now (kids .entry)) (now (order .entry)) (now (conds .entry)) (now (rows .exit)) n ⌝ }
 {
     task_rows(kind, conds, rows, n);

@@ -49,7 +49,11 @@ pair-words-requires c κs =
     let s = m .before .before .before .before .before in
     let bounds = m .search .inv .0 in
     let at = position bounds (l .loop .inv .1 .child) (l .before .before .before .before .search-test .taken) in
-    (s .pre .0, (kid-below (s .pre .0) at (l .before .before .wide3 .ensures .0), position bounds (l .loop .inv .1 .partner) (c .loop-test .taken)))
+    record {
+      group = s .pre .0;
+      child = kid-below (s .pre .0) at (l .before .before .wide3 .ensures .0);
+      other = position bounds (l .loop .inv .1 .partner) (c .loop-test .taken);
+    }
 
 loop-again : tie.Need-loop-again Inv-loop μ-loop Inv-search μ-search
 loop-again c =

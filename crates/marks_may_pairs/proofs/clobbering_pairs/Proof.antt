@@ -14,7 +14,7 @@ abbrev μ-loop : tie.MeasureT-loop
 loop-holds : tie.Need-loop-holds Inv-loop μ-loop
 loop-holds c =
     let s = c .before .before in
-    rw (c .wide .ensures .0) (at-first _ _ _ _ _ _ _ (s .pre .0 .starts (s .args .node) (s .pre .1)))
+    rw (c .wide .ensures .0) (at-first _ _ _ _ _ _ _ (s .pre .shaped .starts (s .args .node) (s .pre .below)))
 
 clobbering-pair-requires : tie.Need-clobbering-pair-requires Inv-loop μ-loop
 clobbering-pair-requires c κs = (c .before .before .before .pre, c .loop .inv .stands)

@@ -1,7 +1,8 @@
 -- `must_pair_word` meets its contract: a case for each place where it returns. Assumes nothing.
-use Rattle.marks_row.proofs.Turns.{position-small, kid-small}
+use Rattle.marks_row.proofs.Turns.{position-small, pair-small}
 use Rattle.marks_between.proofs.Laws.{passing-kid}
-use Rattle.marks_must_pairs.proofs.Laws.{none-shared, shared-passes, not-before, pair-kid}
+use Rattle.marks_between.proofs.Pair.{pair-kid}
+use Rattle.marks_must_pairs.proofs.Laws.{none-shared, shared-passes, not-before}
 use native.Mathlib.Omega.{arith}
 use borrow.Author.Needs.{needs}
 use Rattle.marks_must_pairs.proofs.must_pair_word.Statement.{statement}
@@ -20,19 +21,19 @@ returns-3 : tie.Need-returns-3
 returns-3 c = pair-kid (c .before .before .wide .ensures .0) (not-before _ (c .if1 .left))
 
 element-copy-out-wide : tie.Need-element-copy-out-wide
-element-copy-out-wide c = position-small (c .pre .0 .0) (c .pre .1 .1)
+element-copy-out-wide c = position-small (c .pre .0 .group) (c .pre .0 .other)
 
 mul-if1 : tie.Need-mul-if1
-mul-if1 c = let s = c .before .before in omega (arith, s .pre, s .pre .0 .0 .0 .small, kid-small (s .pre .0 .0) (s .pre .1 .1) (c .wide .ensures .0))
+mul-if1 c = let s = c .before .before in omega (arith, s .pre .1, pair-small (s .pre .0) (c .wide .ensures .0))
 
 add-if1 : tie.Need-add-if1
-add-if1 c = let s = c .before .before in omega (arith, s .pre, s .pre .0 .0 .0 .small, kid-small (s .pre .0 .0) (s .pre .1 .1) (c .wide .ensures .0))
+add-if1 c = let s = c .before .before in omega (arith, s .pre .1, pair-small (s .pre .0) (c .wide .ensures .0))
 
 element-copy-out-if1 : tie.Need-element-copy-out-if1
-element-copy-out-if1 c = let s = c .before .before in omega (arith, s .pre, s .pre .0 .0 .0 .small, kid-small (s .pre .0 .0) (s .pre .1 .1) (c .wide .ensures .0))
+element-copy-out-if1 c = let s = c .before .before in omega (arith, s .pre .1, pair-small (s .pre .0) (c .wide .ensures .0))
 
 must-post-requires : tie.Need-must-post-requires
-must-post-requires c κs = let s = c .before .before .before .before in omega (arith, s .pre, s .pre .0 .0 .0 .small, kid-small (s .pre .0 .0) (s .pre .1 .1) (c .before .before .wide .ensures .0))
+must-post-requires c κs = let s = c .before .before .before .before in omega (arith, s .pre .1, pair-small (s .pre .0) (c .before .before .wide .ensures .0))
 
 pub must-pair-word-spec : {M : Type 1} → statement M
 must-pair-word-spec =

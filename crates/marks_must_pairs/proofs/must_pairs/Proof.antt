@@ -35,7 +35,7 @@ must-pairs-of-requires : tie.Need-must-pairs-of-requires Inv-loop μ-loop
 must-pairs-of-requires c κs =
     let l = c .before .before .before in
     let s = l .before .before .before .before .before in
-    (s .pre, kid-below (s .pre .0) (position (l .loop .inv .0) (c .before .before .loop-test .taken)) (c .wide3 .ensures .0))
+    (s .pre .0, (s .pre .1, kid-below (s .pre .0) (position (l .loop .inv .0) (c .before .before .loop-test .taken)) (c .wide3 .ensures .0)))
 
 loop-again : tie.Need-loop-again Inv-loop μ-loop
 loop-again c =

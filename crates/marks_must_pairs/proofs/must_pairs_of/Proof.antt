@@ -26,7 +26,7 @@ abbrev μ-loop : tie.MeasureT-loop
 μ-loop from kids order rows n node sign known c flags₀ end j₀ flags j = end - j
 
 must-pre-requires : tie.Need-must-pre-requires Inv-loop μ-loop
-must-pre-requires c κs = omega (arith, c .pre, c .pre .0 .0 .0 .small)
+must-pre-requires c κs = omega (arith, c .pre .1, c .pre .0 .shaped .small)
 
 returns : tie.Need-returns Inv-loop μ-loop
 returns c =
@@ -34,13 +34,13 @@ returns c =
 
 loop-holds : tie.Need-loop-holds Inv-loop μ-loop
 loop-holds c =
-    (first-turn (c .before .before .before .before .before .before .pre .0 .0) (c .before .before .wide .ensures .0) (c .wide2 .ensures .0), λ p g hc v q f m. rw (c .wide2 .ensures .0) none-more)
+    (first-turn (c .before .before .before .before .before .before .pre .0) (c .before .before .wide .ensures .0) (c .wide2 .ensures .0), λ p g hc v q f m. rw (c .wide2 .ensures .0) none-more)
 
 must-pair-word-requires : tie.Need-must-pair-word-requires Inv-loop μ-loop
 must-pair-word-requires c κs =
     let l = c .before in
     let s = l .before .before .before .before .before .before .before in
-    (s .pre .0, (s .pre .1, position (l .loop .inv .0) (c .loop-test .taken)))
+    (record { group = s .pre .0; child = s .pre .1 .1; other = position (l .loop .inv .0) (c .loop-test .taken) }, s .pre .1 .0)
 
 loop-again : tie.Need-loop-again Inv-loop μ-loop
 loop-again c =

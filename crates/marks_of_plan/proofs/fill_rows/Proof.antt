@@ -12,8 +12,13 @@ nodes-requires c κs = clean _ (c .before .before .before .before .before .befor
 node-rows-requires : tie.Need-node-rows-requires
 node-rows-requires c κs =
     let p = c .before .before .before .before .before .before .before .before .before .before .before .before .before .before .before .before .before .before .before .pre in
-    let n = c .before .before .before .before .before .before .nodes .ensures in
-    ((rw n (c .before .before .before .before .before .before .before .fill-tables .ensures .shaped), rw n (clean _ (p .0) .fits .limits .some-node)), p .1)
+    let n = c .before .before .before .before .before .before .nodes .ensures in (
+      record {
+        shaped = rw n (c .before .before .before .before .before .before .before .fill-tables .ensures .shaped);
+        below = rw n (clean _ (p .0) .fits .limits .some-node);
+      },
+      p .1,
+    )
 
 returns : tie.Need-returns
 returns c =

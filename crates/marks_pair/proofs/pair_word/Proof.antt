@@ -1,7 +1,8 @@
 -- `pair_word` meets its contract: a case for each place where it returns. Assumes nothing.
-use Rattle.marks_row.proofs.Turns.{position-small, kid-small}
+use Rattle.marks_row.proofs.Turns.{position-small, pair-small}
 use Rattle.marks_between.proofs.Laws.{passing-kid}
-use Rattle.marks_pair.proofs.Pairs.{none-shared, shared-passes, apart-both, neither-rule, pair-kid}
+use Rattle.marks_between.proofs.Pair.{pair-kid}
+use Rattle.marks_pair.proofs.Pairs.{none-shared, shared-passes, apart-both, neither-rule}
 use native.Mathlib.Omega.{arith}
 use borrow.Author.Needs.{needs}
 use Rattle.marks_pair.proofs.pair_word.Statement.{statement}
@@ -25,25 +26,25 @@ returns-4 c = pair-kid (c .before .before .before .before .wide .ensures .0)
     (neither-rule _ (c .before .before .if1 .left) (λ u. rw (c .if3 .left) at ((c .before .apart .ensures) .1 u)))
 
 element-copy-out-wide : tie.Need-element-copy-out-wide
-element-copy-out-wide c = position-small (c .pre .0 .0) (c .pre .1 .1)
+element-copy-out-wide c = position-small (c .pre .0 .group) (c .pre .0 .other)
 
 mul-if1 : tie.Need-mul-if1
-mul-if1 c = let s = c .before .before in omega (arith, s .pre, s .pre .0 .0 .0 .small, kid-small (s .pre .0 .0) (s .pre .1 .1) (c .wide .ensures .0))
+mul-if1 c = let s = c .before .before in omega (arith, s .pre .1, pair-small (s .pre .0) (c .wide .ensures .0))
 
 add-if1 : tie.Need-add-if1
-add-if1 c = let s = c .before .before in omega (arith, s .pre, s .pre .0 .0 .0 .small, kid-small (s .pre .0 .0) (s .pre .1 .1) (c .wide .ensures .0))
+add-if1 c = let s = c .before .before in omega (arith, s .pre .1, pair-small (s .pre .0) (c .wide .ensures .0))
 
 element-copy-out-if1 : tie.Need-element-copy-out-if1
-element-copy-out-if1 c = let s = c .before .before in omega (arith, s .pre, s .pre .0 .0 .0 .small, kid-small (s .pre .0 .0) (s .pre .1 .1) (c .wide .ensures .0))
+element-copy-out-if1 c = let s = c .before .before in omega (arith, s .pre .1, pair-small (s .pre .0) (c .wide .ensures .0))
 
 word-at-requires : tie.Need-word-at-requires
-word-at-requires c κs = let s = c .before .before .before .before in omega (arith, s .pre, s .pre .0 .0 .0 .small, kid-small (s .pre .0 .0) (s .pre .1 .1) (c .before .before .wide .ensures .0))
+word-at-requires c κs = let s = c .before .before .before .before in omega (arith, s .pre .1, pair-small (s .pre .0) (c .before .before .wide .ensures .0))
 
 apart-requires : tie.Need-apart-requires
-apart-requires c κs = let s = c .before .before .before .before in omega (arith, s .pre, s .pre .0 .0 .0 .small, kid-small (s .pre .0 .0) (s .pre .1 .1) (c .before .before .wide .ensures .0))
+apart-requires c κs = let s = c .before .before .before .before in omega (arith, s .pre .1, pair-small (s .pre .0) (c .before .before .wide .ensures .0))
 
 word-at-requires-4 : tie.Need-word-at-requires-4
-word-at-requires-4 c κs = let s = c .before .before .before .before .before .before .before in omega (arith, s .pre, s .pre .0 .0 .0 .small, kid-small (s .pre .0 .0) (s .pre .1 .1) (c .before .before .before .before .before .wide .ensures .0))
+word-at-requires-4 c κs = let s = c .before .before .before .before .before .before .before in omega (arith, s .pre .1, pair-small (s .pre .0) (c .before .before .before .before .before .wide .ensures .0))
 
 pub pair-word-spec : {M : Type 1} → statement M
 pair-word-spec =

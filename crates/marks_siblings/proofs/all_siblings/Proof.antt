@@ -35,7 +35,7 @@ with-sibling-requires c κs =
     let l = c .before .before .before in
     let s = l .before .before .before .before .before in
     let b = kid-small (s .pre .0) (position (l .loop .inv .0) (c .before .before .loop-test .taken)) (c .wide3 .ensures .0) in
-    omega (arith, s .pre .0 .0 .small, s .pre .1, b)
+    omega (arith, s .pre .0 .shaped .small, s .pre .1, b)
 
 loop-again : tie.Need-loop-again Inv-loop μ-loop
 loop-again c =

@@ -53,13 +53,13 @@ abbrev all-of-μ-loop : all-of-lts.MeasureT-loop
 all-of-μ-loop kind from kids order rows₀ n node end i₀ rows i = end - i
 
 all-of-add-wide : (t : ℕ) → all-of-lts.Need-add-wide (all-of-claims t) (all-of-at t) all-of.Post all-of-Inv-loop all-of-μ-loop
-all-of-add-wide t c = omega (arith, c .pre .1 .0 .0 .small, c .pre .1 .0 .1)
+all-of-add-wide t c = omega (arith, c .pre .1 .0 .shaped .small, c .pre .1 .0 .below)
 
 all-of-element-copy-out-wide : (t : ℕ) → all-of-lts.Need-element-copy-out-wide (all-of-claims t) (all-of-at t) all-of.Post all-of-Inv-loop all-of-μ-loop
-all-of-element-copy-out-wide t c = omega (arith, c .pre .1 .0 .0 .small, c .pre .1 .0 .1)
+all-of-element-copy-out-wide t c = omega (arith, c .pre .1 .0 .shaped .small, c .pre .1 .0 .below)
 
 all-of-element-copy-out-wide-2 : (t : ℕ) → all-of-lts.Need-element-copy-out-wide-2 (all-of-claims t) (all-of-at t) all-of.Post all-of-Inv-loop all-of-μ-loop
-all-of-element-copy-out-wide-2 t c = let s = c .before .before in omega (arith, s .pre .1 .0 .0 .small, s .pre .1 .0 .1)
+all-of-element-copy-out-wide-2 t c = let s = c .before .before in omega (arith, s .pre .1 .0 .shaped .small, s .pre .1 .0 .below)
 
 all-of-loop-holds : (t : ℕ) → all-of-lts.Need-loop-holds (all-of-claims t) (all-of-at t) all-of.Post all-of-Inv-loop all-of-μ-loop
 all-of-loop-holds t c =
@@ -80,14 +80,14 @@ all-of-all-of-requires t c κs =
     let l = c .before .before .before .before .before .before in
     let s = l .before .before .before .before .before in
     let later = kid-later (s .pre .1 .0) (position (l .loop .inv .0) (c .before .before .before .before .before .loop-test .taken)) (c .before .before .before .wide3 .ensures .0) in
-    (nearer (s .pre .0) later, ((s .pre .1 .0 .0, later .1), l .loop .inv .1 .long))
+    (nearer (s .pre .0) later, (record { shaped = s .pre .1 .0 .shaped; below = later .1 }, l .loop .inv .1 .long))
 
 all-of-any-of-requires : (t : ℕ) → all-of-lts.Need-any-of-requires (all-of-claims t) (all-of-at t) all-of.Post all-of-Inv-loop all-of-μ-loop
 all-of-any-of-requires t c κs =
     let l = c .before .before .before .before .before .before .before in
     let s = l .before .before .before .before .before in
     let later = kid-later (s .pre .1 .0) (position (l .loop .inv .0) (c .before .before .before .before .before .before .loop-test .taken)) (c .before .before .before .before .wide3 .ensures .0) in
-    (nearer (s .pre .0) later, ((s .pre .1 .0 .0, later .1), l .loop .inv .1 .long))
+    (nearer (s .pre .0) later, (record { shaped = s .pre .1 .0 .shaped; below = later .1 }, l .loop .inv .1 .long))
 
 all-of-loop-again : (t : ℕ) → all-of-lts.Need-loop-again (all-of-claims t) (all-of-at t) all-of.Post all-of-Inv-loop all-of-μ-loop
 all-of-loop-again t c =
@@ -109,7 +109,7 @@ all-of-all-row-requires t c κs = c .before .before .before .before .before .bef
 all-of-write-row-requires : (t : ℕ) → all-of-lts.Need-write-row-requires (all-of-claims t) (all-of-at t) all-of.Post all-of-Inv-loop all-of-μ-loop
 all-of-write-row-requires t c κs =
     let s = c .before .before .before .before .before .before .before .before .before in
-    (omega (arith, s .pre .1 .0 .0 .small, s .pre .1 .0 .1), c .before .before .before .before .loop .inv .1 .long)
+    (omega (arith, s .pre .1 .0 .shaped .small, s .pre .1 .0 .below), c .before .before .before .before .loop .inv .1 .long)
 
 all-of-returns : (t : ℕ) → all-of-lts.Need-returns (all-of-claims t) (all-of-at t) all-of.Post all-of-Inv-loop all-of-μ-loop
 all-of-returns t c =
@@ -127,13 +127,13 @@ abbrev any-of-μ-loop : any-of-lts.MeasureT-loop
 any-of-μ-loop kind from kids order rows₀ n node end i₀ rows i = end - i
 
 any-of-add-wide : (t : ℕ) → any-of-lts.Need-add-wide (any-of-claims t) (any-of-at t) any-of.Post any-of-Inv-loop any-of-μ-loop
-any-of-add-wide t c = omega (arith, c .pre .1 .0 .0 .small, c .pre .1 .0 .1)
+any-of-add-wide t c = omega (arith, c .pre .1 .0 .shaped .small, c .pre .1 .0 .below)
 
 any-of-element-copy-out-wide : (t : ℕ) → any-of-lts.Need-element-copy-out-wide (any-of-claims t) (any-of-at t) any-of.Post any-of-Inv-loop any-of-μ-loop
-any-of-element-copy-out-wide t c = omega (arith, c .pre .1 .0 .0 .small, c .pre .1 .0 .1)
+any-of-element-copy-out-wide t c = omega (arith, c .pre .1 .0 .shaped .small, c .pre .1 .0 .below)
 
 any-of-element-copy-out-wide-2 : (t : ℕ) → any-of-lts.Need-element-copy-out-wide-2 (any-of-claims t) (any-of-at t) any-of.Post any-of-Inv-loop any-of-μ-loop
-any-of-element-copy-out-wide-2 t c = let s = c .before .before in omega (arith, s .pre .1 .0 .0 .small, s .pre .1 .0 .1)
+any-of-element-copy-out-wide-2 t c = let s = c .before .before in omega (arith, s .pre .1 .0 .shaped .small, s .pre .1 .0 .below)
 
 any-of-loop-holds : (t : ℕ) → any-of-lts.Need-loop-holds (any-of-claims t) (any-of-at t) any-of.Post any-of-Inv-loop any-of-μ-loop
 any-of-loop-holds t c =
@@ -154,14 +154,14 @@ any-of-all-of-requires t c κs =
     let l = c .before .before .before .before .before .before in
     let s = l .before .before .before .before .before in
     let later = kid-later (s .pre .1 .0) (position (l .loop .inv .0) (c .before .before .before .before .before .loop-test .taken)) (c .before .before .before .wide3 .ensures .0) in
-    (nearer (s .pre .0) later, ((s .pre .1 .0 .0, later .1), l .loop .inv .1 .long))
+    (nearer (s .pre .0) later, (record { shaped = s .pre .1 .0 .shaped; below = later .1 }, l .loop .inv .1 .long))
 
 any-of-any-of-requires : (t : ℕ) → any-of-lts.Need-any-of-requires (any-of-claims t) (any-of-at t) any-of.Post any-of-Inv-loop any-of-μ-loop
 any-of-any-of-requires t c κs =
     let l = c .before .before .before .before .before .before .before in
     let s = l .before .before .before .before .before in
     let later = kid-later (s .pre .1 .0) (position (l .loop .inv .0) (c .before .before .before .before .before .before .loop-test .taken)) (c .before .before .before .before .wide3 .ensures .0) in
-    (nearer (s .pre .0) later, ((s .pre .1 .0 .0, later .1), l .loop .inv .1 .long))
+    (nearer (s .pre .0) later, (record { shaped = s .pre .1 .0 .shaped; below = later .1 }, l .loop .inv .1 .long))
 
 any-of-loop-again : (t : ℕ) → any-of-lts.Need-loop-again (any-of-claims t) (any-of-at t) any-of.Post any-of-Inv-loop any-of-μ-loop
 any-of-loop-again t c =
@@ -183,7 +183,7 @@ any-of-any-words-requires t c κs = c .before .before .before .before .before .b
 any-of-write-row-requires : (t : ℕ) → any-of-lts.Need-write-row-requires (any-of-claims t) (any-of-at t) any-of.Post any-of-Inv-loop any-of-μ-loop
 any-of-write-row-requires t c κs =
     let s = c .before .before .before .before .before .before .before .before .before in
-    (omega (arith, s .pre .1 .0 .0 .small, s .pre .1 .0 .1), c .before .before .before .before .loop .inv .1 .long)
+    (omega (arith, s .pre .1 .0 .shaped .small, s .pre .1 .0 .below), c .before .before .before .before .loop .inv .1 .long)
 
 any-of-returns : (t : ℕ) → any-of-lts.Need-returns (any-of-claims t) (any-of-at t) any-of.Post any-of-Inv-loop any-of-μ-loop
 any-of-returns t c =
