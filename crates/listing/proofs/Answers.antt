@@ -48,7 +48,7 @@ module _ (b out : List ℕ) where
   refused-is : (r n : ℕ) → listingRefusal b out ≡ r → n ≡ r → (r ≡ 0 → ⊥) → Lists b out (Refused n) out
   unfolding listedOf listingLeft
   refused-is zero n e q h = absurd (h refl)
-  refused-is (suc r) n e q h = record { answer = rw (e, q); bytes = rw (e, ne-eqb (suc r) 0 h); text = listing-is b }
+  refused-is (suc r) n e q h = record { returns = rw (e, q); leaves = rw (e, ne-eqb (suc r) 0 h); text = listing-is b }
 
   pub lists-refused : {n : ℕ} → n ≡ refusal b → (refusal b ≡ 0 → ⊥) → Lists b out (Refused n) out
   lists-refused {n} e h = refused-is (refusal b) n (refused-first h) e h
@@ -70,7 +70,7 @@ module _ (b out : List ℕ) where
   lists-text {r} e l w =
       let z = refused-none e l in
       let q : r ≡ length (textOf b) = omega (arith, w .next) in
-      record { answer = rw (z, q); bytes = w .bytes ∙ sym (left-text z); text = listing-is b }
+      record { returns = rw (z, q); leaves = w .bytes ∙ sym (left-text z); text = listing-is b }
 
   -- ---- what was answered where there is room
   accepted-plan : listingRefusal b out ≡ 0 → refusal b ≡ 0
@@ -80,16 +80,16 @@ module _ (b out : List ℕ) where
   pub text-answered : {r : ℕ} {out' : List ℕ} → Lists b out (Text r) out' → Wrote out 0 (printed b) out' r
   unfolding listedOf
   text-answered {r} h =
-      let w = said-value (listingRefusal b out) (length (textOf b)) r (h .answer) in
-      wrote-same (printed-text b (accepted-plan (w .0))) (record { bytes = h .bytes ∙ left-text (w .0); next = omega (arith, w .1) })
+      let w = said-value (listingRefusal b out) (length (textOf b)) r (h .returns) in
+      wrote-same (printed-text b (accepted-plan (w .0))) (record { bytes = h .leaves ∙ left-text (w .0); next = omega (arith, w .1) })
 
   pub refused-answered : {n : ℕ} {out' : List ℕ} → 2048 ≤ length out → Lists b out (Refused n) out' → (n ≤ 14) × (refusedText n ≡ printed b) × (out' ≡ out)
   unfolding listedOf
   refused-answered {n} l h =
-      let w = said-number (listingRefusal b out) n (length (textOf b)) (h .answer) in
+      let w = said-number (listingRefusal b out) n (length (textOf b)) (h .returns) in
       let p : refusal b ≡ 0 → ⊥ = λ z. w .1 (refused-none z l) in
       let e : n ≡ refusal b = w .0 ∙ refused-first p in
-      (omega (arith, refusal-limit b), ap refusedText e ∙ printed-refused b p, h .bytes ∙ left-out (w .1))
+      (omega (arith, refusal-limit b), ap refusedText e ∙ printed-refused b p, h .leaves ∙ left-out (w .1))
 
 -- ---- all that is printed fits too
 pub printed-fits : (b : List ℕ) → length (printed b) ≤ 1666

@@ -32,8 +32,8 @@ listingLeft b out = cond (eqb (listingRefusal b out) 0) (written out 0 (textOf b
 
 -- a call answered and left these; 01's words hold of the text of an accepted plan, and of no other
 pub record Lists (b out : List ℕ) (r : Listed) (out' : List ℕ) : Type 0 where
-  pub answer : told r ≡ listedOf b out
-  pub bytes : out' ≡ listingLeft b out
+  pub returns : told r ≡ listedOf b out
+  pub leaves : out' ≡ listingLeft b out
   pub text : refusal b ≡ 0 → (s : List ℕ) → IsListing b s ↔ (s ≡ textOf b)
 
 -- a call wrote all that the program prints from the first byte, and answered how much of out' that is (`counts` follows from `fits`; `&out[..r]` asks for both);
