@@ -65,7 +65,7 @@ module _ (b out : List ℕ) where
   unfolding listingLeft
   left-out h = rw (ne-eqb (listingRefusal b out) 0 h)
 
-  pub lists-text : {r : ℕ} {out' : List ℕ} → refusal b ≡ 0 → 2048 ≤ length out → Wrote out 0 (textOf b) out' r → Lists b out (Text r) out'
+  pub lists-text : {r : ℕ} {out' : List ℕ} → refusal b ≡ 0 → 2048 ≤ length out → Wrote out 0 (textOf b) r out' → Lists b out (Text r) out'
   unfolding listedOf
   lists-text {r} e l w =
       let z = refused-none e l in
@@ -77,7 +77,7 @@ module _ (b out : List ℕ) where
   unfolding listingRefusal
   accepted-plan e = both-none (refusal b) (cond (ltb (length out) 2048) 15 0) e .0
 
-  pub text-answered : {r : ℕ} {out' : List ℕ} → Lists b out (Text r) out' → Wrote out 0 (printed b) out' r
+  pub text-answered : {r : ℕ} {out' : List ℕ} → Lists b out (Text r) out' → Wrote out 0 (printed b) r out'
   unfolding listedOf
   text-answered {r} h =
       let w = said-value (listingRefusal b out) (length (textOf b)) r (h .returns) in
@@ -98,7 +98,7 @@ printed-fits b =
     (λ (e : refusal b ≡ 0). rw (← printed-text b e) (text-fits (clean b e)))
     (λ e. rw (← printed-refused b e) (omega (arith, refused-length (refusal b) (refusal-limit b))))
 
-pub prints : (b : List ℕ) {out out' : List ℕ} {r : ℕ} → 2048 ≤ length out → Wrote out 0 (printed b) out' r → Prints b out out' r
+pub prints : (b : List ℕ) {out out' : List ℕ} {r : ℕ} → 2048 ≤ length out → Wrote out 0 (printed b) r out' → Prints b out r out'
 prints b {out' = out'} {r} l w =
     let f : r ≤ length out' = omega (arith, w .next, wrote-long w, printed-fits b) in
     record {
