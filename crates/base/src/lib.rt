@@ -1,7 +1,11 @@
-// A number, a conversion and tables of zeros that many crates use.
+// Numbers, a conversion and tables of zeros that many crates use.
 ghost use mathlib.Core.Path.{_≡_};
 ghost use Prim.Native.Nat.{_<_};
 ghost use Rattle.base.specs.Zeros.{Zeros};
+
+pub mod kinds;
+pub mod places;
+pub mod statuses;
 
 // The word with every bit set.
 pub const ALL: u64 = 18446744073709551615;

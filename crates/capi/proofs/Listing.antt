@@ -24,7 +24,7 @@ module _ (b out : List ℕ) where
   -- a text is at most 2,048 bytes long
   pub short : {out′ : List ℕ} (r : Listed) → Lists b out r out′ → Short (told r)
   unfolding listedOf
-  short r l = at (told r) (l .answer)
+  short r l = at (told r) (l .returns)
     where
       at : (x : ℕ ⊎ ℕ) → x ≡ refusedOr (listingRefusal b out) (length (textOf b)) → Short x
       at (inl n) e = tt

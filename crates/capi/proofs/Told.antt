@@ -46,11 +46,11 @@ pub verdict-told : (b : List ℕ) (a : Answer) {r : ℕ} → Assessed b a → r 
 unfolding answerOf
 verdict-told b a x q =
     record {
-      number = q ∙ ap verdictNumber (x .answer);
+      returns = q ∙ ap verdictNumber (x .returns);
       judged = λ acc v.
           rw q
           (Iff·trans
-          (number-tells verdictNumber verdictIn verdict-back (x .answer ∙ sym (answer-none (refusal b) _ acc)) v)
+          (number-tells verdictNumber verdictIn verdict-back (x .returns ∙ sym (answer-none (refusal b) _ acc)) v)
           (x .judged acc v));
     }
 
@@ -58,13 +58,13 @@ pub status-told : (b s : List ℕ) (a : Progress) {r : ℕ} → Told b s a → r
 unfolding statusAnswer
 status-told b s a x q =
     record {
-      number = q ∙ ap statusNumber (x .answer);
+      returns = q ∙ ap statusNumber (x .returns);
       complete = λ ok.
           rw q
           (Iff·trans
-          (number-tells statusNumber wordIn word-back (x .answer ∙ sym (answer-none (stateRefusal b s) _ ok)) COMPLETE)
+          (number-tells statusNumber wordIn word-back (x .returns ∙ sym (answer-none (stateRefusal b s) _ ok)) COMPLETE)
           (λ c. x .complete .0 c .1, λ c. x .complete .1 (ok, c)));
     }
 
 pub listing-told : (b out : List ℕ) (a : Listed) {r : ℕ} {out′ : List ℕ} → Lists b out a out′ → r ≡ listingNumber (told a) → ListingNumber b out r out′
-listing-told b out a x q = record { number = q ∙ ap listingNumber (x .answer); bytes = x .bytes; text = x .text }
+listing-told b out a x q = record { returns = q ∙ ap listingNumber (x .returns); leaves = x .leaves; text = x .text }

@@ -17,16 +17,16 @@ use Rattle.capi_numbers.specs.Numbers.{verdictNumber, statusNumber, listingNumb
 
 -- r is the number of the answer for the plan; accepted, it is the number of the verdict that 01 defines
 pub record VerdictNumber (b : List ℕ) (r : ℕ) : Type 0 where
-  pub number : r ≡ verdictNumber (answerOf b)
+  pub returns : r ≡ verdictNumber (answerOf b)
   pub judged : refusal b ≡ 0 → (v : Verdict) → (r ≡ verdictNumber (inr v)) ↔ Judged (planOf b) (startOf b) v
 
 -- r is the number of the answer for the state; accepted, it is the number of COMPLETE exactly if the state shows the root complete
 pub record StatusNumber (b s : List ℕ) (r : ℕ) : Type 0 where
-  pub number : r ≡ statusNumber (statusAnswer b s)
+  pub returns : r ≡ statusNumber (statusAnswer b s)
   pub complete : stateRefusal b s ≡ 0 → (r ≡ statusNumber (inr COMPLETE)) ↔ Complete (planOf b) (statusIn b s) 0
 
--- r is the number of the answer, and out′ has every byte that the listing leaves; accepted, its text is the listing that 01 describes
+-- r is the number of the answer, and out′ has every byte that the listing leaves; 01's words hold of the text of an accepted plan, and of no other
 pub record ListingNumber (b out : List ℕ) (r : ℕ) (out′ : List ℕ) : Type 0 where
-  pub number : r ≡ listingNumber (listedOf b out)
-  pub bytes : out′ ≡ listingLeft b out
-  pub text : refusal b ≡ 0 → IsListing b (textOf b)
+  pub returns : r ≡ listingNumber (listedOf b out)
+  pub leaves : out′ ≡ listingLeft b out
+  pub text : refusal b ≡ 0 → (s : List ℕ) → IsListing b s ↔ (s ≡ textOf b)

@@ -48,7 +48,7 @@ module _ (b out : List ℕ) where
   refused-is : (r n : ℕ) → listingRefusal b out ≡ r → n ≡ r → (r ≡ 0 → ⊥) → Lists b out (Refused n) out
   unfolding listedOf listingLeft
   refused-is zero n e q h = absurd (h refl)
-  refused-is (suc r) n e q h = record { answer = rw (e, q); bytes = rw (e, ne-eqb (suc r) 0 h); text = listing-is b }
+  refused-is (suc r) n e q h = record { returns = rw (e, q); leaves = rw (e, ne-eqb (suc r) 0 h); text = listing-is b }
 
   pub lists-refused : {n : ℕ} → n ≡ refusal b → (refusal b ≡ 0 → ⊥) → Lists b out (Refused n) out
   lists-refused {n} e h = refused-is (refusal b) n (refused-first h) e h
@@ -65,31 +65,31 @@ module _ (b out : List ℕ) where
   unfolding listingLeft
   left-out h = rw (ne-eqb (listingRefusal b out) 0 h)
 
-  pub lists-text : {r : ℕ} {out' : List ℕ} → refusal b ≡ 0 → 2048 ≤ length out → Wrote out 0 (textOf b) out' r → Lists b out (Text r) out'
+  pub lists-text : {r : ℕ} {out' : List ℕ} → refusal b ≡ 0 → 2048 ≤ length out → Wrote out 0 (textOf b) r out' → Lists b out (Text r) out'
   unfolding listedOf
   lists-text {r} e l w =
       let z = refused-none e l in
       let q : r ≡ length (textOf b) = omega (arith, w .next) in
-      record { answer = rw (z, q); bytes = w .bytes ∙ sym (left-text z); text = listing-is b }
+      record { returns = rw (z, q); leaves = w .bytes ∙ sym (left-text z); text = listing-is b }
 
   -- ---- what was answered where there is room
   accepted-plan : listingRefusal b out ≡ 0 → refusal b ≡ 0
   unfolding listingRefusal
   accepted-plan e = both-none (refusal b) (cond (ltb (length out) 2048) 15 0) e .0
 
-  pub text-answered : {r : ℕ} {out' : List ℕ} → Lists b out (Text r) out' → Wrote out 0 (printed b) out' r
+  pub text-answered : {r : ℕ} {out' : List ℕ} → Lists b out (Text r) out' → Wrote out 0 (printed b) r out'
   unfolding listedOf
   text-answered {r} h =
-      let w = said-value (listingRefusal b out) (length (textOf b)) r (h .answer) in
-      wrote-same (printed-text b (accepted-plan (w .0))) (record { bytes = h .bytes ∙ left-text (w .0); next = omega (arith, w .1) })
+      let w = said-value (listingRefusal b out) (length (textOf b)) r (h .returns) in
+      wrote-same (printed-text b (accepted-plan (w .0))) (record { bytes = h .leaves ∙ left-text (w .0); next = omega (arith, w .1) })
 
   pub refused-answered : {n : ℕ} {out' : List ℕ} → 2048 ≤ length out → Lists b out (Refused n) out' → (n ≤ 14) × (refusedText n ≡ printed b) × (out' ≡ out)
   unfolding listedOf
   refused-answered {n} l h =
-      let w = said-number (listingRefusal b out) n (length (textOf b)) (h .answer) in
+      let w = said-number (listingRefusal b out) n (length (textOf b)) (h .returns) in
       let p : refusal b ≡ 0 → ⊥ = λ z. w .1 (refused-none z l) in
       let e : n ≡ refusal b = w .0 ∙ refused-first p in
-      (omega (arith, refusal-limit b), ap refusedText e ∙ printed-refused b p, h .bytes ∙ left-out (w .1))
+      (omega (arith, refusal-limit b), ap refusedText e ∙ printed-refused b p, h .leaves ∙ left-out (w .1))
 
 -- ---- all that is printed fits too
 pub printed-fits : (b : List ℕ) → length (printed b) ≤ 1666
@@ -98,7 +98,7 @@ printed-fits b =
     (λ (e : refusal b ≡ 0). rw (← printed-text b e) (text-fits (clean b e)))
     (λ e. rw (← printed-refused b e) (omega (arith, refused-length (refusal b) (refusal-limit b))))
 
-pub prints : (b : List ℕ) {out out' : List ℕ} {r : ℕ} → 2048 ≤ length out → Wrote out 0 (printed b) out' r → Prints b out out' r
+pub prints : (b : List ℕ) {out out' : List ℕ} {r : ℕ} → 2048 ≤ length out → Wrote out 0 (printed b) r out' → Prints b out r out'
 prints b {out' = out'} {r} l w =
     let f : r ≤ length out' = omega (arith, w .next, wrote-long w, printed-fits b) in
     record {

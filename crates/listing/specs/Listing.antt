@@ -32,14 +32,14 @@ listingLeft b out = cond (eqb (listingRefusal b out) 0) (written out 0 (textOf b
 
 -- a call answered and left these; 01's words hold of the text of an accepted plan, and of no other
 pub record Lists (b out : List ℕ) (r : Listed) (out' : List ℕ) : Type 0 where
-  pub answer : told r ≡ listedOf b out
-  pub bytes : out' ≡ listingLeft b out
+  pub returns : told r ≡ listedOf b out
+  pub leaves : out' ≡ listingLeft b out
   pub text : refusal b ≡ 0 → (s : List ℕ) → IsListing b s ↔ (s ≡ textOf b)
 
 -- a call wrote all that the program prints from the first byte, and answered how much of out' that is (`counts` follows from `fits`; `&out[..r]` asks for both);
 -- 01's words for an accepted plan or a refused one hold of it, and of nothing else
-pub record Prints (b out out' : List ℕ) (r : ℕ) : Type 0 where
-  pub wrote : Wrote out 0 (printed b) out' r
+pub record Prints (b out : List ℕ) (r : ℕ) (out' : List ℕ) : Type 0 where
+  pub wrote : Wrote out 0 (printed b) r out'
   pub fits : r ≤ length out'
   pub counts : r ≡ length (take r out')
   pub text : refusal b ≡ 0 → (s : List ℕ) → IsListing b s ↔ (s ≡ printed b)

@@ -29,7 +29,7 @@ pub enum Listed {
 // Writes the word of a verdict.
 fn write_word(out: &mut [u8], at: usize, verdict: Verdict) -> usize
     requires { ⌜ at + 6 ≤ length (now out) ⌝ }
-    ensures { λ r. ⌜ Wrote (now (out .entry)) at (letters (wordOf verdict)) (now (out .exit)) r ⌝ }
+    ensures { λ r. ⌜ Wrote (now (out .entry)) at (letters (wordOf verdict)) r (now (out .exit)) ⌝ }
 {
     match verdict {
         Verdict::Clear => write_bytes(out, at, b"CLEAR"),
@@ -41,7 +41,7 @@ fn write_word(out: &mut [u8], at: usize, verdict: Verdict) -> usize
 // Writes the listing of an accepted plan, whose verdict is known.
 fn write_text(plan: &[u8], verdict: Verdict, out: &mut [u8]) -> usize
     requires { ⌜ (refusal (now plan) ≡ 0) × (wordOf verdict ≡ model.verdict (planOf (now plan)) (startOf (now plan))) × (2048 ≤ length (now out)) ⌝ }
-    ensures { λ r. ⌜ Wrote (now (out .entry)) 0 (textOf (now (plan .entry))) (now (out .exit)) r ⌝ }
+    ensures { λ r. ⌜ Wrote (now (out .entry)) 0 (textOf (now (plan .entry))) r (now (out .exit)) ⌝ }
 {
     let mut waits = no_times();
     let root = longest_waits(plan, &mut waits);
@@ -69,7 +69,7 @@ pub fn listing(plan: &[u8], out: &mut [u8]) -> Listed
 
 // Writes all that the program prints for these bytes, and answers how long it is.
 pub fn print(plan: &[u8], out: &mut [u8; 2048]) -> usize
-    ensures { λ r. ⌜ Prints (now (plan .entry)) (now (out .entry)) (now (out .exit)) r ⌝ }
+    ensures { λ r. ⌜ Prints (now (plan .entry)) (now (out .entry)) r (now (out .exit)) ⌝ }
 {
     let listed = listing(plan, out);
     match listed {

@@ -1,4 +1,6 @@
 // The fields of a plan by position.
+use base::kinds::ALL_OF;
+use base::kinds::ANY_OF;
 ghost use mathlib.Core.Path.{_≡_};
 ghost use Prim.Native.Nat.{_+_, _*_, _<_, _≤_};
 ghost use lib.ListN.{length};
@@ -140,5 +142,5 @@ pub fn is_group(plan: &[u8], n: usize) -> bool
     requires { ⌜ Whole (now plan) ⌝ }
     ensures { λ r. ⌜ r ≡ isGroup (now (plan .entry)) n ⌝ }
 {
-    is_kind(plan, n, 1) | is_kind(plan, n, 2)
+    is_kind(plan, n, ALL_OF) | is_kind(plan, n, ANY_OF)
 }

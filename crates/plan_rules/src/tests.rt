@@ -1,4 +1,7 @@
 // The tests of single flags, characters, nodes, conditions and orders.
+use base::kinds::ALL_OF;
+use base::kinds::ANY_OF;
+use base::kinds::TASK;
 use base::wide;
 use plan_codes::names::allowed;
 use plan_codes::value::value_bad;
@@ -39,7 +42,8 @@ pub fn bad_entry(plan: &[u8], n: usize) -> bool
     ensures { λ r. ⌜ r ≡ badEntry (now (plan .entry)) n ⌝ }
 {
     let m = minutes(plan, n);
-    ((2 < kind(plan, n)) | (is_group(plan, n) & (0 < m))) | (is_kind(plan, n, 0) & (10080 < m))
+    ((ANY_OF < kind(plan, n)) | (is_group(plan, n) & (0 < m)))
+        | (is_kind(plan, n, TASK) & (10080 < m))
 }
 
 pub fn bad_parent(plan: &[u8], n: usize) -> bool
@@ -57,7 +61,7 @@ pub fn bad_condition(plan: &[u8], i: usize) -> bool
     requires { ⌜ (i < condCount (now plan)) × Whole (now plan) ⌝ }
     ensures { λ r. ⌜ r ≡ badCondition (now (plan .entry)) i ⌝ }
 {
-    let task = is_kind(plan, wide(condition_node(plan, i)), 0);
+    let task = is_kind(plan, wide(condition_node(plan, i)), TASK);
     !task | value_bad(condition_value(plan, i), flags(plan))
 }
 
@@ -114,7 +118,7 @@ fn bad_pair(plan: &[u8], x: usize, y: usize) -> bool
         return true;
     }
     let g = wide(parent(plan, x));
-    let siblings = is_kind(plan, g, 1) & is_child(plan, g, x) & is_child(plan, g, y);
+    let siblings = is_kind(plan, g, ALL_OF) & is_child(plan, g, x) & is_child(plan, g, y);
     !siblings | !(x < y)
 }
 

@@ -1,4 +1,6 @@
 // The rules that compare a place with later ones: one pass backwards over the nodes or the conditions, with a table.
+use base::places::INC;
+use base::places::POST;
 use base::wide;
 use plan_codes::value::flag_of;
 use plan_codes::value::place_of;
@@ -76,10 +78,10 @@ fn post_step(plan: &[u8], i: usize) -> Step
     let place = place_of(v);
     let flag = flag_of(v) as u8;
     Step {
-        needs: place == 1,
+        needs: place == INC,
         bars: false,
         ask: flag,
-        writes: place == 2,
+        writes: place == POST,
         at: flag,
         mark: condition_node(plan, i) + 1,
     }

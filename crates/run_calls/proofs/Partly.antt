@@ -77,9 +77,9 @@ module _ (b s out : List ℕ) (cs : List Call) where
   pub ran-refused : (r : ℕ) (s′ : List ℕ) → Freshened b s r s′ → (r ≡ 0 → ⊥) → Ran b s out cs r s′ out
   ran-refused r s′ f n =
       record {
-        refusal = f .returns;
-        state = f .leaves ∙ sym (fresh-refused b s (λ z. n (f .returns ∙ z))) ∙ rw (ne-eqb r 0 n);
-        written = rw (ne-eqb r 0 n);
+        returns = f .returns;
+        leaves = f .leaves ∙ sym (fresh-refused b s (λ z. n (f .returns ∙ z))) ∙ rw (ne-eqb r 0 n);
+        writes = rw (ne-eqb r 0 n);
         listed = λ z. absurd (n z);
         follows = λ z. absurd (n z);
       }
@@ -91,9 +91,9 @@ module _ (b s out : List ℕ) (cs : List Call) where
       let g = list-follows b h s cs rs z l in
       let (p, q) = worked-only (planOf b) (well-formed b z (g .shown .well-formed)) (g .worked) in
       record {
-        refusal = f .returns;
-        state = g .shown .bytes ∙ ap (λ (a : World). overlay (shownByte a) (8 + nodeCount b) s) q;
-        written = w ∙ ap (λ (x : List ℕ). x ++ drop (length cs) out) p;
+        returns = f .returns;
+        leaves = g .shown .bytes ∙ ap (λ (a : World). overlay (shownByte a) (8 + nodeCount b) s) q;
+        writes = w ∙ ap (λ (x : List ℕ). x ++ drop (length cs) out) p;
         listed = λ e. rw p at l;
         follows = λ e. rw p at g;
       }

@@ -33,9 +33,9 @@ listState b s cs = overlay (shownByte (states (planOf b) (fresh (startOf b)) cs)
 -- Where fresh refuses, all is as it was. Else the state is the one after the calls cs, the first places of out hold what they returned, and the claim of
 -- demand 3 about lists holds of them.
 pub record Ran (b s out : List ℕ) (cs : List Call) (r : ℕ) (s′ out′ : List ℕ) : Type 0 where
-  pub refusal : r ≡ roomRefusal b s
-  pub state : s′ ≡ cond (eqb r 0) (listState b s cs) s
-  pub written : out′ ≡ cond (eqb r 0) (listReturns b cs ++ drop (length cs) out) out
+  pub returns : r ≡ roomRefusal b s
+  pub leaves : s′ ≡ cond (eqb r 0) (listState b s cs) s
+  pub writes : out′ ≡ cond (eqb r 0) (listReturns b cs ++ drop (length cs) out) out
   pub listed : r ≡ 0 → Listed b s cs (listReturns b cs) s′
   pub follows : r ≡ 0 → Follows b s cs (listReturns b cs) s′
 

@@ -1,4 +1,7 @@
 // The conditions of an event's task: the literals that it makes true, unmet preconditions, and inconditions of other running tasks that it breaks.
+use base::places::INC;
+use base::places::PRE;
+use base::statuses::RUNNING;
 use base::wide;
 use plan_codes::value::flag_of;
 use plan_codes::value::place_of;
@@ -73,7 +76,7 @@ fn unmet_at(plan: &[u8], flags: Flags, task: usize, i: usize) -> bool
     requires { ⌜ (i < condCount (now plan)) × (refusal (now plan) ≡ 0) ⌝ }
     ensures { λ r. ⌜ r ≡ unmetAt (now (plan .entry)) (flags .bytes) task i ⌝ }
 {
-    is_of(plan, 0, task, i) & differs(set_at(plan, i), flags.has(flag_at(plan, i)))
+    is_of(plan, PRE, task, i) & differs(set_at(plan, i), flags.has(flag_at(plan, i)))
 }
 
 // 21: a precondition of the task is unmet.
@@ -101,7 +104,7 @@ fn broken_at(plan: &[u8], state: &[u8], clear: Flags, set: Flags, task: usize, i
     let f = flag_at(plan, i);
     let sign = set_at(plan, i);
     let kept = if sign { set.has(f) } else { clear.has(f) };
-    is_of(plan, 1, node, i) & (node != task) & (state[8 + node] == 1) & differs(sign, kept)
+    is_of(plan, INC, node, i) & (node != task) & (state[8 + node] == RUNNING) & differs(sign, kept)
 }
 
 // 22: the event of the task that makes its literals at the place true breaks an incondition of another running task.

@@ -1,4 +1,5 @@
 // Refusals 19 and 20 of a start: another branch of an any-of group above the task is begun (01: taken); an order's earlier node is not complete.
+use base::kinds::ANY_OF;
 use base::no_nodes;
 use base::wide;
 use plan_format::fields::earlier;
@@ -29,7 +30,7 @@ fn rival_begun(plan: &[u8], state: &[u8], begun: &[u8; 128], g: usize, n: usize)
     requires { ⌜ Counted Begun (now plan) (now state) (now begun) ⌝ }
     ensures { λ r. ⌜ r ≡ rivalAt (now (plan .entry)) (now (state .entry)) g n ⌝ }
 {
-    if is_kind(plan, g, 2) {
+    if is_kind(plan, g, ANY_OF) {
         let own = is_begun(plan, state, begun, n);
         let count = begun[g];
         return if own { 1 < count } else { 0 < count };

@@ -19,7 +19,7 @@ module _ (b s : List ℕ) where
   pub told-refused : (r : ℕ) → r ≡ stateRefusal b s → (r ≡ 0 → ⊥) → Told b s (Refused r)
   unfolding statusAnswer
   told-refused r e n = record {
-    answer = rw (← e) (answer-some r (wordFor (completeB (planOf b) (statusIn b s) 0)) n);
+    returns = rw (← e) (answer-some r (wordFor (completeB (planOf b) (statusIn b s) 0)) n);
     complete = (λ q. clash cc, λ x. absurd (n (e ∙ x .0)));
   }
 
@@ -29,8 +29,8 @@ module _ (b s : List ℕ) where
 
     pub told-complete : completeB (planOf b) (statusIn b s) 0 ≡ true → Told b s Complete
     unfolding statusAnswer
-    told-complete y = record { answer = rw (ok, y); complete = (λ q. (ok, root .to (true-T _ y)), λ x. refl) }
+    told-complete y = record { returns = rw (ok, y); complete = (λ q. (ok, root .to (true-T _ y)), λ x. refl) }
 
     pub told-unfinished : completeB (planOf b) (statusIn b s) 0 ≡ false → Told b s Unfinished
     unfolding statusAnswer
-    told-unfinished y = record { answer = rw (ok, y); complete = (λ q. clash cc, λ x. absurd (true≢false (sym (T-true _ (root .from (x .1))) ∙ y))) }
+    told-unfinished y = record { returns = rw (ok, y); complete = (λ q. clash cc, λ x. absurd (true≢false (sym (T-true _ (root .from (x .1))) ∙ y))) }

@@ -30,5 +30,5 @@ statusAnswer b s = refusedOr (stateRefusal b s) (wordFor (completeB (planOf b) (
 
 -- what `status` answers: COMPLETE exactly if the state passes 1 to 16 and shows the root complete
 pub record Told (b s : List ℕ) (r : Progress) : Type 0 where
-  pub answer : said r ≡ statusAnswer b s
+  pub returns : said r ≡ statusAnswer b s
   pub complete : (said r ≡ inr COMPLETE) ↔ ((stateRefusal b s ≡ 0) × execution.Complete (planOf b) (statusIn b s) 0)

@@ -1,4 +1,6 @@
 // The monitor (01: keeper): whether the root is complete, the start and the finish of a task.
+use base::statuses::DONE;
+use base::statuses::RUNNING;
 use run_conditions::with_literals;
 use run_flags::load;
 use run_flags::store;
@@ -45,8 +47,8 @@ fn given(m: Move) -> u8
     ensures { λ r. ⌜ r ≡ statusByte (execution.statusOf (eventOf m 0)) ⌝ }
 {
     match m {
-        Move::Start => 1u8,
-        Move::Finish => 2u8,
+        Move::Start => RUNNING,
+        Move::Finish => DONE,
     }
 }
 

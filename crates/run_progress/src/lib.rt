@@ -1,5 +1,10 @@
 // Which nodes are complete and which are begun (01: taken): one pass over the nodes from the last to the first, which counts children.
+use base::kinds::ALL_OF;
+use base::kinds::ANY_OF;
+use base::kinds::TASK;
 use base::no_nodes;
+use base::statuses::DONE;
+use base::statuses::WAITING;
 use base::wide;
 use plan_format::fields::is_kind;
 use plan_format::fields::nodes;
@@ -23,10 +28,10 @@ pub fn is_complete(plan: &[u8], state: &[u8], ends: &[u8; 128], n: usize) -> boo
     requires { ⌜ (n < nodeCount (now plan)) × ((stateRefusal (now plan) (now state) ≡ 0) × (getD (now ends) n 0 ≡ childrenCounted Tally.Ends (now plan) (now state) n)) ⌝ }
     ensures { λ r. ⌜ r ≡ completeB (planOf (now (plan .entry))) (statusIn (now (plan .entry)) (now (state .entry))) n ⌝ }
 {
-    if is_kind(plan, n, 0) {
-        return state[8 + n] == 2;
+    if is_kind(plan, n, TASK) {
+        return state[8 + n] == DONE;
     }
-    if is_kind(plan, n, 1) {
+    if is_kind(plan, n, ALL_OF) {
         return ends[n] == 0;
     }
     ends[n] != 0
@@ -36,8 +41,8 @@ pub fn is_begun(plan: &[u8], state: &[u8], begun: &[u8; 128], n: usize) -> bool
     requires { ⌜ (n < nodeCount (now plan)) × ((stateRefusal (now plan) (now state) ≡ 0) × (getD (now begun) n 0 ≡ childrenCounted Tally.Begun (now plan) (now state) n)) ⌝ }
     ensures { λ r. ⌜ r ≡ begunB (planOf (now (plan .entry))) (statusIn (now (plan .entry)) (now (state .entry))) n ⌝ }
 {
-    if is_kind(plan, n, 0) {
-        return state[8 + n] != 0;
+    if is_kind(plan, n, TASK) {
+        return state[8 + n] != WAITING;
     }
     begun[n] != 0
 }
@@ -58,7 +63,7 @@ fn is_counted(
         Tally::Begun => is_begun(plan, state, table, n),
         Tally::Ends => {
             let complete = is_complete(plan, state, table, n);
-            if is_kind(plan, g, 2) {
+            if is_kind(plan, g, ANY_OF) {
                 complete
             } else {
                 !complete

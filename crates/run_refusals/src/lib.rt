@@ -1,4 +1,9 @@
 // Which refusal applies to the start or the finish of a task, on a state that passes 1 to 16.
+use base::kinds::TASK;
+use base::places::INC;
+use base::places::POST;
+use base::statuses::RUNNING;
+use base::statuses::WAITING;
 use plan_format::fields::is_kind;
 use run_conditions::inc_broken;
 use run_conditions::pre_unmet;
@@ -29,8 +34,8 @@ pub fn place_of(m: Move) -> u16
     ensures { λ r. ⌜ r ≡ placeNumber (eventPlace (eventOf m 0)) ⌝ }
 {
     match m {
-        Move::Start => 1u16,
-        Move::Finish => 2u16,
+        Move::Start => INC,
+        Move::Finish => POST,
     }
 }
 
@@ -39,8 +44,8 @@ fn asked(m: Move) -> u8
     ensures { λ r. ⌜ r ≡ statusByte (asks (eventOf m 0)) ⌝ }
 {
     match m {
-        Move::Start => 0u8,
-        Move::Finish => 1u8,
+        Move::Start => WAITING,
+        Move::Finish => RUNNING,
     }
 }
 
@@ -92,7 +97,7 @@ pub fn refused(plan: &[u8], state: &[u8], m: Move, task: usize) -> u32
     requires { ⌜ stateRefusal (now plan) (now state) ≡ 0 ⌝ }
     ensures { λ r. ⌜ r ≡ eventRefusal (now (plan .entry)) (now (state .entry)) (eventOf m task) ⌝ }
 {
-    if !is_kind(plan, task, 0) {
+    if !is_kind(plan, task, TASK) {
         return 17;
     }
     if state[8 + task] != asked(m) {

@@ -1,4 +1,5 @@
 // The bytes of a state (01: record): the checks that every call makes first, and the fresh state.
+use base::kinds::TASK;
 use plan_check::check;
 use plan_format::fields::flags;
 use plan_format::fields::is_kind;
@@ -35,7 +36,7 @@ fn byte_bad(plan: &[u8], state: &[u8], n: usize) -> bool
     ensures { λ r. ⌜ r ≡ badByte (now (plan .entry)) (now (state .entry)) n ⌝ }
 {
     let x = state[8 + n];
-    if is_kind(plan, n, 0) {
+    if is_kind(plan, n, TASK) {
         return 2 < x;
     }
     x != 0

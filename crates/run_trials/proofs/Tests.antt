@@ -99,7 +99,7 @@ module _ (b : List ℕ) (t : Trial) (x : T (holdsB b t)) where
       let w = passed in
       record {
         accepted = w .accepted;
-        judged = λ r a. a .answer ∙ rw (w .accepted, w .judged);
+        judged = λ r a. a .returns ∙ rw (w .accepted, w .judged);
         shows = shows-of b (w .accepted) (t .marks) (w .shows);
         called = λ s rs z l.
             let g = list-follows b (bytes-of b (T-true (areBytes b) (w .small))) s (t .calls) rs z l in

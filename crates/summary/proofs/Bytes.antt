@@ -120,12 +120,12 @@ module _ (b : List ℕ) (n : ℕ) (out : List ℕ) where
   -- the whole call, refused and accepted
   pub summary-refused : {r : ℕ} → r ≡ summaryRefusal b n out → (r ≡ 0 → ⊥) → Summarised b n out r out
   unfolding summaryLeft
-  summary-refused e k = record { number = e; bytes = rw (ne-eqb (summaryRefusal b n out) 0 (λ z. k (e ∙ z))); marks = λ z. absurd (k z) }
+  summary-refused e k = record { returns = e; leaves = rw (ne-eqb (summaryRefusal b n out) 0 (λ z. k (e ∙ z))); marks = λ z. absurd (k z) }
 
   pub summary-written : summaryRefusal b n out ≡ 0 → Summarised b n out 0 (overlay (summaryByte b n) (16 * flagCount b) out)
   unfolding summaryLeft
   summary-written e = record {
-    number = sym e;
-    bytes = rw (eq-eqb (summaryRefusal b n out) 0 e);
+    returns = sym e;
+    leaves = rw (eq-eqb (summaryRefusal b n out) 0 e);
     marks = λ z f k v m. byte-tells b (accepted e .plan) n (accepted e .node) out (accepted e .room) f k v m;
   }

@@ -32,7 +32,7 @@ abbrev pub Tells : ℕ → Type 0 → Type 0
 Tells x A = ((x ≡ 1) × A) ⊎ ((x ≡ 0) × (¬ A))
 
 pub record Summarised (b : List ℕ) (n : ℕ) (out : List ℕ) (r : ℕ) (out' : List ℕ) : Type 0 where
-  pub number : r ≡ summaryRefusal b n out
-  pub bytes : out' ≡ summaryLeft b n out
+  pub returns : r ≡ summaryRefusal b n out
+  pub leaves : out' ≡ summaryLeft b n out
   pub marks : r ≡ 0 → (f : ℕ) → f < flagCount b → (v : Bool) (m : Mark)
       → Tells (getD out' (8 * (2 * f + signNumber v) + byteOf m) 0) (Marked (planOf b) n f v m)

@@ -4,10 +4,8 @@ ghost use Prim.Native.Nat.{_<_};
 ghost use lib.ListN.{length};
 ghost use Rattle.base.specs.Zeros.{Zeros};
 ghost use Rattle.table_orders.specs.Links.{Linked, Leading};
-
-const BEFORE: u8 = 1;
-
-const AFTER: u8 = 2;
+use marks_row::codes::AFTER;
+use marks_row::codes::BEFORE;
 
 // Puts a before c.
 fn link(order: &mut [u8; 16384], a: usize, c: usize)

@@ -34,21 +34,21 @@ unfolding written
 written-is out at s h = sets-eq s out at h
 
 module _ {out out' : List ℕ} {at r : ℕ} {s : List ℕ} where
-  pub wrote-long : Wrote out at s out' r → length out' ≡ length out
+  pub wrote-long : Wrote out at s r out' → length out' ≡ length out
   wrote-long h = ap length (h .bytes) ∙ length-written out at s
 
   -- one after the other
-  pub wrote-then : {out″ t : List ℕ} {r' : ℕ} → Wrote out at s out' r → Wrote out' r t out″ r' → Wrote out at (s ++ t) out″ r'
+  pub wrote-then : {out″ t : List ℕ} {r' : ℕ} → Wrote out at s r out' → Wrote out' r t r' out″ → Wrote out at (s ++ t) r' out″
   wrote-then {t = t} h k = record {
     bytes = k .bytes ∙ ap (λ (o : List ℕ). written o r t) (h .bytes) ∙ ap (λ (a : ℕ). written (written out at s) a t) (h .next) ∙ written-append s t out at;
     next = omega (arith, k .next, h .next, length-append s t);
   }
 
-pub wrote-one : {out : List ℕ} {at x : ℕ} → Wrote out at (x ∷ []) (set out at x) (at + 1)
+pub wrote-one : {out : List ℕ} {at x : ℕ} → Wrote out at (x ∷ []) (at + 1) (set out at x)
 wrote-one {out} {at} {x} = record { bytes = written-one out at x; next = refl }
 
 -- the same bytes by another name
-pub wrote-same : {out out' s t : List ℕ} {at r : ℕ} → s ≡ t → Wrote out at s out' r → Wrote out at t out' r
+pub wrote-same : {out out' s t : List ℕ} {at r : ℕ} → s ≡ t → Wrote out at s r out' → Wrote out at t r out'
 wrote-same e h = rw e at h
 
 -- the first i of the bytes s are written
@@ -74,5 +74,5 @@ module _ {out : List ℕ} {at : ℕ} {s : List ℕ} where
         ∙ ap (written out at) (rw add-one (sym (take-suc s i 0 l)));
   }
 
-  pub to-all : {out' : List ℕ} {i : ℕ} → length s ≤ i → WrittenTo out out' at s i → Wrote out at s out' (at + i)
+  pub to-all : {out' : List ℕ} {i : ℕ} → length s ≤ i → WrittenTo out out' at s i → Wrote out at s (at + i) out'
   to-all {i = i} l h = record { bytes = h .is ∙ ap (written out at) (take-all i s l); next = omega (arith, h .inside) }

@@ -7,7 +7,7 @@ ghost use Rattle.text_decimals.specs.Decimals.{decimal, Wrote};
 // Writes a byte, and answers where the next one goes.
 pub fn put(out: &mut [u8], at: usize, x: u8) -> usize
     requires { ⌜ at < length (now out) ⌝ }
-    ensures { λ r. ⌜ Wrote (now (out .entry)) at (x ∷ []) (now (out .exit)) r ⌝ }
+    ensures { λ r. ⌜ Wrote (now (out .entry)) at (x ∷ []) r (now (out .exit)) ⌝ }
 {
     out[at] = x;
     at + 1
@@ -16,7 +16,7 @@ pub fn put(out: &mut [u8], at: usize, x: u8) -> usize
 // Writes some bytes, and answers where the next one goes.
 pub fn write_bytes(out: &mut [u8], at: usize, s: &[u8]) -> usize
     requires { ⌜ at + length (now s) ≤ length (now out) ⌝ }
-    ensures { λ r. ⌜ Wrote (now (out .entry)) at (now (s .entry)) (now (out .exit)) r ⌝ }
+    ensures { λ r. ⌜ Wrote (now (out .entry)) at (now (s .entry)) r (now (out .exit)) ⌝ }
 {
     let mut i = 0;
     while i < s.len() {
@@ -29,7 +29,7 @@ pub fn write_bytes(out: &mut [u8], at: usize, s: &[u8]) -> usize
 // Writes n in plain decimals, and answers where the next byte goes.
 pub fn write_decimal(out: &mut [u8], at: usize, n: u32) -> usize
     requires { ⌜ at + length (decimal n) ≤ length (now out) ⌝ }
-    ensures { λ r. ⌜ Wrote (now (out .entry)) at (decimal n) (now (out .exit)) r ⌝ }
+    ensures { λ r. ⌜ Wrote (now (out .entry)) at (decimal n) r (now (out .exit)) ⌝ }
 {
     let last = 48 + (n % 10) as u8;
     if n < 10 {

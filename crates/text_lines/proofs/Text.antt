@@ -102,7 +102,7 @@ name-bytes b t n e l = rw e (four b (16 + 4 * t) (16 + (4 * t + 1)) (16 + (4 * t
 -- ---- the first i lines are written
 pub record LinesTo (b out out' : List ℕ) (at a i : ℕ) : Type 0 where
   pub inside : i ≤ length (ranking b)
-  pub wrote : Wrote out at (linesOf b (take i (ranking b))) out' a
+  pub wrote : Wrote out at (linesOf b (take i (ranking b))) a out'
   pub short : a ≤ at + 13 * i
 
 module _ {b : List ℕ} (ok : Clean b) where
@@ -121,7 +121,7 @@ module _ {b : List ℕ} (ok : Clean b) where
       let q : t ≡ getD (rankedTo b (nodeCount b)) i 0 = e ∙ sym (getD-take k ranked i 0 l) ∙ ap (λ (xs : List ℕ). getD xs i 0) (r .is) in
       (rw (← q) at (ranked-task b (getD (rankedTo b (nodeCount b)) i 0) (nodeCount b) (among-at (rankedTo b (nodeCount b)) i (omega (arith, r .count))) .0), q)
 
-  pub lines-turn : {out out' out″ : List ℕ} {at a a' i t : ℕ} → i < length (ranking b) → t < nodeCount b → t ≡ getD (ranking b) i 0 → Wrote out' a (lineOf b t) out″ a' → LinesTo b out out' at a i
+  pub lines-turn : {out out' out″ : List ℕ} {at a a' i t : ℕ} → i < length (ranking b) → t < nodeCount b → t ≡ getD (ranking b) i 0 → Wrote out' a (lineOf b t) a' out″ → LinesTo b out out' at a i
       → LinesTo b out out″ at a' (i + 1)
   lines-turn {i = i} {t} l m e w h = rw add-one (record {
     inside = omega arith;
@@ -129,5 +129,5 @@ module _ {b : List ℕ} (ok : Clean b) where
     short = omega (arith, h .short, w .next, line-limit ok t m);
   })
 
-  pub lines-all : {out out' : List ℕ} {at a i : ℕ} → length (ranking b) ≤ i → LinesTo b out out' at a i → Wrote out at (linesOf b (ranking b)) out' a
+  pub lines-all : {out out' : List ℕ} {at a i : ℕ} → length (ranking b) ≤ i → LinesTo b out out' at a i → Wrote out at (linesOf b (ranking b)) a out'
   lines-all {i = i} l h = wrote-same (ap (linesOf b) (take-all i (ranking b) l)) (h .wrote)

@@ -89,7 +89,7 @@ module _ (b : List ℕ) where
   pub assessed-refused : {r : ℕ} → r ≡ refusal b → (r ≡ 0 → ⊥) → Assessed b (Refused r)
   unfolding answerOf
   assessed-refused {r} e n = record {
-    answer = ap inl e ∙ answer-some (refusal b) _ (λ z. n (e ∙ z));
+    returns = ap inl e ∙ answer-some (refusal b) _ (λ z. n (e ∙ z));
     judged = λ z. absurd (n (e ∙ z));
     clear = λ z. absurd (n (e ∙ z));
     doomed = λ z. absurd (n (e ∙ z));
@@ -98,7 +98,7 @@ module _ (b : List ℕ) where
   pub assessed : (v : Verdict) → refusal b ≡ 0 → wordOf v ≡ verdict (planOf b) (startOf b) → Assessed b (Given v)
   unfolding answerOf
   assessed v z e = record {
-    answer = ap inr e ∙ answer-none (refusal b) _ z;
+    returns = ap inr e ∙ answer-none (refusal b) _ z;
     judged = λ z. is;
     clear = λ z. Iff·trans (is CLEAR) (d .clear);
     doomed = λ z q. d .doomed (is DOOMED .0 q);

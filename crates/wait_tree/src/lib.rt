@@ -7,6 +7,9 @@ ghost use Rattle.table_children.specs.Children.{TreeOf};
 ghost use Rattle.wait_lengths.specs.Waits.{lengthOf};
 ghost use Rattle.wait_group.specs.Spread.{GroupOf, Tables};
 ghost use Rattle.wait_tree.specs.Filled.{Worked, AllWorked, Within, Longest};
+use base::kinds::ALL_OF;
+use base::kinds::ANY_OF;
+use base::kinds::TASK;
 use base::no_nodes;
 use base::no_starts;
 use base::no_times;
@@ -36,9 +39,9 @@ fn all_length(
     while i < end {
         let child = wide(kids[i]);
         let k = kind(plan, child);
-        if k == 1 {
+        if k == ALL_OF {
             all_length(plan, from, kids, lengths, waits, child);
-        } else if k == 2 {
+        } else if k == ANY_OF {
             any_length(plan, from, kids, lengths, waits, child);
         }
         i += 1;
@@ -64,9 +67,9 @@ fn any_length(
     while i < end {
         let child = wide(kids[i]);
         let k = kind(plan, child);
-        if k == 1 {
+        if k == ALL_OF {
             all_length(plan, from, kids, lengths, waits, child);
-        } else if k == 2 {
+        } else if k == ANY_OF {
             any_length(plan, from, kids, lengths, waits, child);
         }
         i += 1;
@@ -83,7 +86,7 @@ fn task_lengths(plan: &[u8], lengths: &mut [u32; 128], waits: &[u32; 128])
     let n = nodes(plan);
     let mut t = 0;
     while t < n {
-        if kind(plan, t) == 0 {
+        if kind(plan, t) == TASK {
             lengths[t] = minutes(plan, t) as u32;
         }
         t += 1;
@@ -103,9 +106,9 @@ fn work_out(
 {
     task_lengths(plan, lengths, waits);
     let root = kind(plan, 0);
-    if root == 1 {
+    if root == ALL_OF {
         all_length(plan, from, kids, lengths, waits, 0);
-    } else if root == 2 {
+    } else if root == ANY_OF {
         any_length(plan, from, kids, lengths, waits, 0);
     }
 }

@@ -1,0 +1,6 @@
+// 01's bytes of a state for a task.
+pub const WAITING: u8 = 0;
+
+pub const RUNNING: u8 = 1;
+
+pub const DONE: u8 = 2;
