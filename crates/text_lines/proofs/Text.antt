@@ -80,7 +80,7 @@ unfolding linesOf
 lines-only f none = refl
 lines-only {b} {ts = t ∷ ts} f (line {digits = d} p r) =
     ap (λ (xs : List ℕ). nameOf b t ++ 32 ∷ d ++ 10 ∷ xs) (lines-only (λ u a. f u (there a)) r)
-    ∙ ap (λ (xs : List ℕ). nameOf b t ++ 32 ∷ xs ++ 10 ∷ linesOf b ts) (plain-only p ∙ ap decimal (f t here))
+    ∙ ap (λ (xs : List ℕ). nameOf b t ++ 32 ∷ xs ++ 10 ∷ linesOf b ts) (plain-only p ∙ ap decimal (f t (here refl)))
     ∙ sym (line-then b t (linesOf b ts))
 
 -- ---- a name is four bytes of the plan, one after another
