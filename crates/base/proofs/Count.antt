@@ -28,12 +28,14 @@ count-same zero p q h = refl
 count-same (suc n) p q h = rw (h n (omega arith), count-same n p q (λ i l. h i (omega arith)))
 
 -- none from m on
-pub count-rest : (n m : ℕ) (q : ℕ → Bool) → m ≤ n → ((i : ℕ) → m ≤ i → i < n → q i ≡ false) → countBelow n q ≡ countBelow m q
+pub count-rest : (n m : ℕ) (q : ℕ → Bool) → m ≤ n → ((i : ℕ) → m ≤ i → i < n → q i ≡ false)
+    → countBelow n q ≡ countBelow m q
 unfolding countBelow
 count-rest zero m q l h = let e : m ≡ 0 = omega arith in rw e
 count-rest (suc n) m q l h =
     by-cases (ℕ-discrete m (suc n)) (λ (e : m ≡ suc n). rw e)
-    (λ e. rw (h n (omega arith) (omega arith)) (omega (arith, count-rest n m q (omega arith) (λ i a z. h i a (omega arith)))))
+    (λ e. rw (h n (omega arith) (omega arith))
+        (omega (arith, count-rest n m q (omega arith) (λ i a z. h i a (omega arith)))))
 
 pub count-none : (n : ℕ) (q : ℕ → Bool) → ((i : ℕ) → i < n → q i ≡ false) → countBelow n q ≡ 0
 unfolding countBelow
@@ -66,11 +68,13 @@ count-back zero q = refl
 count-back (suc n) q =
     let z : suc n - 1 - n ≡ 0 = omega arith in
     let y : num (q (suc n - 1 - n)) ≡ num (q 0) = ap (λ (k : ℕ). num (q k)) z in
-    let e = count-same n (λ m. q (suc n - 1 - m)) (λ m. q (suc (n - 1 - m))) (λ i l. let o : suc n - 1 - i ≡ suc (n - 1 - i) = omega arith in ap q o) in
+    let e = count-same n (λ m. q (suc n - 1 - m)) (λ m. q (suc (n - 1 - m)))
+        (λ i l. let o : suc n - 1 - i ≡ suc (n - 1 - i) = omega arith in ap q o) in
     omega (arith, shift n q, e, count-back n (λ i. q (suc i)), y)
 
 -- without one of them
-pub count-others : (n : ℕ) (q : ℕ → Bool) (i : ℕ) → i < n → countBelow n q ≡ num (q i) + countBelow n (λ j. not (eqb j i) && q j)
+pub count-others : (n : ℕ) (q : ℕ → Bool) (i : ℕ) → i < n
+    → countBelow n q ≡ num (q i) + countBelow n (λ j. not (eqb j i) && q j)
 unfolding countBelow
 count-others zero q i l = absurd (omega arith)
 count-others (suc n) q i l =

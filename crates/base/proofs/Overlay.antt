@@ -36,4 +36,5 @@ module _ (f : ℕ → ℕ) (xs : List ℕ) where
   pub past-overlay : (n k : ℕ) → n ≤ k → getD (overlay f n xs) k 0 ≡ getD xs k 0
   unfolding overlay
   past-overlay zero k l = refl
-  past-overlay (suc n) k l = getD-set-other (overlay f n xs) n k (f n) 0 (λ e. omega arith) ∙ past-overlay n k (omega arith)
+  past-overlay (suc n) k l = getD-set-other (overlay f n xs) n k (f n) 0 (λ e. omega arith)
+      ∙ past-overlay n k (omega arith)

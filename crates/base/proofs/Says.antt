@@ -1,4 +1,5 @@
--- What the bits of words say, and those of the words made of them. Each law takes the equation of the word that the code made. Assumes nothing.
+-- What the bits of words say, and those of the words made of them. Each law takes the equation of the word that the
+-- code made. Assumes nothing.
 use mathlib.Core.Path.{_≡_, refl}
 use mathlib.Core.Logic.{_⊎_, inl, inr, _↔_}
 use mathlib.Core.Bool.{Bool, true, false, not}
@@ -54,8 +55,10 @@ module _ {x y z f : ℕ} {A B : Type 0} where
   -- x and not y: `x ^ (x & y)`
   pub says-less : z ≡ bitXor x (bitAnd x y) → Says x f A → Says y f B → Says z f (A × (¬ B))
   says-less e a b = record {
-    to = λ t. let u = (and-tests (bit x f) (not (bit y f))) .1 (rw (e, bit-less x y f) at t) in (a .to (u .0), λ h. (not-test (bit y f)) .1 (u .1) (b .from h));
-    from = λ h. rw (e, bit-less x y f) ((and-tests (bit x f) (not (bit y f))) .0 (a .from (h .0), (not-test (bit y f)) .0 (λ t. h .1 (b .to t))));
+    to = λ t. let u = (and-tests (bit x f) (not (bit y f))) .1 (rw (e, bit-less x y f) at t) in
+        (a .to (u .0), λ h. (not-test (bit y f)) .1 (u .1) (b .from h));
+    from = λ h. rw (e, bit-less x y f)
+        ((and-tests (bit x f) (not (bit y f))) .0 (a .from (h .0), (not-test (bit y f)) .0 (λ t. h .1 (b .to t))));
   }
 
 module _ {z f : ℕ} {A : Type 0} where
@@ -86,7 +89,8 @@ module _ {z f : ℕ} {A : Type 0} where
       at (no ne) = record { to = λ t. absurd (rw (one-other k f ne) at t); from = λ x. absurd (ne x) }
 
 -- neither x nor y: `(x | y) ^ ones`
-pub says-neither : {x y z f : ℕ} {A B : Type 0} → f < 64 → z ≡ bitXor (bitOr x y) ones → Says x f A → Says y f B → Says z f (¬ (A ⊎ B))
+pub says-neither : {x y z f : ℕ} {A B : Type 0} → f < 64 → z ≡ bitXor (bitOr x y) ones → Says x f A → Says y f B
+    → Says z f (¬ (A ⊎ B))
 says-neither {x} {y} l e a b = says-not {x = bitOr x y} l e (says-or {x = x} {y = y} refl a b)
 
 -- a word that is zero has no flag

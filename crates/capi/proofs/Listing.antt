@@ -28,4 +28,5 @@ module _ (b out : List ℕ) where
     where
       at : (x : ℕ ⊎ ℕ) → x ≡ refusedOr (listingRefusal b out) (length (textOf b)) → Short x
       at (inl n) e = tt
-      at (inr n) e = let w = said-value (listingRefusal b out) (length (textOf b)) n e in omega (arith, w .1, text-fits (clean b (accepted (w .0))))
+      at (inr n) e = let w = said-value (listingRefusal b out) (length (textOf b)) n e in
+          omega (arith, w .1, text-fits (clean b (accepted (w .0))))

@@ -20,9 +20,11 @@ use Rattle.capi_numbers.specs.Numbers.{verdictNumber, statusNumber, listingNumb
 use Rattle.capi.specs.Told.{VerdictNumber, StatusNumber, ListingNumber}
 
 -- a number from which the word can be told is that of a word exactly if the answer is that word
-number-tells : {A : Type 0} (num : ℕ ⊎ A → ℕ) (of : ℕ → A) → ((v : A) → of (num (inr v)) ≡ v) → {x : ℕ ⊎ A} {u : A} → x ≡ inr u
+number-tells : {A : Type 0} (num : ℕ ⊎ A → ℕ) (of : ℕ → A) → ((v : A) → of (num (inr v)) ≡ v) → {x : ℕ ⊎ A} {u : A}
+    → x ≡ inr u
     → (v : A) → (num x ≡ num (inr v)) ↔ (x ≡ inr v)
-number-tells num of back {u = u} e v = (λ q. e ∙ ap inr (sym (back u) ∙ ap of (ap num (sym e) ∙ q) ∙ back v), λ q. ap num q)
+number-tells num of back {u = u} e v =
+    (λ q. e ∙ ap inr (sym (back u) ∙ ap of (ap num (sym e) ∙ q) ∙ back v), λ q. ap num q)
 
 -- the word of a number
 verdictIn : ℕ → Verdict
@@ -54,7 +56,8 @@ verdict-told b a x q =
           (x .judged acc v));
     }
 
-pub status-told : (b s : List ℕ) (a : Progress) {r : ℕ} → Told b s a → r ≡ statusNumber (status.said a) → StatusNumber b s r
+pub status-told : (b s : List ℕ) (a : Progress) {r : ℕ} → Told b s a → r ≡ statusNumber (status.said a)
+    → StatusNumber b s r
 unfolding statusAnswer
 status-told b s a x q =
     record {
@@ -66,5 +69,6 @@ status-told b s a x q =
           (λ c. x .complete .0 c .1, λ c. x .complete .1 (ok, c)));
     }
 
-pub listing-told : (b out : List ℕ) (a : Listed) {r : ℕ} {out′ : List ℕ} → Lists b out a out′ → r ≡ listingNumber (told a) → ListingNumber b out r out′
+pub listing-told : (b out : List ℕ) (a : Listed) {r : ℕ} {out′ : List ℕ} → Lists b out a out′
+    → r ≡ listingNumber (told a) → ListingNumber b out r out′
 listing-told b out a x q = record { returns = q ∙ ap listingNumber (x .returns); leaves = x .leaves; text = x .text }

@@ -65,7 +65,8 @@ module _ (b out : List ℕ) where
   unfolding listingLeft
   left-out h = rw (ne-eqb (listingRefusal b out) 0 h)
 
-  pub lists-text : {r : ℕ} {out' : List ℕ} → refusal b ≡ 0 → 2048 ≤ length out → Wrote out 0 (textOf b) r out' → Lists b out (Text r) out'
+  pub lists-text : {r : ℕ} {out′ : List ℕ} → refusal b ≡ 0 → 2048 ≤ length out → Wrote out 0 (textOf b) r out′
+      → Lists b out (Text r) out′
   unfolding listedOf
   lists-text {r} e l w =
       let z = refused-none e l in
@@ -77,13 +78,15 @@ module _ (b out : List ℕ) where
   unfolding listingRefusal
   accepted-plan e = both-none (refusal b) (cond (ltb (length out) 2048) 15 0) e .0
 
-  pub text-answered : {r : ℕ} {out' : List ℕ} → Lists b out (Text r) out' → Wrote out 0 (printed b) r out'
+  pub text-answered : {r : ℕ} {out′ : List ℕ} → Lists b out (Text r) out′ → Wrote out 0 (printed b) r out′
   unfolding listedOf
   text-answered {r} h =
       let w = said-value (listingRefusal b out) (length (textOf b)) r (h .returns) in
-      wrote-same (printed-text b (accepted-plan (w .0))) (record { bytes = h .leaves ∙ left-text (w .0); next = omega (arith, w .1) })
+      wrote-same (printed-text b (accepted-plan (w .0)))
+          (record { bytes = h .leaves ∙ left-text (w .0); next = omega (arith, w .1) })
 
-  pub refused-answered : {n : ℕ} {out' : List ℕ} → 2048 ≤ length out → Lists b out (Refused n) out' → (n ≤ 14) × (refusedText n ≡ printed b) × (out' ≡ out)
+  pub refused-answered : {n : ℕ} {out′ : List ℕ} → 2048 ≤ length out → Lists b out (Refused n) out′
+      → (n ≤ 14) × (refusedText n ≡ printed b) × (out′ ≡ out)
   unfolding listedOf
   refused-answered {n} l h =
       let w = said-number (listingRefusal b out) n (length (textOf b)) (h .returns) in
@@ -98,13 +101,14 @@ printed-fits b =
     (λ (e : refusal b ≡ 0). rw (← printed-text b e) (text-fits (clean b e)))
     (λ e. rw (← printed-refused b e) (omega (arith, refused-length (refusal b) (refusal-limit b))))
 
-pub prints : (b : List ℕ) {out out' : List ℕ} {r : ℕ} → 2048 ≤ length out → Wrote out 0 (printed b) r out' → Prints b out r out'
-prints b {out' = out'} {r} l w =
-    let f : r ≤ length out' = omega (arith, w .next, wrote-long w, printed-fits b) in
+pub prints : (b : List ℕ) {out out′ : List ℕ} {r : ℕ} → 2048 ≤ length out → Wrote out 0 (printed b) r out′
+    → Prints b out r out′
+prints b {out′ = out′} {r} l w =
+    let f : r ≤ length out′ = omega (arith, w .next, wrote-long w, printed-fits b) in
     record {
       wrote = w;
       fits = f;
-      counts = sym (length-take-le r out' f);
+      counts = sym (length-take-le r out′ f);
       text = λ e. rw (← printed-text b e) (listing-is b e);
       refused = λ h. rw (← printed-refused b h) (refusal-is (refusal b));
     }

@@ -6,7 +6,8 @@ use Prim.Native.Nat.{ℕ, _≤_}
 use native.Mathlib.Omega.{arith}
 use lib.ListN.{length, length-append}
 use borrow.Author.Tests.{ne-eqb}
-use Rattle.plan_rules.specs.Rules.{refusal, cause1, cause2, cause3, cause4, cause5, cause6, cause7, cause8, cause9, cause10, cause11, cause12, cause13, cause14}
+use Rattle.plan_rules.specs.Rules.{refusal, cause1, cause2, cause3, cause4, cause5, cause6, cause7, cause8, cause9}
+use Rattle.plan_rules.specs.Rules.{cause10, cause11, cause12, cause13, cause14}
 use Rattle.plan_check.specs.Meaning.{planOf, startOf}
 use Rattle.plan_check.proofs.Accepted.{Clean}
 use Rattle.runs.specs.Verdict.{Verdict, CLEAR, DOOMED, OPEN}
@@ -60,7 +61,8 @@ refusal-limit b =
     (cond-limit (cause13 b) 13 _ (omega arith)
     (cond-limit (cause14 b) 14 0 (omega arith) (omega arith))))))))))))))
 
-pub text-is : (b : List ℕ) → (letters (verdict (planOf b) (startOf b)) ++ ending (lengthOf b 0)) ++ linesOf b (ranking b) ≡ textOf b
+pub text-is : (b : List ℕ) → (letters (verdict (planOf b) (startOf b)) ++ ending (lengthOf b 0)) ++ linesOf b
+    (ranking b) ≡ textOf b
 unfolding textOf firstLine
 text-is b = refl
 

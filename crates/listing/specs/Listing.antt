@@ -31,16 +31,16 @@ unfoldable pub listingLeft : List ℕ → List ℕ → List ℕ
 listingLeft b out = cond (eqb (listingRefusal b out) 0) (written out 0 (textOf b)) out
 
 -- a call answered and left these; 01's words hold of the text of an accepted plan, and of no other
-pub record Lists (b out : List ℕ) (r : Listed) (out' : List ℕ) : Type 0 where
+pub record Lists (b out : List ℕ) (r : Listed) (out′ : List ℕ) : Type 0 where
   pub returns : told r ≡ listedOf b out
-  pub leaves : out' ≡ listingLeft b out
+  pub leaves : out′ ≡ listingLeft b out
   pub text : refusal b ≡ 0 → (s : List ℕ) → IsListing b s ↔ (s ≡ textOf b)
 
--- a call wrote all that the program prints from the first byte, and answered how much of out' that is (`counts` follows from `fits`; `&out[..r]` asks for both);
+-- a call wrote all that the program prints from the first byte, and answered how much of out′ that is (`counts` follows from `fits`; `&out[..r]` asks for both);
 -- 01's words for an accepted plan or a refused one hold of it, and of nothing else
-pub record Prints (b out : List ℕ) (r : ℕ) (out' : List ℕ) : Type 0 where
-  pub wrote : Wrote out 0 (printed b) r out'
-  pub fits : r ≤ length out'
-  pub counts : r ≡ length (take r out')
+pub record Prints (b out : List ℕ) (r : ℕ) (out′ : List ℕ) : Type 0 where
+  pub wrote : Wrote out 0 (printed b) r out′
+  pub fits : r ≤ length out′
+  pub counts : r ≡ length (take r out′)
   pub text : refusal b ≡ 0 → (s : List ℕ) → IsListing b s ↔ (s ≡ printed b)
   pub refused : (refusal b ≡ 0 → ⊥) → (s : List ℕ) → IsRefusal (refusal b) s ↔ (s ≡ printed b)

@@ -10,12 +10,12 @@ use lib.ListN.{getD}
 use Rattle.base.specs.Bits.{Says}
 use Rattle.base.proofs.Says.{says-map, says-and, says-or, says-less}
 use Rattle.runs.specs.Plan.{Plan, signNumber}
-use Rattle.runs.specs.Summary.{Mark, may-pre, must-pre, may-post, must-post, may-inc, must-inc, may-clobber, must-clobber, byteOf, Marked}
+use Rattle.runs.specs.Summary.{Mark, may-pre, must-pre, may-post, must-post, may-inc, must-inc, may-clobber, must-clobber, byteOf, markAt, Marked}
 use Rattle.runs.specs.Verdict.{Fails}
 use Rattle.marks_row.specs.Columns as columns
 use Rattle.marks_row.specs.Columns.{Right, wordAt}
 use Rattle.runs.proofs.Plan.Numbers.{sign-small}
-use Rattle.marks_words.specs.Words.{wordIndex, markAt, firstWords, MarkWords, StartWord}
+use Rattle.marks_words.specs.Words.{wordIndex, firstWords, MarkWords, StartWord}
 
 pub mark-small : (m : Mark) → byteOf m < 8
 mark-small may-pre = omega arith

@@ -2,11 +2,11 @@
 use mathlib.Core.Path.{_≡_}
 use mathlib.Core.Bool.{Bool, true}
 use mathlib.Core.List.{List, [], _∷_}
-use Prim.Native.Nat.{ℕ, zero, suc, _+_, _*_, _<_}
+use Prim.Native.Nat.{ℕ, _+_, _*_, _<_}
 use lib.ListN.{getD}
 use Rattle.base.specs.Bits.{Says}
 use Rattle.runs.specs.Plan.{Plan, Node, WellFormed, signNumber}
-use Rattle.runs.specs.Summary.{Mark, may-pre, must-pre, may-post, must-post, may-inc, must-inc, may-clobber, must-clobber, byteOf, Marked}
+use Rattle.runs.specs.Summary.{Mark, byteOf, Marked}
 use Rattle.runs.specs.Verdict.{Fails}
 use Rattle.marks_row.specs.Columns as columns
 use Rattle.marks_row.specs.Columns.{firstOf, Right}
@@ -14,17 +14,6 @@ use Rattle.marks_row.specs.Columns.{firstOf, Right}
 -- the word of a sign and a mark
 abbrev pub wordIndex : Bool → Mark → ℕ
 wordIndex v m = byteOf m + 8 * signNumber v
-
--- the mark of a number, back from `byteOf`
-abbrev pub markAt : ℕ → Mark
-markAt zero = may-pre
-markAt (suc zero) = must-pre
-markAt (suc (suc zero)) = may-post
-markAt (suc (suc (suc zero))) = must-post
-markAt (suc (suc (suc (suc zero)))) = may-inc
-markAt (suc (suc (suc (suc (suc zero))))) = must-inc
-markAt (suc (suc (suc (suc (suc (suc zero)))))) = may-clobber
-markAt (suc (suc (suc (suc (suc (suc (suc k))))))) = must-clobber
 
 -- the first word, in a node's row, of the column of each mark; must precondition and must postcondition have no column
 abbrev pub firstWords : List ℕ

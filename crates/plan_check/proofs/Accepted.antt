@@ -8,7 +8,8 @@ use lib.ListN.{length}
 use lib.Dec.{leb}
 use borrow.Author.Tests.{leb-false, ltb-false, eqb-true, not-false}
 use Rattle.plan_format.specs.Format.{flagCount, startFlag, wholeLength, Whole}
-use Rattle.plan_rules.specs.Rules.{refusal, cause1, cause2, cause3, badStart, cause4, cause5, cause6, cause7, cause8, cause9, cause10, cause11, cause12, cause13, cause14}
+use Rattle.plan_rules.specs.Rules.{refusal, cause1, cause2, cause3, badStart, cause4, cause5, cause6, cause7, cause8}
+use Rattle.plan_rules.specs.Rules.{cause9, cause10, cause11, cause12, cause13, cause14}
 use Rattle.plan_rules.proofs.Laws.{and-of, none-at, not-passed}
 use Rattle.plan_check.specs.Parts.{fromNodes, fromConditions, fromOrders}
 use Rattle.plan_rules.proofs.Causes.{limits, whole}
@@ -75,4 +76,6 @@ clean b e =
 pub start-below : (b : List ℕ) → Clean b → (f : ℕ) → f < 64 → startFlag b f ≡ true → f < flagCount b
 unfolding cause4 badStart
 start-below b c f l s =
-    leb-false (flagCount b) f (not-passed (leb (flagCount b) f) (λ t. true≢false (sym (and-of (leb (flagCount b) f) (startFlag b f) t s) ∙ none-at 64 (badStart b) (c .starts) f l)))
+    leb-false (flagCount b) f (not-passed (leb (flagCount b) f)
+        (λ t. true≢false (sym (and-of (leb (flagCount b) f) (startFlag b f) t s)
+        ∙ none-at 64 (badStart b) (c .starts) f l)))

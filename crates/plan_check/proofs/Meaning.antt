@@ -1,4 +1,5 @@
--- The plan that accepted bytes mean: its conditions and orders are those of the bytes, and it is `Accepted`. Assumes nothing.
+-- The plan that accepted bytes mean: its conditions and orders are those of the bytes, and it is `Accepted`. Assumes
+-- nothing.
 use mathlib.Core.Path.{_≡_, refl, ap, _∙_, sym}
 use mathlib.Core.Logic.{_⊎_, inl, inr, ⊎-elim, by-cases, _≢_}
 use mathlib.Core.Bool.{Bool, true, false, cond, not, _&&_, _||_, true≢false, or-true}
@@ -11,14 +12,18 @@ use lib.Dec.{T, eqb, ltb, leb, ltb→lt, lt→ltb}
 use borrow.Author.Tests.{lt-ltb, eq-eqb, eqb-true, ltb-true, ltb-false, leb-false, not-false}
 use Rattle.plan_codes.proofs.Values.{value-parts}
 use Rattle.plan_codes.specs.Values.{valueOf, flagOf, signOf, placeOf, valueBad}
-use Rattle.plan_format.specs.Format.{nodeCount, condCount, orderCount, flagCount, parentOf, kindOf, minutesOf, condNode, condValue, earlierOf, laterOf, isKind, isGroup}
-use Rattle.plan_rules.specs.Rules.{refusal, badEntry, cause6, childless, cause8, bothSigns, cause11, noPost, postOf, cause12, isChild, badPair, badOrder, cause13}
+use Rattle.plan_format.specs.Format.{nodeCount, condCount, orderCount, flagCount, parentOf, kindOf, minutesOf, condNode}
+use Rattle.plan_format.specs.Format.{condValue, earlierOf, laterOf, isKind, isGroup}
+use Rattle.plan_rules.specs.Rules.{refusal, badEntry, cause6, childless, cause8, bothSigns, cause11, noPost, postOf}
+use Rattle.plan_rules.specs.Rules.{cause12, isChild, badPair, badOrder, cause13}
 use Rattle.plan_rules.specs.Search.{someBelow}
-use Rattle.plan_rules.proofs.Laws.{or-none, or-split, and-both, and-three, and-of, none-at, found-at, some-yes, not-passed}
+use Rattle.plan_rules.proofs.Laws.{or-none, or-split, and-both, and-three, and-of, none-at, found-at, some-yes}
+use Rattle.plan_rules.proofs.Laws.{not-passed}
 use Rattle.runs.specs.Plan.{task, all-of, Place, inc, post, Accepted, WellFormed, kindNumber, placeNumber, signNumber}
 use Rattle.runs.proofs.Reflect.{true-T, T-true}
 use Rattle.runs.proofs.Plan.Accepted.{accepted-well-formed, accepted-rank}
-use Rattle.plan_check.specs.Meaning.{kindAt, conditionIs, hasCondition, signIn, orderIs, hasOrder, planOf, ConditionPair, OrderPair, Means}
+use Rattle.plan_check.specs.Meaning.{kindAt, conditionIs, hasCondition, signIn, orderIs, hasOrder, planOf}
+use Rattle.plan_check.specs.Meaning.{ConditionPair, OrderPair, Means}
 use Rattle.plan_rules.proofs.Causes.{condition-fits, parent-group, root-parent, both-signs-of, post-of}
 use Rattle.plan_check.proofs.Accepted.{Clean, clean}
 
@@ -37,14 +42,17 @@ module _ (b : List ℕ) (p t f s : ℕ) where
   is h =
       let w = found-at (condCount b) (conditionIs b p t f s) h in
       let i = w .0 in
-      let x = and-both (eqb (condNode b i) t && eqb (placeOf (condValue b i)) p) (eqb (flagOf (condValue b i)) f && eqb (signOf (condValue b i)) s) (w .2) in
+      let x = and-both (eqb (condNode b i) t && eqb (placeOf (condValue b i)) p)
+          (eqb (flagOf (condValue b i)) f && eqb (signOf (condValue b i)) s) (w .2) in
       let y = and-both (eqb (condNode b i) t) (eqb (placeOf (condValue b i)) p) (x .0) in
       let z = and-both (eqb (flagOf (condValue b i)) f) (eqb (signOf (condValue b i)) s) (x .1) in
-      (i, record { below = w .1; node = eqb-true _ _ (y .0); place = eqb-true _ _ (y .1); flag = eqb-true _ _ (z .0); sign = eqb-true _ _ (z .1) })
+      (i, record { below = w .1; node = eqb-true _ _ (y .0); place = eqb-true _ _ (y .1); flag = eqb-true _ _ (z .0);
+          sign = eqb-true _ _ (z .1) })
 
   pub has : (i : ℕ) → Is b p t f s i → hasCondition b p t f s ≡ true
   unfolding hasCondition conditionIs
-  has i r = some-yes (condCount b) (conditionIs b p t f s) i (r .below) (simp (eq-eqb _ _ (r .node), eq-eqb _ _ (r .place), eq-eqb _ _ (r .flag), eq-eqb _ _ (r .sign)))
+  has i r = some-yes (condCount b) (conditionIs b p t f s) i (r .below)
+      (simp (eq-eqb _ _ (r .node), eq-eqb _ _ (r .place), eq-eqb _ _ (r .flag), eq-eqb _ _ (r .sign)))
 
 -- a value's parts
 parts : (v f s p : ℕ) → f < 64 → s < 2 → v ≡ valueOf f s p → (flagOf v ≡ f) × (signOf v ≡ s) × (placeOf v ≡ p)
@@ -81,11 +89,14 @@ module _ (b : List ℕ) (k : Place) (t f : ℕ) where
         (λ y.
         let i = is b (placeNumber k) t f 0 h in
         let j = is b (placeNumber k) t f 1 y in
-        let x = none-at (condCount b) (bothSigns b (i .0)) (none-at (condCount b) (λ i. someBelow (condCount b) (bothSigns b i)) signs (i .0) (i .1 .below)) (j .0) (j .1 .below) in
+        let x = none-at (condCount b) (bothSigns b (i .0))
+            (none-at (condCount b) (λ i. someBelow (condCount b) (bothSigns b i)) signs (i .0) (i .1 .below)) (j .0)
+            (j .1 .below) in
         true≢false
         (sym
         (both-signs-of b (i .0) (j .0)
-        (record { node = j .1 .node ∙ sym (i .1 .node); place = j .1 .place ∙ sym (i .1 .place); flag = j .1 .flag ∙ sym (i .1 .flag); clear = i .1 .sign; set = j .1 .sign }))
+        (record { node = j .1 .node ∙ sym (i .1 .node); place = j .1 .place ∙ sym (i .1 .place); flag = j .1 .flag
+            ∙ sym (i .1 .flag); clear = i .1 .sign; set = j .1 .sign }))
         ∙ x))
 
     pub sign-has : (v : Bool) → hasCondition b (placeNumber k) t f (signNumber v) ≡ true → signIn b k t f ≡ some v
@@ -94,15 +105,19 @@ module _ (b : List ℕ) (k : Place) (t f : ℕ) where
     sign-has false h = rw (one-sign h, h)
 
     -- 01's form of a value
-    pub condition-pair : (v : Bool) → signIn b k t f ≡ some v → ConditionPair b t (valueOf f (signNumber v) (placeNumber k))
+    pub condition-pair : (v : Bool) → signIn b k t f ≡ some v
+        → ConditionPair b t (valueOf f (signNumber v) (placeNumber k))
     condition-pair v e =
         let w = is b (placeNumber k) t f (signNumber v) (sign-is v e) in
-        record { at = w .0; below = w .1 .below; node = w .1 .node; value = omega (arith, value-parts (condValue b (w .0)), w .1 .place, w .1 .flag, w .1 .sign) }
+        record { at = w .0; below = w .1 .below; node = w .1 .node;
+            value = omega (arith, value-parts (condValue b (w .0)), w .1 .place, w .1 .flag, w .1 .sign) }
 
-    pub pair-condition : (v : Bool) → f < 64 → ConditionPair b t (valueOf f (signNumber v) (placeNumber k)) → signIn b k t f ≡ some v
+    pub pair-condition : (v : Bool) → f < 64 → ConditionPair b t (valueOf f (signNumber v) (placeNumber k))
+        → signIn b k t f ≡ some v
     pair-condition v l r =
         let w = parts (condValue b (r .at)) f (signNumber v) (placeNumber k) l (sign-small v) (r .value) in
-        sign-has v (has b (placeNumber k) t f (signNumber v) (r .at) (record { below = r .below; node = r .node; place = w .2; flag = w .0; sign = w .1 }))
+        sign-has v (has b (placeNumber k) t f (signNumber v) (r .at)
+            (record { below = r .below; node = r .node; place = w .2; flag = w .0; sign = w .1 }))
 
 -- ---- orders
 module _ (b : List ℕ) (x y : ℕ) where
@@ -115,7 +130,8 @@ module _ (b : List ℕ) (x y : ℕ) where
 
   pub has-order : OrderPair b x y → T (hasOrder b x y)
   unfolding hasOrder orderIs
-  has-order r = true-T _ (some-yes (orderCount b) (orderIs b x y) (r .at) (r .below) (simp (eq-eqb _ _ (r .earlier), eq-eqb _ _ (r .later))))
+  has-order r = true-T _ (some-yes (orderCount b) (orderIs b x y) (r .at) (r .below)
+      (simp (eq-eqb _ _ (r .earlier), eq-eqb _ _ (r .later))))
 
 -- ---- nodes
 pub kind-group : (k : ℕ) → (k ≡ 1) ⊎ (k ≡ 2) → kindAt k ≢ task
@@ -140,7 +156,8 @@ kind-number (suc (suc (suc k))) l = absurd (omega arith)
 
 pub kind-is : (b : List ℕ) (n k : ℕ) → isKind b n k ≡ true → (n < nodeCount b) × (kindOf b n ≡ k)
 unfolding isKind
-kind-is b n k h = let w = and-both (ltb n (nodeCount b)) (eqb (kindOf b n) k) h in (ltb-true _ _ (w .0), eqb-true _ _ (w .1))
+kind-is b n k h = let w = and-both (ltb n (nodeCount b)) (eqb (kindOf b n) k) h in
+    (ltb-true _ _ (w .0), eqb-true _ _ (w .1))
 
 pub kind-of : (b : List ℕ) (n k : ℕ) → n < nodeCount b → kindOf b n ≡ k → isKind b n k ≡ true
 unfolding isKind
@@ -148,7 +165,8 @@ kind-of b n k l e = and-of (ltb n (nodeCount b)) (eqb (kindOf b n) k) (lt-ltb _ 
 
 pub group-is : (b : List ℕ) (n : ℕ) → isGroup b n ≡ true → (kindOf b n ≡ 1) ⊎ (kindOf b n ≡ 2)
 unfolding isGroup
-group-is b n h = ⊎-elim (λ x. inl (kind-is b n 1 x .1)) (λ x. inr (kind-is b n 2 x .1)) (or-split (isKind b n 1) (isKind b n 2) h)
+group-is b n h = ⊎-elim (λ x. inl (kind-is b n 1 x .1)) (λ x. inr (kind-is b n 2 x .1))
+    (or-split (isKind b n 1) (isKind b n 2) h)
 
 pub child-is : (b : List ℕ) (g n : ℕ) → isChild b g n ≡ true → (0 < n) × (n < nodeCount b) × (parentOf b n ≡ g)
 unfolding isChild
@@ -162,7 +180,8 @@ module _ (b : List ℕ) (c : Clean b) where
   pub kind-limit : (n : ℕ) → n < nodeCount b → kindOf b n ≤ 2
   unfolding cause6 badEntry
   kind-limit n l =
-      let w = or-none (ltb 2 (kindOf b n) || (isGroup b n && ltb 0 (minutesOf b n))) (isKind b n 0 && ltb 10080 (minutesOf b n)) (none-at (nodeCount b) (badEntry b) (c .entries) n l) in
+      let w = or-none (ltb 2 (kindOf b n) || (isGroup b n && ltb 0 (minutesOf b n)))
+          (isKind b n 0 && ltb 10080 (minutesOf b n)) (none-at (nodeCount b) (badEntry b) (c .entries) n l) in
       ltb-false 2 (kindOf b n) (or-none (ltb 2 (kindOf b n)) (isGroup b n && ltb 0 (minutesOf b n)) (w .0) .0)
 
   pub group-of : (n : ℕ) → n < nodeCount b → kindAt (kindOf b n) ≢ task → isGroup b n ≡ true
@@ -174,13 +193,17 @@ module _ (b : List ℕ) (c : Clean b) where
       rw (kind-of b n 2 l (omega (arith, kind-limit n l))) (or-true (isKind b n 1)))
 
   -- 8
-  pub child-of : (g : ℕ) → g < nodeCount b → isGroup b g ≡ true → (n : ℕ) × (0 < n) × (n < nodeCount b) × (parentOf b n ≡ g)
+  pub child-of : (g : ℕ) → g < nodeCount b → isGroup b g ≡ true
+      → (n : ℕ) × (0 < n) × (n < nodeCount b) × (parentOf b n ≡ g)
   unfolding cause8 childless
   child-of g l h =
       let x = rw h at (none-at (nodeCount b) (childless b) (c .children) g l) in
       let w = found-at (nodeCount b) (λ n. eqb (parentOf b n) g) (not-false _ x) in
       let e = eqb-true (parentOf b (w .0)) g (w .2) in
-      (w .0, by-cases (ℕ-discrete (w .0) 0) (λ (z : w .0 ≡ 0). absurd (omega (arith, ap (parentOf b) z, root-parent b (c .fits) (c .parents), c .fits .limits .nodes))) (λ z. omega arith), w .1, e)
+      (w .0, by-cases (ℕ-discrete (w .0) 0)
+          (λ (z : w .0 ≡ 0). absurd (omega
+          (arith, ap (parentOf b) z, root-parent b (c .fits) (c .parents), c .fits .limits .nodes))) (λ z. omega arith),
+          w .1, e)
 
   -- 9
   pub on-task : (p t f s i : ℕ) → Is b p t f s i → (t < nodeCount b) × (kindOf b t ≡ 0) × (f < flagCount b)
@@ -189,25 +212,34 @@ module _ (b : List ℕ) (c : Clean b) where
       let w = condition-fits b (c .fits) (c .conditions) i (r .below) in
       let x = kind-is b (condNode b i) 0 (w .0) in
       let v = or-none (ltb 383 (condValue b i)) (leb (flagCount b) (flagOf (condValue b i))) (w .1) in
-      (omega (arith, x .0, r .node), ap (kindOf b) (sym (r .node)) ∙ x .1, omega (arith, leb-false (flagCount b) (flagOf (condValue b i)) (v .1), r .flag))
+      (omega (arith, x .0, r .node), ap (kindOf b) (sym (r .node)) ∙ x .1,
+          omega (arith, leb-false (flagCount b) (flagOf (condValue b i)) (v .1), r .flag))
 
   -- 12
   pub inc-post : (t f s i : ℕ) → Is b 1 t f s i → (u : Bool) × (hasCondition b 2 t f (signNumber u) ≡ true)
   unfolding cause12 noPost
   inc-post t f s i r =
-      let x = rw (eq-eqb (placeOf (condValue b i)) 1 (r .place)) at (none-at (condCount b) (noPost b) (c .posts) i (r .below)) in
+      let x = rw (eq-eqb (placeOf (condValue b i)) 1 (r .place)) at
+          (none-at (condCount b) (noPost b) (c .posts) i (r .below)) in
       let w = found-at (condCount b) (postOf b i) (not-false _ x) in
       let q = post-of b i (w .0) (w .2) in
       by-cases (ℕ-discrete (signOf (condValue b (w .0))) 0)
-      (λ (z : signOf (condValue b (w .0)) ≡ 0). (false, has b 2 t f 0 (w .0) (record { below = w .1; node = q .node ∙ r .node; place = q .post; flag = q .flag ∙ r .flag; sign = z })))
-      (λ z. (true, has b 2 t f 1 (w .0) (record { below = w .1; node = q .node ∙ r .node; place = q .post; flag = q .flag ∙ r .flag; sign = sign-one (condValue b (w .0)) z })))
+      (λ (z : signOf (condValue b (w .0)) ≡ 0).
+          (false, has b 2 t f 0 (w .0) (record
+          { below = w .1; node = q .node ∙ r .node; place = q .post; flag = q .flag ∙ r .flag; sign = z })))
+      (λ z. (true, has b 2 t f 1 (w .0)
+          (record { below = w .1; node = q .node ∙ r .node; place = q .post; flag = q .flag ∙ r .flag;
+          sign = sign-one (condValue b (w .0)) z })))
 
   -- 13
   pub good-pair : (x y : ℕ) → T (hasOrder b x y) → badPair b x y ≡ false
   unfolding cause13 badOrder
-  good-pair x y o = let w = order-is b x y o in rw (w .earlier, w .later) at (none-at (orderCount b) (badOrder b) (c .orders) (w .at) (w .below))
+  good-pair x y o = let w = order-is b x y o in
+      rw (w .earlier, w .later) at (none-at (orderCount b) (badOrder b) (c .orders) (w .at) (w .below))
 
-  pub siblings : (x y : ℕ) → badPair b x y ≡ false → (x < y) × (kindOf b (parentOf b x) ≡ 1) × (isChild b (parentOf b x) x ≡ true) × (isChild b (parentOf b x) y ≡ true)
+  pub siblings : (x y : ℕ) → badPair b x y ≡ false
+      → (x < y) × (kindOf b (parentOf b x) ≡ 1) × (isChild b (parentOf b x) x ≡ true)
+      × (isChild b (parentOf b x) y ≡ true)
   unfolding badPair
   siblings x y h =
       let g = parentOf b x in
@@ -221,15 +253,22 @@ module _ (b : List ℕ) (c : Clean b) where
       record {
         nodes = λ n. (ltb→lt n (nodeCount b), lt→ltb n (nodeCount b));
         some-node = c .fits .limits .some-node;
-        parent-lower = λ n z l. let w = parent-group b (c .fits) (c .parents) n z l in (w .0, kind-group (kindOf b (parentOf b n)) (group-is b (parentOf b n) (w .1)));
-        has-child = λ g l h. let w = child-of g l (group-of g l h) in (w .0, record { not-root = w .1; node = lt→ltb (w .0) (nodeCount b) (w .2); up = w .3 });
-        on-task = λ k t f v e. let w = is b (placeNumber k) t f (signNumber v) (sign-is b k t f v e) in let x = on-task (placeNumber k) t f (signNumber v) (w .0) (w .1) in (x .0, kind-task (kindOf b t) (x .1), x .2);
-        inc-post = λ t f v e. let w = is b 1 t f (signNumber v) (sign-is b inc t f v e) in let x = inc-post t f (signNumber v) (w .0) (w .1) in (x .0, sign-has b post t f (c .signs) (x .0) (x .1));
+        parent-lower = λ n z l. let w = parent-group b (c .fits) (c .parents) n z l in
+            (w .0, kind-group (kindOf b (parentOf b n)) (group-is b (parentOf b n) (w .1)));
+        has-child = λ g l h. let w = child-of g l (group-of g l h) in
+            (w .0, record { not-root = w .1; node = lt→ltb (w .0) (nodeCount b) (w .2); up = w .3 });
+        on-task = λ k t f v e. let w = is b (placeNumber k) t f (signNumber v) (sign-is b k t f v e) in
+            let x = on-task (placeNumber k) t f (signNumber v) (w .0) (w .1) in
+            (x .0, kind-task (kindOf b t) (x .1), x .2);
+        inc-post = λ t f v e. let w = is b 1 t f (signNumber v) (sign-is b inc t f v e) in
+            let x = inc-post t f (signNumber v) (w .0) (w .1) in (x .0, sign-has b post t f (c .signs) (x .0) (x .1));
         orders = λ x y o.
             let s = siblings x y (good-pair x y o) in
             let u = child-is b (parentOf b x) x (s .2) in
             let v = child-is b (parentOf b x) y (s .3) in
-            (s .0, (parentOf b x, kind-all-of (kindOf b (parentOf b x)) (s .1), record { not-root = u .0; node = lt→ltb x (nodeCount b) (u .1); up = u .2 }, record { not-root = v .0; node = lt→ltb y (nodeCount b) (v .1); up = v .2 }));
+            (s .0, (parentOf b x, kind-all-of (kindOf b (parentOf b x)) (s .1),
+                record { not-root = u .0; node = lt→ltb x (nodeCount b) (u .1); up = u .2 },
+                record { not-root = v .0; node = lt→ltb y (nodeCount b) (v .1); up = v .2 }));
       }
 
 -- accepted bytes mean a plan

@@ -18,11 +18,13 @@ kind-any-of k e = rw e
 module _ (b : List ℕ) where
   pub is-child : (g c : ℕ) → isChild b g c ≡ true → Child (planOf b) g c
   unfolding planOf
-  is-child g c h = let w = child-is b g c h in record { not-root = w .0; node = lt→ltb c (nodeCount b) (w .1); up = w .2 }
+  is-child g c h = let w = child-is b g c h in
+      record { not-root = w .0; node = lt→ltb c (nodeCount b) (w .1); up = w .2 }
 
   pub child-test : (g c : ℕ) → Child (planOf b) g c → isChild b g c ≡ true
   unfolding planOf isChild
-  child-test g c h = simp (lt-ltb 0 c (h .not-root), lt-ltb c (nodeCount b) (ltb→lt c (nodeCount b) (h .node)), eq-eqb (parentOf b c) g (h .up))
+  child-test g c h = simp (lt-ltb 0 c (h .not-root), lt-ltb c (nodeCount b) (ltb→lt c (nodeCount b) (h .node)),
+      eq-eqb (parentOf b c) g (h .up))
 
   pub is-node : (n : ℕ) → n < nodeCount b → Node (planOf b) n
   unfolding planOf

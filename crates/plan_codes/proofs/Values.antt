@@ -7,17 +7,18 @@ use mathlib.Core.Logic.{by-cases}
 use borrow.Author.Tests.{le-leb, lt-leb}
 use Rattle.plan_codes.specs.declared.value.Parsed.the-variants as parsed
 use Rattle.plan_codes.specs.declared.value.Condition.{Condition}
-use Rattle.plan_codes.specs.Values.{valueOf, parsedOf, placeAt, signAt, placeOf, signOf, flagOf, placeNum, signNum, valueNum}
+use Rattle.plan_codes.specs.Values.{valueOf, parsedOf, placeAt, signAt, placeOf, signOf, flagOf, placeNum}
+use Rattle.plan_codes.specs.Values.{signNum, valueNum}
 
 pub parse-at : (v flag sign place : ℕ) → v ≡ valueOf flag sign place → flag < 64 → sign < 2 → place < 3
     → parsed.Accepted (record { place = placeAt place; sign = signAt sign; flag = flag }) ≡ parsedOf v
 unfolding parsedOf placeOf signOf flagOf
 parse-at v flag sign place e f s p =
-    let p' : v / 128 ≡ place = omega arith in
-    let s' : v / 64 % 2 ≡ sign = omega arith in
-    let f' : v % 64 ≡ flag = omega arith in
+    let p′ : v / 128 ≡ place = omega arith in
+    let s′ : v / 64 % 2 ≡ sign = omega arith in
+    let f′ : v % 64 ≡ flag = omega arith in
     let l : v ≤ 383 = omega arith in
-    simp (le-leb v 383 l, p', s', f')
+    simp (le-leb v 383 l, p′, s′, f′)
 
 place-num : (p : ℕ) → p < 3 → placeNum (placeAt p) ≡ p
 place-num zero l = refl
@@ -42,7 +43,8 @@ pub record Says (v : ℕ) (c : Condition) : Type 0 where
   pub sign : signNum (c .sign) ≡ signOf v
   pub flag : c .flag ≡ flagOf v
 
-of-parts : (v : ℕ) (c : Condition) → v ≤ 383 → record { place = placeAt (placeOf v); sign = signAt (signOf v); flag = flagOf v } ≡ c → Says v c
+of-parts : (v : ℕ) (c : Condition) → v ≤ 383
+    → record { place = placeAt (placeOf v); sign = signAt (signOf v); flag = flagOf v } ≡ c → Says v c
 unfolding placeOf signOf flagOf
 of-parts v c l e =
     record {
@@ -57,7 +59,9 @@ unfolding placeOf signOf flagOf
 says v c e =
     by-cases (decLe v 383)
     (λ (l : v ≤ 383).
-    let k : parsed.Accepted (record { place = placeAt (placeOf v); sign = signAt (signOf v); flag = flagOf v }) ≡ parsed.Accepted c = parse-at v (v % 64) (v / 64 % 2) (v / 128) (omega arith) (omega arith) (omega arith) (omega arith) ∙ e in
+    let k : parsed.Accepted (record { place = placeAt (placeOf v); sign = signAt (signOf v); flag = flagOf v })
+        ≡ parsed.Accepted c = parse-at v (v % 64) (v / 64 % 2) (v / 128) (omega arith) (omega arith) (omega arith)
+        (omega arith) ∙ e in
     of-parts v c l (cc))
     (λ l. let z : _≡_ {A = ℕ} 0 1 = cc (over v (omega arith)) in absurd (omega arith))
 
@@ -66,7 +70,8 @@ unfolding placeOf signOf flagOf
 refused v e =
     by-cases (decLe v 383)
     (λ (l : v ≤ 383).
-    let z : _≡_ {A = ℕ} 0 1 = cc (parse-at v (v % 64) (v / 64 % 2) (v / 128) (omega arith) (omega arith) (omega arith) (omega arith)) in absurd (omega arith))
+    let z : _≡_ {A = ℕ} 0 1 = cc (parse-at v (v % 64) (v / 64 % 2) (v / 128) (omega arith) (omega arith) (omega arith)
+        (omega arith)) in absurd (omega arith))
     (λ l. omega arith)
 
 -- the numbers of an accepted value's cases make up the value

@@ -12,13 +12,15 @@ pub item-node : (b : List ℕ) {at : ℕ} → at < nodeCount b → itemOf b at �
 unfolding itemOf
 item-node b l = simp (lt-ltb _ _ l)
 
-pub item-condition : (b : List ℕ) {at i : ℕ} → at ≡ nodeCount b + i → i < condCount b → itemOf b at ≡ item.Condition (conditionOf b i)
+pub item-condition : (b : List ℕ) {at i : ℕ} → at ≡ nodeCount b + i → i < condCount b
+    → itemOf b at ≡ item.Condition (conditionOf b i)
 unfolding itemOf
 item-condition b {at} {i} e l =
     let e′ : at - nodeCount b ≡ i = omega arith in
     simp (le-ltb at (nodeCount b) (omega arith), e′, lt-ltb i (condCount b) l)
 
-pub item-order : (b : List ℕ) (j : ℕ) {at : ℕ} → at ≡ nodeCount b + condCount b + j → itemOf b at ≡ item.Order (orderOf b j)
+pub item-order : (b : List ℕ) (j : ℕ) {at : ℕ} → at ≡ nodeCount b + condCount b + j
+    → itemOf b at ≡ item.Order (orderOf b j)
 unfolding itemOf
 item-order b j {at} e =
     let i : at - nodeCount b ≡ condCount b + j = omega arith in

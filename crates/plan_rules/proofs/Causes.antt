@@ -8,7 +8,8 @@ use lib.ListN.{length}
 use lib.Dec.{eqb, ltb, leb}
 use borrow.Author.Tests.{eq-eqb, ne-eqb, eqb-true, ltb-true, ltb-false, not-false}
 use Rattle.plan_codes.specs.Values.{flagOf, signOf, placeOf, valueBad}
-use Rattle.plan_format.specs.Format.{nodeCount, condCount, orderCount, flagCount, wholeLength, parentOf, kindOf, condNode, condValue, isKind, isGroup, Limits, Whole}
+use Rattle.plan_format.specs.Format.{nodeCount, condCount, orderCount, flagCount, wholeLength, parentOf, kindOf}
+use Rattle.plan_format.specs.Format.{condNode, condValue, isKind, isGroup, Limits, Whole}
 use Rattle.plan_rules.specs.Rules.{cause2, badParent, cause7, badCondition, cause9, bothSigns, postOf}
 use Rattle.plan_rules.proofs.Laws.{or-none, and-both, and-three, none-at}
 
@@ -17,7 +18,8 @@ pub limits : (b : List ℕ) → 16 ≤ length b → cause2 b ≡ false → Limit
 unfolding cause2
 limits b l h =
     let w = or-none _ (ltb (flagCount b) 1 || ltb 64 (flagCount b)) h in
-    let n = or-none (ltb (nodeCount b) 1 || ltb 128 (nodeCount b)) (ltb 1024 (condCount b) || ltb 512 (orderCount b)) (w .0) in
+    let n = or-none (ltb (nodeCount b) 1 || ltb 128 (nodeCount b)) (ltb 1024 (condCount b) || ltb 512 (orderCount b))
+        (w .0) in
     let n0 = or-none (ltb (nodeCount b) 1) (ltb 128 (nodeCount b)) (n .0) in
     let n1 = or-none (ltb 1024 (condCount b)) (ltb 512 (orderCount b)) (n .1) in
     let v = or-none (ltb (flagCount b) 1) (ltb 64 (flagCount b)) (w .1) in
@@ -45,7 +47,8 @@ module _ (b : List ℕ) (fits : Whole b) where
   module _ (parents : cause7 b ≡ false) where
     pub root-parent : parentOf b 0 ≡ 255
     unfolding cause7 badParent
-    root-parent = eqb-true (parentOf b 0) 255 (not-false _ (none-at (nodeCount b) (badParent b) parents 0 (fits .limits .some-node)))
+    root-parent = eqb-true (parentOf b 0) 255
+        (not-false _ (none-at (nodeCount b) (badParent b) parents 0 (fits .limits .some-node)))
 
     pub parent-group : (n : ℕ) → 0 < n → n < nodeCount b → (parentOf b n < n) × (isGroup b (parentOf b n) ≡ true)
     unfolding cause7 badParent
@@ -55,18 +58,24 @@ module _ (b : List ℕ) (fits : Whole b) where
         (ltb-true (parentOf b n) n (w .0), w .1)
 
   module _ (conditions : cause9 b ≡ false) where
-    pub condition-fits : (i : ℕ) → i < condCount b → (isKind b (condNode b i) 0 ≡ true) × (valueBad (condValue b i) (flagCount b) ≡ false)
+    pub condition-fits : (i : ℕ) → i < condCount b
+        → (isKind b (condNode b i) 0 ≡ true) × (valueBad (condValue b i) (flagCount b) ≡ false)
     unfolding cause9 badCondition
     condition-fits i l =
-        let w = or-none (not (isKind b (condNode b i) 0)) (valueBad (condValue b i) (flagCount b)) (none-at (condCount b) (badCondition b) conditions i l) in
+        let w = or-none (not (isKind b (condNode b i) 0)) (valueBad (condValue b i) (flagCount b))
+            (none-at (condCount b) (badCondition b) conditions i l) in
         (not-false _ (w .0), w .1)
 
     pub usable : Usable b
     unfolding isKind valueBad
     usable =
         record {
-          value = λ i l. ltb-false 383 (condValue b i) (or-none (ltb 383 (condValue b i)) (leb (flagCount b) (flagOf (condValue b i))) (condition-fits i l .1) .0);
-          node = λ i l. omega (arith, ltb-true (condNode b i) (nodeCount b) (and-both (ltb (condNode b i) (nodeCount b)) (eqb (kindOf b (condNode b i)) 0) (condition-fits i l .0) .0), fits .limits .nodes);
+          value = λ i l. ltb-false 383 (condValue b i)
+              (or-none (ltb 383 (condValue b i)) (leb (flagCount b) (flagOf (condValue b i)))
+              (condition-fits i l .1) .0);
+          node = λ i l. omega (arith, ltb-true (condNode b i) (nodeCount b)
+              (and-both (ltb (condNode b i) (nodeCount b)) (eqb (kindOf b (condNode b i)) 0)
+              (condition-fits i l .0) .0), fits .limits .nodes);
         }
 
 -- ---- two conditions
@@ -82,13 +91,16 @@ module _ (b : List ℕ) (i j : ℕ) where
   unfolding bothSigns
   both-signs h =
       let w = and-both _ (eqb (signOf (condValue b i)) 0 && eqb (signOf (condValue b j)) 1) h in
-      let x = and-three (eqb (condNode b j) (condNode b i)) (eqb (placeOf (condValue b j)) (placeOf (condValue b i))) (eqb (flagOf (condValue b j)) (flagOf (condValue b i))) (w .0) in
+      let x = and-three (eqb (condNode b j) (condNode b i)) (eqb (placeOf (condValue b j)) (placeOf (condValue b i)))
+          (eqb (flagOf (condValue b j)) (flagOf (condValue b i))) (w .0) in
       let y = and-both (eqb (signOf (condValue b i)) 0) (eqb (signOf (condValue b j)) 1) (w .1) in
-      record { node = eqb-true _ _ (x .0); place = eqb-true _ _ (x .1); flag = eqb-true _ _ (x .2); clear = eqb-true _ _ (y .0); set = eqb-true _ _ (y .1) }
+      record { node = eqb-true _ _ (x .0); place = eqb-true _ _ (x .1); flag = eqb-true _ _ (x .2);
+          clear = eqb-true _ _ (y .0); set = eqb-true _ _ (y .1) }
 
   pub both-signs-of : BothSigns → bothSigns b i j ≡ true
   unfolding bothSigns
-  both-signs-of r = simp (eq-eqb _ _ (r .node), eq-eqb _ _ (r .place), eq-eqb _ _ (r .flag), eq-eqb _ _ (r .clear), eq-eqb _ _ (r .set))
+  both-signs-of r = simp (eq-eqb _ _ (r .node), eq-eqb _ _ (r .place), eq-eqb _ _ (r .flag), eq-eqb _ _ (r .clear),
+      eq-eqb _ _ (r .set))
 
   pub record PostOf : Type 0 where
     pub node : condNode b j ≡ condNode b i
@@ -98,5 +110,6 @@ module _ (b : List ℕ) (i j : ℕ) where
   pub post-of : postOf b i j ≡ true → PostOf
   unfolding postOf
   post-of h =
-      let w = and-three (eqb (condNode b j) (condNode b i)) (eqb (flagOf (condValue b j)) (flagOf (condValue b i))) (eqb (placeOf (condValue b j)) 2) h in
+      let w = and-three (eqb (condNode b j) (condNode b i)) (eqb (flagOf (condValue b j)) (flagOf (condValue b i)))
+          (eqb (placeOf (condValue b j)) 2) h in
       record { node = eqb-true _ _ (w .0); flag = eqb-true _ _ (w .1); post = eqb-true _ _ (w .2) }

@@ -19,7 +19,8 @@ unfoldable pub latest : (ℕ → Step) → ℕ → ℕ → ℕ
 latest s zero k = 0
 latest s (suc m) k = cond (s m .writes && eqb (s m .at) k) (s m .mark) (latest s m k)
 
--- step x refuses at the entry e that it asks: it needs the mark and the entry has another, or it bars the mark and the entry has it
+-- step x refuses at the entry e that it asks: it needs the mark and the entry has another, or it bars the mark and the
+-- entry has it
 abbrev pub refusesAt : Step → ℕ → Bool
 refusesAt x e = (x .needs && not (eqb e (x .mark))) || (x .bars && eqb e (x .mark))
 
@@ -38,11 +39,14 @@ pub holds-none : (s : ℕ → Step) {t : List ℕ} → Zeros 256 t → Holds s 0
 unfolding latest
 holds-none s z = z .zero
 
-pub asked : (s : ℕ → Step) (m : ℕ) (t : List ℕ) (x : Step) (i : ℕ) → x ≡ s m → Holds s m t → i ≡ x .ask → i < 256 → refusesAt x (getD t i 0) ≡ refuses s m
+pub asked : (s : ℕ → Step) (m : ℕ) (t : List ℕ) (x : Step) (i : ℕ) → x ≡ s m → Holds s m t → i ≡ x .ask → i < 256
+    → refusesAt x (getD t i 0) ≡ refuses s m
 unfolding refuses
-asked s m t x i e h a l = ap (λ (v : ℕ). refusesAt x v) (h i l ∙ ap (λ (k : ℕ). latest s m k) a) ∙ ap (λ (y : Step). refusesAt y (latest s m (y .ask))) e
+asked s m t x i e h a l = ap (λ (v : ℕ). refusesAt x v) (h i l ∙ ap (λ (k : ℕ). latest s m k) a)
+    ∙ ap (λ (y : Step). refusesAt y (latest s m (y .ask))) e
 
-set-holds : (s : ℕ → Step) (m : ℕ) (t : List ℕ) (x : Step) (i : ℕ) → x ≡ s m → length t ≡ 256 → Holds s m t → x .writes ≡ true → i ≡ x .at → i < 256 → Holds s (m + 1) (set t i (x .mark))
+set-holds : (s : ℕ → Step) (m : ℕ) (t : List ℕ) (x : Step) (i : ℕ) → x ≡ s m → length t ≡ 256 → Holds s m t
+    → x .writes ≡ true → i ≡ x .at → i < 256 → Holds s (m + 1) (set t i (x .mark))
 unfolding latest
 set-holds s m t x i e n h w a l k b =
     rw (add-one m, ← e, w, ← a)
@@ -50,14 +54,17 @@ set-holds s m t x i e n h w a l k b =
     (λ (q : i ≡ k). rw (eq-eqb i k q, ← q) (getD-set-same t i (x .mark) 0 (omega arith)))
     (λ q. rw (ne-eqb i k q) (getD-set-other t i k (x .mark) 0 (λ p. q (sym p)) ∙ h k b)))
 
-kept-holds : (s : ℕ → Step) (m : ℕ) (t : List ℕ) (x : Step) → x ≡ s m → Holds s m t → x .writes ≡ false → Holds s (m + 1) t
+kept-holds : (s : ℕ → Step) (m : ℕ) (t : List ℕ) (x : Step) → x ≡ s m → Holds s m t → x .writes ≡ false
+    → Holds s (m + 1) t
 unfolding latest
 kept-holds s m t x e h w k b = rw (add-one m, ← e, w) (h k b)
 
 -- the table u after a turn with the step x: written at i, or as it was
 module _ (s : ℕ → Step) (m : ℕ) (t u : List ℕ) (x : Step) (e : x ≡ s m) (n : length t ≡ 256) (h : Holds s m t) where
-  pub written : (i : ℕ) → x .writes ≡ true → i ≡ x .at → i < 256 → u ≡ set t i (x .mark) → (length u ≡ 256) × Holds s (m + 1) u
-  written i w a l q = (ap length q ∙ length-set t i (x .mark) ∙ n, subst (λ (v : List ℕ). Holds s (m + 1) v) (sym q) (set-holds s m t x i e n h w a l))
+  pub written : (i : ℕ) → x .writes ≡ true → i ≡ x .at → i < 256 → u ≡ set t i (x .mark)
+      → (length u ≡ 256) × Holds s (m + 1) u
+  written i w a l q = (ap length q ∙ length-set t i (x .mark) ∙ n,
+      subst (λ (v : List ℕ). Holds s (m + 1) v) (sym q) (set-holds s m t x i e n h w a l))
 
   pub kept : x .writes ≡ false → u ≡ t → (length u ≡ 256) × Holds s (m + 1) u
   kept w q = (ap length q ∙ n, subst (λ (v : List ℕ). Holds s (m + 1) v) (sym q) (kept-holds s m t x e h w))

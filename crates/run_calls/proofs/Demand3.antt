@@ -54,14 +54,16 @@ module _ (b : List ℕ) (h : Bytes b) (acc : refusal b ≡ 0) where
         follows = list-follows b h;
         answer = λ r x. let (v, j, u) = on-plans .judged in (v, x .judged acc v .1 j, j, u);
         clear = λ r x. (
-          λ q s cs rs z l. let f = list-follows b h s cs rs z l in on-plans .clear .0 (x .judged acc CLEAR .0 q) cs rs (f .after) (f .worked),
+          λ q s cs rs z l. let f = list-follows b h s cs rs z l in
+              on-plans .clear .0 (x .judged acc CLEAR .0 q) cs rs (f .after) (f .worked),
           λ g. x .judged acc CLEAR .1 (on-plans .clear .1 (never-worked g)),
         );
         doomed = λ r x q s cs rs z l.
             let f = list-follows b h s cs rs z l in
             let d = x .judged acc DOOMED .0 q in (
               λ a w. on-plans .doomed d cs rs a w,
-              λ t k c. on-plans .doomed d cs rs (f .after) (f .worked) (rw (ap (λ (a : World). a .status) (f .shown .states)) at (k .complete .0 c .1)),
+              λ t k c. on-plans .doomed d cs rs (f .after) (f .worked)
+                  (rw (ap (λ (a : World). a .status) (f .shown .states)) at (k .complete .0 c .1)),
             );
       }
 

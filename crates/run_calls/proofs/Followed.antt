@@ -1,4 +1,5 @@
--- Lists of calls by the relations that the calls promise: they return what 01 works out, and the state after them shows the states worked out. Assumes nothing.
+-- Lists of calls by the relations that the calls promise: they return what 01 works out, and the state after them shows
+-- the states worked out. Assumes nothing.
 use mathlib.Core.Path.{_≡_, refl, sym, ap, _∙_}
 use mathlib.Core.List.{List, [], _∷_, _++_}
 use Prim.Native.Nat.{ℕ, _+_, _≤_}
@@ -22,7 +23,8 @@ use Rattle.run_calls.specs.Demand3.{Bytes, Shows, Follows, EachCall}
 use Rattle.run_calls.proofs.Kept.{Kept, fresh-kept, event-kept, group-byte, shown-is}
 
 -- one list of calls after another
-pub calls-append : {b s z y : List ℕ} {cs ds : List Call} {rs ns : List ℕ} → Calls b s cs rs z → Calls b z ds ns y → Calls b s (cs ++ ds) (rs ++ ns) y
+pub calls-append : {b s z y : List ℕ} {cs ds : List Call} {rs ns : List ℕ} → Calls b s cs rs z → Calls b z ds ns y
+    → Calls b s (cs ++ ds) (rs ++ ns) y
 calls-append no-calls d = d
 calls-append (next-call x c) d = next-call x (calls-append c d)
 
@@ -41,7 +43,8 @@ module _ (b : List ℕ) where
     worked : Worked (planOf b) (worldOf b s) cs rs (worldOf b z)
     kept : Kept b s₀ z
 
-  walked : (s₀ : List ℕ) {s z : List ℕ} {cs : List Call} {rs : List ℕ} → stateRefusal b s ≡ 0 → Kept b s₀ s → Calls b s cs rs z → Walked s₀ s cs rs z
+  walked : (s₀ : List ℕ) {s z : List ℕ} {cs : List Call} {rs : List ℕ} → stateRefusal b s ≡ 0 → Kept b s₀ s
+      → Calls b s cs rs z → Walked s₀ s cs rs z
   walked s₀ ok k no-calls = record { well-formed = ok; worked = runs.no-calls; kept = k }
   walked s₀ ok k (next-call {s = s} {e = e} c x) =
       let w = walked s₀ (called-well ok c) (rw (c .leaves) (event-kept b s₀ s ok k e)) x in
@@ -57,11 +60,13 @@ module _ (b : List ℕ) where
   begun h {s} x =
       let e : roomRefusal b s ≡ 0 = sym (x .returns) in
       let f = fresh-started b s e in
-      record { well-formed = ap (stateRefusal b) (x .leaves) ∙ f .well-formed; kept = rw (x .leaves) (fresh-kept b s h e); shows = ap (worldOf b) (x .leaves) ∙ f .at-first }
+      record { well-formed = ap (stateRefusal b) (x .leaves) ∙ f .well-formed;
+          kept = rw (x .leaves) (fresh-kept b s h e); shows = ap (worldOf b) (x .leaves) ∙ f .at-first }
 
   -- what the bytes show, and that they show it as demand 3 says
   shown : {s z : List ℕ} → stateRefusal b z ≡ 0 → Kept b s z → Shows b s (worldOf b z) z
-  shown {s} {z} ok k = record { well-formed = ok; states = refl; bytes = shown-is b s z ok k; groups = group-byte b s z ok k }
+  shown {s} {z} ok k = record { well-formed = ok; states = refl; bytes = shown-is b s z ok k;
+      groups = group-byte b s z ok k }
 
   pub list-follows : Bytes b → (s : List ℕ) (cs : List Call) (rs z : List ℕ) → Listed b s cs rs z → Follows b s cs rs z
   list-follows h s cs rs z x =
@@ -79,12 +84,15 @@ module _ (b : List ℕ) where
   make [] s = record { returns = []; leaves = s; made = no-calls }
   make (one e ∷ cs) s =
       let m = make cs (eventState b s e) in
-      record { returns = eventReturn b s e ∷ m .returns; leaves = m .leaves; made = next-call (called b s e refl refl) (m .made) }
+      record { returns = eventReturn b s e ∷ m .returns; leaves = m .leaves;
+          made = next-call (called b s e refl refl) (m .made) }
 
-  pub list-made : refusal b ≡ 0 → (s : List ℕ) → 8 + nodeCount b ≤ length s → (cs : List Call) → (rs : List ℕ) × (z : List ℕ) × Listed b s cs rs z
+  pub list-made : refusal b ≡ 0 → (s : List ℕ) → 8 + nodeCount b ≤ length s → (cs : List Call)
+      → (rs : List ℕ) × (z : List ℕ) × Listed b s cs rs z
   list-made acc s l cs =
       let m = make cs (freshState b s) in
-      (m .returns, m .leaves, record { at-first = freshState b s; freshened = record { returns = room-long b s acc l; leaves = refl }; called = m .made })
+      (m .returns, m .leaves, record { at-first = freshState b s;
+          freshened = record { returns = room-long b s acc l; leaves = refl }; called = m .made })
 
   -- ---- each call of a list
   -- the calls cs, then c, then ds, parted around c
@@ -99,9 +107,11 @@ module _ (b : List ℕ) where
     itself : Calls b between (c ∷ []) (returned ∷ []) left
     rest : Calls b left ds later z
 
-  parted : (s : List ℕ) (cs : List Call) (c : Call) (ds : List Call) (rs z : List ℕ) → Calls b s (cs ++ (c ∷ ds)) rs z → Parted s cs c ds rs z
+  parted : (s : List ℕ) (cs : List Call) (c : Call) (ds : List Call) (rs z : List ℕ) → Calls b s (cs ++ (c ∷ ds)) rs z
+      → Parted s cs c ds rs z
   parted s [] c ds rs z (next-call {s′ = s′} {r = r} {rs = ns} x y) =
-      record { earlier = []; returned = r; later = ns; between = s; left = s′; returns = refl; before = no-calls; itself = next-call x no-calls; rest = y }
+      record { earlier = []; returned = r; later = ns; between = s; left = s′; returns = refl; before = no-calls;
+          itself = next-call x no-calls; rest = y }
   parted s (one e ∷ cs) c ds rs z (next-call {s′ = s′} {r = r} {rs = ns} x y) =
       let p = parted s′ cs c ds ns z y in
       record {
@@ -116,7 +126,8 @@ module _ (b : List ℕ) where
         rest = p .rest;
       }
 
-  pub list-each : Bytes b → (s : List ℕ) (cs : List Call) (c : Call) (ds : List Call) (rs z : List ℕ) → Listed b s (cs ++ (c ∷ ds)) rs z → EachCall b s cs c ds rs z
+  pub list-each : Bytes b → (s : List ℕ) (cs : List Call) (c : Call) (ds : List Call) (rs z : List ℕ)
+      → Listed b s (cs ++ (c ∷ ds)) rs z → EachCall b s cs c ds rs z
   list-each h s cs c ds rs z x =
       let p = parted (x .at-first) cs c ds rs z (x .called) in
       let g = begun h (x .freshened) in
@@ -128,7 +139,8 @@ module _ (b : List ℕ) where
         later = p .later;
         left = p .left;
         returns = p .returns;
-        up-to = record { at-first = x .at-first; freshened = x .freshened; called = calls-append (p .before) (p .itself) };
+        up-to = record { at-first = x .at-first; freshened = x .freshened;
+            called = calls-append (p .before) (p .itself) };
         rest = p .rest;
         before = worldOf b (p .between);
         after = worldOf b (p .left);

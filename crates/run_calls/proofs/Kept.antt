@@ -1,4 +1,5 @@
--- What lists keep: a state's length, its bytes from 8 + N on, and that its flags are bytes; and the bytes of a state by what it shows. Assumes nothing.
+-- What lists keep: a state's length, its bytes from 8 + N on, and that its flags are bytes; and the bytes of a state by
+-- what it shows. Assumes nothing.
 use mathlib.Core.Path.{_≡_, refl, sym, _∙_}
 use mathlib.Core.Logic.{by-cases, ⊎-elim}
 use mathlib.Core.Bool.{true, false}
@@ -16,7 +17,8 @@ use Rattle.runs.specs.Plan.{placeNumber}
 use Rattle.plan_check.proofs.Meaning.{kind-is}
 use Rattle.runs.specs.Execution.{Event, nodeOf, statusOf}
 use Rattle.runs.specs.Calls.{statusByte}
-use Rattle.run_state.specs.State.{nodeByte, badFlag, badByte, malformed, roomRefusal, stateRefusal, statusAt, statusIn, worldOf}
+use Rattle.run_state.specs.State.{nodeByte, badFlag, badByte, malformed, roomRefusal, stateRefusal, statusAt, statusIn}
+use Rattle.run_state.specs.State.{worldOf}
 use Rattle.run_state.specs.Fresh.{freshByte, freshState}
 use Rattle.base.specs.Answers.{overlay}
 use Rattle.run_state.proofs.Refused.{roomy, state-well}
@@ -69,10 +71,12 @@ module _ (b s z : List ℕ) (ok : stateRefusal b z ≡ 0) (h : Kept b s z) (e : 
       record {
         same-length = next-length b z ok k (nodeOf e) x y ∙ h .same-length;
         later = λ j m. past j m l y ∙ h .later j m;
-        small = λ j m. rw (byte-flags b z ok k (nodeOf e) x y j m) (made-small b (placeNumber k) (nodeOf e) (take 8 z) (omega (arith, eight-long)) first-small j);
+        small = λ j m. rw (byte-flags b z ok k (nodeOf e) x y j m)
+            (made-small b (placeNumber k) (nodeOf e) (take 8 z) (omega (arith, eight-long)) first-small j);
       }
     where
-      past : (j : ℕ) → 8 + nodeCount b ≤ j → nodeOf e < nodeCount b → isKind b (nodeOf e) 0 ≡ true → getD (afterEvent b z e) j 0 ≡ getD z j 0
+      past : (j : ℕ) → 8 + nodeCount b ≤ j → nodeOf e < nodeCount b → isKind b (nodeOf e) 0 ≡ true
+          → getD (afterEvent b z e) j 0 ≡ getD z j 0
       past j m l y =
           let q : 8 + (j - 8) ≡ j = omega arith in
           rw q at (byte-other b z ok (eventPlace e) (nodeOf e) (statusByte (statusOf e)) y (j - 8) (λ w. omega arith))
@@ -111,7 +115,8 @@ module _ (b s z : List ℕ) (ok : stateRefusal b z ≡ 0) (h : Kept b s z) where
   shown-at k l =
       by-cases (decLt k 8)
       (λ (m : k < 8). rw (lt-ltb k 8 m) (flag-byte z k m (h .small k m)))
-      (λ m. let q : 8 + (k - 8) ≡ k = omega arith in rw (le-ltb k 8 (omega arith)) (rw q at (status-byte (k - 8) (omega arith))))
+      (λ m. let q : 8 + (k - 8) ≡ k = omega arith in
+          rw (le-ltb k 8 (omega arith)) (rw q at (status-byte (k - 8) (omega arith))))
 
   pub shown-is : z ≡ overlay (shownByte (worldOf b z)) (8 + nodeCount b) s
   shown-is =
@@ -120,5 +125,6 @@ module _ (b s z : List ℕ) (ok : stateRefusal b z ≡ 0) (h : Kept b s z) where
       ext-getD 0 z (overlay f n s) (h .same-length ∙ sym (length-overlay f s n))
       (λ k l.
       by-cases (decLt k n)
-      (λ (m : k < n). sym (shown-at k m) ∙ sym (at-overlay f s n k (omega (arith, h .same-length, has-room b z ok .room)) m))
+      (λ (m : k < n). sym (shown-at k m)
+          ∙ sym (at-overlay f s n k (omega (arith, h .same-length, has-room b z ok .room)) m))
       (λ m. h .later k (omega arith) ∙ sym (past-overlay f s n k (omega arith))))

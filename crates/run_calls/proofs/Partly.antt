@@ -27,14 +27,17 @@ use Rattle.run_calls.specs.Replay.{callsOf, listReturns, listState, Ran}
 use Rattle.run_calls.proofs.Followed.{calls-append, list-follows}
 
 -- ---- the calls of the slices
-pub calls-length : (ks : List Bool) (ts out : List ℕ) → length (callsOf ks ts out) ≡ min (length ks) (min (length ts) (length out))
+pub calls-length : (ks : List Bool) (ts out : List ℕ)
+    → length (callsOf ks ts out) ≡ min (length ks) (min (length ts) (length out))
 unfolding callsOf
 calls-length [] ts out = omega arith
 calls-length (k ∷ ks) [] out = omega arith
 calls-length (k ∷ ks) (t ∷ ts) [] = omega arith
 calls-length (k ∷ ks) (t ∷ ts) (x ∷ out) = omega (arith, calls-length ks ts out)
 
-pub calls-at : (ks : List Bool) (ts out : List ℕ) (i : ℕ) → i < length (callsOf ks ts out) → getD (callsOf ks ts out) i (one (start 0)) ≡ one (cond (getD ks i false) (finish (getD ts i 0)) (start (getD ts i 0)))
+pub calls-at : (ks : List Bool) (ts out : List ℕ) (i : ℕ) → i < length (callsOf ks ts out)
+    → getD (callsOf ks ts out) i (one (start 0))
+    ≡ one (cond (getD ks i false) (finish (getD ts i 0)) (start (getD ts i 0)))
 unfolding callsOf
 calls-at [] ts out i l = absurd (not-suc-le-zero l)
 calls-at (k ∷ ks) [] out i l = absurd (not-suc-le-zero l)
@@ -53,15 +56,19 @@ pub record Partly (b at-first out : List ℕ) (cs : List Call) (i : ℕ) (s out�
 pub partly-none : (b s out : List ℕ) (cs : List Call) → Partly b s out cs 0 s out
 partly-none b s out cs = record { returned = []; long = refl; called = no-calls; written = refl }
 
-module _ (b at-first out : List ℕ) (cs : List Call) (i : ℕ) (s out′ : List ℕ) (h : Partly b at-first out cs i s out′) where
+module _ (b at-first out : List ℕ) (cs : List Call) (i : ℕ) (s out′ : List ℕ)
+    (h : Partly b at-first out cs i s out′) where
   pub partly-length : i ≤ length out → length out′ ≡ length out
   partly-length l =
-      let q : length (h .returned ++ drop i out) ≡ i + length (drop i out) = length-append (h .returned) (drop i out) ∙ ap (λ (k : ℕ). k + length (drop i out)) (h .long) in
+      let q : length (h .returned ++ drop i out) ≡ i + length (drop i out) = length-append (h .returned) (drop i out)
+          ∙ ap (λ (k : ℕ). k + length (drop i out)) (h .long) in
       ap length (h .written) ∙ q ∙ omega (arith, length-drop i out)
 
-  pub partly-more : i < length cs → i < length out → (e : Event) (r : ℕ) (s′ : List ℕ) → getD cs i (one (start 0)) ≡ one e → Called b s e r s′ → Partly b at-first out cs (i + 1) s′ (set out′ i r)
+  pub partly-more : i < length cs → i < length out → (e : Event) (r : ℕ) (s′ : List ℕ)
+      → getD cs i (one (start 0)) ≡ one e → Called b s e r s′ → Partly b at-first out cs (i + 1) s′ (set out′ i r)
   partly-more l m e r s′ q c =
-      let p : take (suc i) cs ≡ take i cs ++ (one e ∷ []) = take-suc cs i (one (start 0)) l ∙ ap (λ (x : Call). take i cs ++ (x ∷ [])) q in
+      let p : take (suc i) cs ≡ take i cs ++ (one e ∷ []) = take-suc cs i (one (start 0)) l
+          ∙ ap (λ (x : Call). take i cs ++ (x ∷ [])) q in
       record {
         returned = h .returned ++ (r ∷ []);
         long = length-append (h .returned) (r ∷ []) ∙ omega (arith, h .long);
@@ -84,7 +91,8 @@ module _ (b s out : List ℕ) (cs : List Call) where
         follows = λ z. absurd (n z);
       }
 
-  pub ran-all : Bytes b → (at-first : List ℕ) → Freshened b s 0 at-first → (rs z : List ℕ) → Calls b at-first cs rs z → (out′ : List ℕ) → out′ ≡ rs ++ drop (length cs) out → Ran b s out cs 0 z out′
+  pub ran-all : Bytes b → (at-first : List ℕ) → Freshened b s 0 at-first → (rs z : List ℕ) → Calls b at-first cs rs z
+      → (out′ : List ℕ) → out′ ≡ rs ++ drop (length cs) out → Ran b s out cs 0 z out′
   unfolding listReturns listState
   ran-all h at-first f rs z c out′ w =
       let l : Listed b s cs rs z = record { at-first = at-first; freshened = f; called = c } in

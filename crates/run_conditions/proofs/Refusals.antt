@@ -25,7 +25,8 @@ use Rattle.runs.proofs.Calls.Reflect.{r-pre-unmet, r-inc-broken}
 use Rattle.runs.proofs.Reflect.{true-T, T-true, same-test}
 use Rattle.run_state.specs.State.{nodeByte, flagShown, statusIn, stateRefusal}
 use Rattle.run_state.proofs.Passed.{has-room, well-formed, byte-running}
-use Rattle.run_conditions.specs.Conditions.{isOf, setAt, made, unmetAt, brokenAt}
+use Rattle.run_state.specs.Made.{isOf, setAt, made}
+use Rattle.run_conditions.specs.Conditions.{unmetAt, brokenAt}
 use Rattle.run_conditions.proofs.Laws.{flag-small, of-is, is-of, sign-at, found, made-flag, on-task}
 
 differ : (v x : Bool) → not (sameB v x) ≡ true → x ≡ not v
@@ -62,7 +63,8 @@ module _ (b s : List ℕ) (ok : stateRefusal b s ≡ 0) (t : ℕ) where
       let i = w .0 in
       let f = flagOf (condValue b i) in
       let x = and-both (isOf b 0 t i) (not (sameB (setAt b i) (flagIn (take 8 s) f))) (w .2) in
-      record { on = f; sign = setAt b i; needs = sign-at b accepted pre t i (w .1) (x .0); unmet = shown f (flag-small (condValue b i)) ∙ differ (setAt b i) (flagIn (take 8 s) f) (x .1) }
+      record { on = f; sign = setAt b i; needs = sign-at b accepted pre t i (w .1) (x .0);
+          unmet = shown f (flag-small (condValue b i)) ∙ differ (setAt b i) (flagIn (take 8 s) f) (x .1) }
 
   unmet-from : PreUnmet (planOf b) (flagShown s) (start t) → T (someBelow (condCount b) (unmetAt b (take 8 s) t))
   unfolding unmetAt planOf
@@ -71,11 +73,13 @@ module _ (b s : List ℕ) (ok : stateRefusal b s ≡ 0) (t : ℕ) where
       let e = sym (shown (x .on) (omega (arith, w .flag, flag-small (condValue b (w .at))))) ∙ x .unmet in
       true-T _
       (some-yes (condCount b) (unmetAt b (take 8 s) t) (w .at) (w .below)
-      (and-of (isOf b 0 t (w .at)) (not (sameB (setAt b (w .at)) (flagIn (take 8 s) (flagOf (condValue b (w .at)))))) (w .of)
+      (and-of (isOf b 0 t (w .at)) (not (sameB (setAt b (w .at)) (flagIn (take 8 s) (flagOf (condValue b (w .at))))))
+          (w .of)
       (rw (w .flag, w .sign) (differs (x .sign) (flagIn (take 8 s) (x .on)) e))))
 
   pub unmet-is : someBelow (condCount b) (unmetAt b (take 8 s) t) ≡ preUnmetB (planOf b) (flagShown s) (start t)
-  unmet-is = same-test _ _ (record { to = unmet-to; from = unmet-from }) (r-pre-unmet (planOf b) (well-formed b s ok) (flagShown s) (start t))
+  unmet-is = same-test _ _ (record { to = unmet-to; from = unmet-from })
+      (r-pre-unmet (planOf b) (well-formed b s ok) (flagShown s) (start t))
 
   -- 22, for an event of t that asserts what t has at a place
   module _ (k : Place) (e : Event) (of : nodeOf e ≡ t) (does : (f : ℕ) → asserts (planOf b) e f ≡ signIn b k t f) where
@@ -86,7 +90,8 @@ module _ (b s : List ℕ) (ok : stateRefusal b s ≡ 0) (t : ℕ) where
     either-way true = refl
     either-way false = refl
 
-    after-flag : (v : Bool) (f : ℕ) → f < 64 → flagIn (cond v (after true) (after false)) f ≡ Option·getD (asserts (planOf b) e f) v
+    after-flag : (v : Bool) (f : ℕ) → f < 64
+        → flagIn (cond v (after true) (after false)) f ≡ Option·getD (asserts (planOf b) e f) v
     after-flag v f l =
         ap (λ (x : List ℕ). flagIn x f) (either-way v)
         ∙ made-flag b accepted k t (replicate 8 (allByte v)) (omega arith) f
@@ -103,8 +108,10 @@ module _ (b s : List ℕ) (ok : stateRefusal b s ≡ 0) (t : ℕ) where
         let i = w .0 in
         let f = flagOf (condValue b i) in
         let v = setAt b i in
-        let x3 = and-both (isOf b 1 (condNode b i) i && not (eqb (condNode b i) t) && eqb (nodeByte s (condNode b i)) 1) (not (sameB v (flagIn (cond v (after true) (after false)) f))) (w .2) in
-        let x2 = and-both (isOf b 1 (condNode b i) i && not (eqb (condNode b i) t)) (eqb (nodeByte s (condNode b i)) 1) (x3 .0) in
+        let x3 = and-both (isOf b 1 (condNode b i) i && not (eqb (condNode b i) t) && eqb (nodeByte s (condNode b i)) 1)
+            (not (sameB v (flagIn (cond v (after true) (after false)) f))) (w .2) in
+        let x2 = and-both (isOf b 1 (condNode b i) i && not (eqb (condNode b i) t)) (eqb (nodeByte s (condNode b i)) 1)
+            (x3 .0) in
         let x1 = and-both (isOf b 1 (condNode b i) i) (not (eqb (condNode b i) t)) (x2 .0) in
         let n = on-task b accepted i (w .1) in
         record {
@@ -114,7 +121,9 @@ module _ (b s : List ℕ) (ok : stateRefusal b s ≡ 0) (t : ℕ) where
           another = λ z. eqb-false (condNode b i) t (not-true _ (x1 .1)) (sym z ∙ of);
           runs = byte-running b s ok (condNode b i) (n .0) (n .1) .0 (eqb-true _ _ (x2 .1));
           holds = sign-at b accepted inc (condNode b i) i (w .1) (x1 .0);
-          breaks = turned v (asserts (planOf b) e f) (sym (after-flag v f (flag-small (condValue b i))) ∙ differ v (flagIn (cond v (after true) (after false)) f) (x3 .1));
+          breaks = turned v (asserts (planOf b) e f)
+              (sym (after-flag v f (flag-small (condValue b i)))
+              ∙ differ v (flagIn (cond v (after true) (after false)) f) (x3 .1));
         }
 
     broken-from : IncBroken (planOf b) (statusIn b s) e → T (someBelow (condCount b) test)
@@ -128,12 +137,17 @@ module _ (b s : List ℕ) (ok : stateRefusal b s ≡ 0) (t : ℕ) where
         let n = on-task b accepted i (w .below) in
         true-T _
         (some-yes (condCount b) test i (w .below)
-        (and-of (isOf b 1 (condNode b i) i && not (eqb (condNode b i) t) && eqb (nodeByte s (condNode b i)) 1) (not (sameB v (flagIn (cond v (after true) (after false)) f)))
+        (and-of (isOf b 1 (condNode b i) i && not (eqb (condNode b i) t) && eqb (nodeByte s (condNode b i)) 1)
+            (not (sameB v (flagIn (cond v (after true) (after false)) f)))
         (and-of (isOf b 1 (condNode b i) i && not (eqb (condNode b i) t)) (eqb (nodeByte s (condNode b i)) 1)
-        (and-of (isOf b 1 (condNode b i) i) (not (eqb (condNode b i) t)) (is-of b 1 (condNode b i) i refl (d .1)) (rw (ne-eqb (condNode b i) t (λ z. x .another (of ∙ sym z ∙ d .0)))))
-        (eq-eqb (nodeByte s (condNode b i)) 1 (byte-running b s ok (condNode b i) (n .0) (n .1) .1 (ap (statusIn b s) (d .0) ∙ x .runs))))
+        (and-of (isOf b 1 (condNode b i) i) (not (eqb (condNode b i) t)) (is-of b 1 (condNode b i) i refl (d .1))
+            (rw (ne-eqb (condNode b i) t (λ z. x .another (of ∙ sym z ∙ d .0)))))
+        (eq-eqb (nodeByte s (condNode b i)) 1
+            (byte-running b s ok (condNode b i) (n .0) (n .1) .1 (ap (statusIn b s) (d .0) ∙ x .runs))))
         (differs v (flagIn (cond v (after true) (after false)) f)
-        (after-flag v f (flag-small (condValue b i)) ∙ ap (λ (z : ℕ). Option·getD (asserts (planOf b) e z) v) (w .flag) ∙ ap (λ (o : Option Bool). Option·getD o v) (x .breaks) ∙ ap not (sym (w .sign))))))
+        (after-flag v f (flag-small (condValue b i)) ∙ ap (λ (z : ℕ). Option·getD (asserts (planOf b) e z) v) (w .flag)
+            ∙ ap (λ (o : Option Bool). Option·getD o v) (x .breaks) ∙ ap not (sym (w .sign))))))
 
     pub broken-is : someBelow (condCount b) test ≡ incBrokenB (planOf b) (statusIn b s) e
-    broken-is = same-test _ _ (record { to = broken-to; from = broken-from }) (r-inc-broken (planOf b) (well-formed b s ok) (statusIn b s) e)
+    broken-is = same-test _ _ (record { to = broken-to; from = broken-from })
+        (r-inc-broken (planOf b) (well-formed b s ok) (statusIn b s) e)

@@ -21,7 +21,8 @@ ghost use Rattle.plan_rules.specs.Rules.{refusal};
 ghost use Rattle.plan_rules.specs.Search.{someBelow};
 ghost use Rattle.runs.specs.Tests.{sameB};
 ghost use Rattle.run_state.specs.State.{stateRefusal};
-ghost use Rattle.run_conditions.specs.Conditions.{isOf, setAt, made, unmetAt, brokenAt};
+ghost use Rattle.run_state.specs.Made.{isOf, setAt, made};
+ghost use Rattle.run_conditions.specs.Conditions.{unmetAt, brokenAt};
 
 // Condition i is of the task, at the place (0 pre-, 1 in-, 2 postcondition).
 fn is_of(plan: &[u8], place: u16, task: usize, i: usize) -> bool

@@ -25,7 +25,8 @@ module _ (b s : List ℕ) where
 
   module _ (ok : stateRefusal b s ≡ 0) where
     root : Reflects (completeB (planOf b) (statusIn b s) 0) (execution.Complete (planOf b) (statusIn b s) 0)
-    root = r-complete (planOf b) (well-formed b s ok) (statusIn b s) 0 (is-node b 0 (has-room b s ok .plan .fits .limits .some-node))
+    root = r-complete (planOf b) (well-formed b s ok) (statusIn b s) 0
+        (is-node b 0 (has-room b s ok .plan .fits .limits .some-node))
 
     pub told-complete : completeB (planOf b) (statusIn b s) 0 ≡ true → Told b s Complete
     unfolding statusAnswer
@@ -33,4 +34,5 @@ module _ (b s : List ℕ) where
 
     pub told-unfinished : completeB (planOf b) (statusIn b s) 0 ≡ false → Told b s Unfinished
     unfolding statusAnswer
-    told-unfinished y = record { returns = rw (ok, y); complete = (λ q. clash cc, λ x. absurd (true≢false (sym (T-true _ (root .from (x .1))) ∙ y))) }
+    told-unfinished y = record { returns = rw (ok, y);
+        complete = (λ q. clash cc, λ x. absurd (true≢false (sym (T-true _ (root .from (x .1))) ∙ y))) }

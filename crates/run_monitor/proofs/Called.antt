@@ -18,20 +18,23 @@ use Rattle.run_monitor.specs.Events.{withEvent, eventReturn, afterEvent,
 use Rattle.run_monitor.proofs.Equations.{refused-16, refused-22, accepted}
 use Rattle.run_monitor.proofs.Events.{event-steps}
 
-pub called : (b s : List ℕ) (e : Event) {r : ℕ} {s′ : List ℕ} → r ≡ eventReturn b s e → s′ ≡ eventState b s e → Called b s e r s′
+pub called : (b s : List ℕ) (e : Event) {r : ℕ} {s′ : List ℕ} → r ≡ eventReturn b s e → s′ ≡ eventState b s e
+    → Called b s e r s′
 unfolding eventReturn
 called b s e q h = record {
   returns = q;
   leaves = h;
   answered = λ ok.
-      rw (q ∙ sym (first-none (stateRefusal b s) (eventRefusal b s e) ok), ap (worldOf b) h ∙ event-steps b s ok e .shows)
+      rw (q ∙ sym (first-none (stateRefusal b s) (eventRefusal b s e) ok), ap (worldOf b) h
+          ∙ event-steps b s ok e .shows)
       (answered (planOf b) (well-formed b s ok) (worldOf b s) (one e));
 }
 
 pub called-16 : (b s : List ℕ) (e : Event) (r : ℕ) → r ≡ stateRefusal b s → (r ≡ 0 → ⊥) → Called b s e r s
 called-16 b s e r q n = let w = refused-16 b s e (λ z. n (q ∙ z)) in called b s e (q ∙ w .0) (w .1)
 
-pub called-22 : (b s : List ℕ) (e : Event) → stateRefusal b s ≡ 0 → (r : ℕ) → r ≡ eventRefusal b s e → (r ≡ 0 → ⊥) → Called b s e r s
+pub called-22 : (b s : List ℕ) (e : Event) → stateRefusal b s ≡ 0 → (r : ℕ) → r ≡ eventRefusal b s e → (r ≡ 0 → ⊥)
+    → Called b s e r s
 called-22 b s e ok r q n = let w = refused-22 b s e ok (λ z. n (q ∙ z)) in called b s e (q ∙ w .0) (w .1)
 
 -- the status that a move gives does not depend on the task
@@ -40,8 +43,10 @@ status-of Start t = refl
 status-of Finish t = refl
 
 pub called-0 : (b s : List ℕ) (m : Move) (t : ℕ) → stateRefusal b s ≡ 0 → eventRefusal b s (eventOf m t) ≡ 0
-    → (q : ℕ) → q ≡ placeNumber (eventPlace (eventOf m 0)) → (x : ℕ) → x ≡ statusByte (statusOf (eventOf m 0)) → (s′ : List ℕ) → s′ ≡ withEvent b q t x s → Called b s (eventOf m t) 0 s′
+    → (q : ℕ) → q ≡ placeNumber (eventPlace (eventOf m 0)) → (x : ℕ) → x ≡ statusByte (statusOf (eventOf m 0))
+        → (s′ : List ℕ) → s′ ≡ withEvent b q t x s → Called b s (eventOf m t) 0 s′
 called-0 b s m t ok z q eq x ex s′ h =
     let w = accepted b s (eventOf m t) ok z in
-    let y : withEvent b q t x s ≡ afterEvent b s (eventOf m t) = rw (eq, ex, place-is m t, status-of m t, node-of m t) in
+    let y : withEvent b q t x s ≡ afterEvent b s (eventOf m t) =
+        rw (eq, ex, place-is m t, status-of m t, node-of m t) in
     called b s (eventOf m t) (w .0) (h ∙ y ∙ w .1)

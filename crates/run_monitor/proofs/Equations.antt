@@ -13,7 +13,8 @@ use Rattle.run_monitor.specs.Events.{eventReturn, afterEvent, eventState
 module _ (b s : List ℕ) (e : Event) where
   pub refused-16 : (stateRefusal b s ≡ 0 → ⊥) → (stateRefusal b s ≡ eventReturn b s e) × (s ≡ eventState b s e)
   unfolding eventReturn eventState
-  refused-16 n = let z = first-some (stateRefusal b s) (eventRefusal b s e) n in (z, rw (ne-eqb (first (stateRefusal b s) (eventRefusal b s e)) 0 (λ y. n (z ∙ y))))
+  refused-16 n = let z = first-some (stateRefusal b s) (eventRefusal b s e) n in
+      (z, rw (ne-eqb (first (stateRefusal b s) (eventRefusal b s e)) 0 (λ y. n (z ∙ y))))
 
   module _ (ok : stateRefusal b s ≡ 0) where
     pub refused-22 : (eventRefusal b s e ≡ 0 → ⊥) → (eventRefusal b s e ≡ eventReturn b s e) × (s ≡ eventState b s e)

@@ -20,12 +20,14 @@ use Rattle.plan_check.specs.Meaning.{planOf, signIn}
 use Rattle.plan_check.proofs.Meaning.{kind-is, means}
 use Rattle.runs.specs.Plan.{Place, placeNumber}
 use Rattle.runs.specs.Execution.{Status, waiting, running, done, Event, nodeOf, statusOf, moved, asserts}
-use Rattle.runs.specs.Calls.{one, statusByte, no-task, wrong-status, branch-begun, order-open, pre-unmet, inc-broken, Refusal, World}
+use Rattle.runs.specs.Calls.{one, statusByte, no-task, wrong-status, branch-begun, order-open, pre-unmet, inc-broken}
+use Rattle.runs.specs.Calls.{Refusal, World}
 use Rattle.runs.specs.Model.Monitor.{returned, refusalOf, step, code, settle}
-use Rattle.run_state.specs.State.{nodeByte, badFlag, badByte, malformed, stateRefusal, statusAt, statusIn, flagShown, worldOf}
+use Rattle.run_state.specs.State.{nodeByte, badFlag, badByte, malformed, stateRefusal, statusAt, statusIn, flagShown}
+use Rattle.run_state.specs.State.{worldOf}
 use Rattle.run_state.proofs.Refused.{room-long, state-good, state-well}
 use Rattle.run_state.proofs.Passed.{has-room}
-use Rattle.run_conditions.specs.Conditions.{made}
+use Rattle.run_state.specs.Made.{made}
 use Rattle.run_conditions.proofs.Laws.{length-literals, made-flag}
 use Rattle.run_refusals.specs.Events.{eventPlace, eventRefusal}
 use Rattle.run_refusals.proofs.Chain.{answer-task, event-does}
@@ -55,7 +57,8 @@ module _ (b s : List ℕ) (ok : stateRefusal b s ≡ 0) (k : Place) (t x : ℕ) 
 
   byte-own : nodeByte next t ≡ x
   unfolding withEvent nodeByte
-  byte-own = getD-set-same (flags ++ drop 8 s) (8 + t) x 0 (omega (arith, joined-length, has-room b s ok .room, kind-is b t 0 task .0))
+  byte-own = getD-set-same (flags ++ drop 8 s) (8 + t) x 0
+      (omega (arith, joined-length, has-room b s ok .room, kind-is b t 0 task .0))
 
   pub byte-other : (n : ℕ) → (n ≡ t → ⊥) → nodeByte next n ≡ nodeByte s n
   unfolding withEvent nodeByte
@@ -68,7 +71,8 @@ module _ (b s : List ℕ) (ok : stateRefusal b s ≡ 0) (k : Place) (t x : ℕ) 
   -- the bytes of the flags
   pub byte-flags : (i : ℕ) → i < 8 → getD next i 0 ≡ getD flags i 0
   unfolding withEvent
-  byte-flags i l = getD-set-other (flags ++ drop 8 s) (8 + t) i x 0 (λ e. omega arith) ∙ List·getD-append flags (drop 8 s) 0 i (omega (arith, flags-eight))
+  byte-flags i l = getD-set-other (flags ++ drop 8 s) (8 + t) i x 0 (λ e. omega arith)
+      ∙ List·getD-append flags (drop 8 s) 0 i (omega (arith, flags-eight))
 
   flag-next : (f : ℕ) → f < 64 → flagIn next f ≡ Option·getD (signIn b k t f) (flagIn s f)
   flag-next f l =
@@ -107,10 +111,13 @@ module _ (b s : List ℕ) (ok : stateRefusal b s ≡ 0) (k : Place) (t x : ℕ) 
       sym
       (state-good b next (sym (room-long b next (r .accepted) (omega (arith, next-length, r .room))))
       (rw (
-        none-all 64 (λ f. leb (flagCount b) f && flagIn next f) (λ f l. not-passed (leb (flagCount b) f && flagIn next f) (λ y.
+        none-all 64 (λ f. leb (flagCount b) f && flagIn next f)
+            (λ f l. not-passed (leb (flagCount b) f && flagIn next f) (λ y.
             let a = and-both (leb (flagCount b) f) (flagIn next f) y in
-            let z : flagIn next f ≡ flagIn s f = flag-next f l ∙ ap (λ (o : Option Bool). Option·getD o (flagIn s f)) (no-sign f (leb-true (flagCount b) f (a .0))) in
-            true≢false (sym (and-of (leb (flagCount b) f) (flagIn s f) (a .0) (sym z ∙ a .1)) ∙ none-at 64 (badFlag b s) (m .0) f l))),
+            let z : flagIn next f ≡ flagIn s f = flag-next f l
+                ∙ ap (λ (o : Option Bool). Option·getD o (flagIn s f)) (no-sign f (leb-true (flagCount b) f (a .0))) in
+            true≢false (sym (and-of (leb (flagCount b) f) (flagIn s f) (a .0) (sym z ∙ a .1))
+                ∙ none-at 64 (badFlag b s) (m .0) f l))),
         none-all (nodeCount b) (badByte b next) (λ n l.
             by-cases (ℕ-discrete n t)
             (λ (e : n ≡ t). rw (e, task, byte-own) (le-ltb 2 x small))
@@ -137,31 +144,41 @@ status-byte waiting = (refl, omega arith)
 status-byte running = (refl, omega arith)
 status-byte done = (refl, omega arith)
 
--- after a start or a finish, accepted or refused with 17 to 22, the state passes all checks and shows the states that 01 works out
+-- after a start or a finish, accepted or refused with 17 to 22, the state passes all checks and shows the states that
+-- 01 works out
 pub record Stepped (b s : List ℕ) (e : Event) : Type 0 where
   pub well-formed : stateRefusal b (eventState b s e) ≡ 0
   pub shows : worldOf b (eventState b s e) ≡ step (planOf b) (worldOf b s) (one e)
 
 module _ (b s : List ℕ) (ok : stateRefusal b s ≡ 0) (e : Event) where
-  same : eventRefusal b s e ≡ 0 → isKind b (nodeOf e) 0 ≡ true → worldOf b (afterEvent b s e) ≡ step (planOf b) (worldOf b s) (one e)
+  same : eventRefusal b s e ≡ 0 → isKind b (nodeOf e) 0 ≡ true
+      → worldOf b (afterEvent b s e) ≡ step (planOf b) (worldOf b s) (one e)
   unfolding returned step worldOf
   same z y =
-      let fs : statusIn b (afterEvent b s e) ≡ moved (statusIn b s) e = fun-ext (λ n. status-next b s ok (eventPlace e) (nodeOf e) (statusByte (statusOf e)) y n ∙ ap (λ (a : Status). cond (eqb n (nodeOf e)) a (statusIn b s n)) (status-byte (statusOf e) .0)) in
-      let ff : flagShown (afterEvent b s e) ≡ (λ f. Option·getD (asserts (planOf b) e f) (flagShown s f)) = fun-ext (λ f. shown-next b s ok (eventPlace e) (nodeOf e) (statusByte (statusOf e)) y f ∙ ap (λ (o : Option Bool). Option·getD o (flagShown s f)) (sym (event-does b s ok e f))) in
-      let n : refusalOf (planOf b) (worldOf b s) (one e) ≡ none = code-none (refusalOf (planOf b) (worldOf b s) (one e)) z in
+      let fs : statusIn b (afterEvent b s e) ≡ moved (statusIn b s) e =
+          fun-ext (λ n. status-next b s ok (eventPlace e) (nodeOf e) (statusByte (statusOf e)) y n
+          ∙ ap (λ (a : Status). cond (eqb n (nodeOf e)) a (statusIn b s n)) (status-byte (statusOf e) .0)) in
+      let ff : flagShown (afterEvent b s e) ≡ (λ f. Option·getD (asserts (planOf b) e f) (flagShown s f)) =
+          fun-ext (λ f. shown-next b s ok (eventPlace e) (nodeOf e) (statusByte (statusOf e)) y f
+          ∙ ap (λ (o : Option Bool). Option·getD o (flagShown s f)) (sym (event-does b s ok e f))) in
+      let n : refusalOf (planOf b) (worldOf b s) (one e) ≡ none =
+          code-none (refusalOf (planOf b) (worldOf b s) (one e)) z in
       rw n (cc (fs, ff))
 
   moves : eventRefusal b s e ≡ 0 → Stepped b s e
   moves z =
       let y = answer-task b s ok (nodeOf e) e refl z in
       let q = sym (accepted b s e ok z .1) in
-      record { well-formed = ap (stateRefusal b) q ∙ still-well b s ok (eventPlace e) (nodeOf e) (statusByte (statusOf e)) y (status-byte (statusOf e) .1); shows = ap (worldOf b) q ∙ same z y }
+      record { well-formed = ap (stateRefusal b) q
+          ∙ still-well b s ok (eventPlace e) (nodeOf e) (statusByte (statusOf e)) y (status-byte (statusOf e) .1);
+          shows = ap (worldOf b) q ∙ same z y }
 
   refused : (eventRefusal b s e ≡ 0 → ⊥) → Stepped b s e
   unfolding step returned
   refused n =
       let q = refused-22 b s e ok n .1 in
-      record { well-formed = ap (stateRefusal b) (sym q) ∙ ok; shows = ap (worldOf b) (sym q) ∙ sym (settled (refusalOf (planOf b) (worldOf b s) (one e)) (worldOf b s) _ n) }
+      record { well-formed = ap (stateRefusal b) (sym q) ∙ ok; shows = ap (worldOf b) (sym q)
+          ∙ sym (settled (refusalOf (planOf b) (worldOf b s) (one e)) (worldOf b s) _ n) }
 
   pub event-steps : Stepped b s e
   event-steps = by-cases (ℕ-discrete (eventRefusal b s e) 0) (λ z. moves z) (λ n. refused n)

@@ -11,7 +11,7 @@ use Rattle.runs.specs.Execution.{Event, nodeOf, statusOf}
 use Rattle.runs.specs.Calls.{one, statusByte, Answered}
 use Rattle.base.specs.Answers.{first}
 use Rattle.run_state.specs.State.{stateRefusal, worldOf}
-use Rattle.run_conditions.specs.Conditions.{made}
+use Rattle.run_state.specs.Made.{made}
 use Rattle.run_refusals.specs.Events.{eventPlace, eventRefusal}
 
 -- 1 to 16, then 17 to 22

@@ -58,7 +58,8 @@ module _ (k : Tally) (b s : List ℕ) (ok : stateRefusal b s ≡ 0) where
   from-back : (m g : ℕ) → m ≤ nodeCount b → nodeCount b ≤ g + 1 + m → part k b s m g ≡ childrenCounted k b s g
   unfolding part childrenCounted
   from-back m g l h =
-      sym (count-rest (nodeCount b) m (λ i. countedChild k b s g (nodeCount b - 1 - i)) l (λ i a z. not-counted g (nodeCount b - 1 - i) (omega arith)))
+      sym (count-rest (nodeCount b) m (λ i. countedChild k b s g (nodeCount b - 1 - i)) l
+          (λ i a z. not-counted g (nodeCount b - 1 - i) (omega arith)))
       ∙ count-back (nodeCount b) (countedChild k b s g)
 
   -- all children of the node of turn m have been counted
@@ -82,7 +83,8 @@ module _ (k : Tally) (b s : List ℕ) (ok : stateRefusal b s ≡ 0) where
 
     other-parent : (h : ℕ) → (h ≡ g → ⊥) → countedChild k b s h c ≡ false
     unfolding countedChild
-    other-parent h n = not-passed _ (λ y. n (sym (child-is b h c (and-both (isChild b h c) (countedAt k b s h c) y .0) .2) ∙ sym eg))
+    other-parent h n = not-passed _
+        (λ y. n (sym (child-is b h c (and-both (isChild b h c) (countedAt k b s h c) y .0) .2) ∙ sym eg))
 
     kept : (h : ℕ) → (h ≡ g → ⊥) → part k b s (m + 1) h ≡ part k b s m h
     kept h n = omega (arith, more h, ap num (other-parent h n))
@@ -95,7 +97,9 @@ module _ (k : Tally) (b s : List ℕ) (ok : stateRefusal b s ≡ 0) where
         λ h q.
             ap (λ (v : List ℕ). getD v h 0) e
             ∙ by-cases (ℕ-discrete h g)
-            (λ (z : h ≡ g). let o = ap num (and-of (isChild b g c) (countedAt k b s g c) child y) in rw z (getD-set-same t g (getD t g 0 + 1) 0 (omega (arith, held .0, parent-small)) ∙ omega (arith, held .1 g parent-small, more g, o)))
+            (λ (z : h ≡ g). let o = ap num (and-of (isChild b g c) (countedAt k b s g c) child y) in
+                rw z (getD-set-same t g (getD t g 0 + 1) 0 (omega (arith, held .0, parent-small))
+                ∙ omega (arith, held .1 g parent-small, more g, o)))
             (λ z. getD-set-other t g h (getD t g 0 + 1) 0 z ∙ held .1 h q ∙ sym (kept h z)),
       )
 
@@ -106,7 +110,9 @@ module _ (k : Tally) (b s : List ℕ) (ok : stateRefusal b s ≡ 0) where
         λ h q.
             ap (λ (v : List ℕ). getD v h 0) e
             ∙ by-cases (ℕ-discrete h g)
-            (λ (z : h ≡ g). let o = ap num (not-passed (isChild b g c && countedAt k b s g c) (λ x. true≢false (sym (and-both (isChild b g c) (countedAt k b s g c) x .1) ∙ y))) in rw z (omega (arith, held .1 g parent-small, more g, o)))
+            (λ (z : h ≡ g). let o = ap num (not-passed (isChild b g c && countedAt k b s g c)
+                (λ x. true≢false (sym (and-both (isChild b g c) (countedAt k b s g c) x .1) ∙ y))) in
+                rw z (omega (arith, held .1 g parent-small, more g, o)))
             (λ z. held .1 h q ∙ sym (kept h z)),
       )
 

@@ -19,7 +19,8 @@ use Rattle.plan_check.proofs.Nodes.{is-node, node-is, plan-kind}
 use Rattle.runs.specs.Plan.{task, placeNumber}
 use Rattle.runs.specs.Execution.{Status, waiting, running, done, Event, start, finish, nodeOf, asserts}
 use Rattle.runs.specs.Calls.{asks, statusByte, no-task, wrong-status, branch-begun, order-open, pre-unmet, inc-broken}
-use Rattle.runs.specs.Model.Monitor.{returned, refusalOf, firstOf, orElse, code, appliesB, taskB, statusB, branchBegunB, orderOpenB, preUnmetB, incBrokenB}
+use Rattle.runs.specs.Model.Monitor.{returned, refusalOf, firstOf, orElse, code, appliesB, taskB, statusB, branchBegunB}
+use Rattle.runs.specs.Model.Monitor.{orderOpenB, preUnmetB, incBrokenB}
 use Rattle.runs.specs.Tests.{negate}
 use Rattle.runs.proofs.Reflect.{r-eq, r-map, clash, true-T, T-true, same-test}
 use Rattle.runs.proofs.Calls.Reflect.{r-task, r-status}
@@ -27,7 +28,8 @@ use Rattle.base.specs.Answers.{first}
 use Rattle.base.proofs.First.{first-none, first-some}
 use Rattle.run_state.specs.State.{nodeByte, stateRefusal, statusIn, flagShown, worldOf}
 use Rattle.run_state.proofs.Passed.{has-room, well-formed, byte-waiting, byte-running, byte-done}
-use Rattle.run_conditions.specs.Conditions.{made, brokenAt}
+use Rattle.run_state.specs.Made.{made}
+use Rattle.run_conditions.specs.Conditions.{brokenAt}
 use Rattle.run_conditions.proofs.Refusals.{broken-is}
 use Rattle.run_refusals.specs.declared.Move.{Move}
 use Rattle.run_refusals.specs.declared.Move.the-variants.{Start, Finish}
@@ -56,7 +58,9 @@ none-kind (suc (suc zero)) l e = clash cc
 none-kind (suc (suc (suc k))) l e = absurd (omega arith)
 
 start-chain : (a b c d e f : Bool) →
-    code (orElse a no-task (λ u. orElse b wrong-status (λ u. orElse c branch-begun (λ u. orElse d order-open (λ u. orElse e pre-unmet (λ u. orElse f inc-broken (λ u. none)))))))
+    code (orElse a no-task (λ u. orElse b wrong-status
+        (λ u. orElse c branch-begun (λ u. orElse d order-open
+        (λ u. orElse e pre-unmet (λ u. orElse f inc-broken (λ u. none)))))))
     ≡ cond a 17 (cond b 18 (first (first (cond c 19 (cond d 20 0)) (cond e 21 0)) (cond f 22 0)))
 start-chain true b c d e f = refl
 start-chain false true c d e f = refl
@@ -66,7 +70,9 @@ start-chain false false false false true f = refl
 start-chain false false false false false true = refl
 start-chain false false false false false false = refl
 
-finish-chain : (a b f : Bool) → code (orElse a no-task (λ u. orElse b wrong-status (λ u. orElse f inc-broken (λ u. none)))) ≡ cond a 17 (cond b 18 (first 0 (cond f 22 0)))
+finish-chain : (a b f : Bool) → code
+    (orElse a no-task (λ u. orElse b wrong-status (λ u. orElse f inc-broken (λ u. none))))
+    ≡ cond a 17 (cond b 18 (first 0 (cond f 22 0)))
 finish-chain true b f = refl
 finish-chain false true f = refl
 finish-chain false false true = refl
@@ -76,11 +82,15 @@ module _ (b s : List ℕ) (ok : stateRefusal b s ≡ 0) where
   task-is : (t : ℕ) → isKind b t 0 ≡ taskB (planOf b) t
   task-is t =
       same-test _ _ (record {
-        to = λ y. let w = kind-is b t 0 (T-true (isKind b t 0) y) in record { node = is-node b t (w .0); is-task = plan-kind b t ∙ kind-task (kindOf b t) (w .1) };
-        from = λ x. let l = node-is b t (x .node) in true-T (isKind b t 0) (kind-of b t 0 l (none-kind (kindOf b t) (kind-limit b (has-room b s ok .plan) t l) (sym (plan-kind b t) ∙ x .is-task)));
+        to = λ y. let w = kind-is b t 0 (T-true (isKind b t 0) y) in
+            record { node = is-node b t (w .0); is-task = plan-kind b t ∙ kind-task (kindOf b t) (w .1) };
+        from = λ x. let l = node-is b t (x .node) in
+            true-T (isKind b t 0) (kind-of b t 0 l
+            (none-kind (kindOf b t) (kind-limit b (has-room b s ok .plan) t l) (sym (plan-kind b t) ∙ x .is-task)));
       }) (r-task (planOf b) (well-formed b s ok) t)
 
-  byte-status : (t : ℕ) → t < nodeCount b → kindOf b t ≡ 0 → (a : Status) → (nodeByte s t ≡ statusByte a) ↔ (statusIn b s t ≡ a)
+  byte-status : (t : ℕ) → t < nodeCount b → kindOf b t ≡ 0 → (a : Status)
+      → (nodeByte s t ≡ statusByte a) ↔ (statusIn b s t ≡ a)
   byte-status t l k waiting = byte-waiting b s ok t l k
   byte-status t l k running = byte-running b s ok t l k
   byte-status t l k done = byte-done b s ok t l k
@@ -90,16 +100,21 @@ module _ (b s : List ℕ) (ok : stateRefusal b s ≡ 0) where
   broken e = cond (incBrokenB (planOf b) (statusIn b s) e) 22 0
 
   chain-of : (e : Event) → eventRefusal b s e
-      ≡ cond (not (taskB (planOf b) (nodeOf e))) 17 (cond (not (statusB (statusIn b s (nodeOf e)) (asks e))) 18 (first (beginRefusal b s e) (broken e)))
+      ≡ cond (not (taskB (planOf b) (nodeOf e))) 17
+          (cond (not (statusB (statusIn b s (nodeOf e)) (asks e))) 18 (first (beginRefusal b s e) (broken e)))
   unfolding returned refusalOf firstOf appliesB worldOf negate treeRefusal beginRefusal
-  chain-of (start t) = start-chain (not (taskB (planOf b) t)) (not (statusB (statusIn b s t) waiting)) (branchBegunB (planOf b) (statusIn b s) t) (orderOpenB (planOf b) (statusIn b s) t) (preUnmetB (planOf b) (flagShown s) (start t)) (incBrokenB (planOf b) (statusIn b s) (start t))
-  chain-of (finish t) = finish-chain (not (taskB (planOf b) t)) (not (statusB (statusIn b s t) running)) (incBrokenB (planOf b) (statusIn b s) (finish t))
+  chain-of (start t) = start-chain (not (taskB (planOf b) t)) (not (statusB (statusIn b s t) waiting))
+      (branchBegunB (planOf b) (statusIn b s) t) (orderOpenB (planOf b) (statusIn b s) t)
+      (preUnmetB (planOf b) (flagShown s) (start t)) (incBrokenB (planOf b) (statusIn b s) (start t))
+  chain-of (finish t) = finish-chain (not (taskB (planOf b) t)) (not (statusB (statusIn b s t) running))
+      (incBrokenB (planOf b) (statusIn b s) (finish t))
 
   module _ (t : ℕ) (e : Event) (of : nodeOf e ≡ t) where
     abbrev answer : ℕ
     answer = eventRefusal b s e
 
-    chain : answer ≡ cond (not (isKind b t 0)) 17 (cond (not (statusB (statusIn b s t) (asks e))) 18 (first (beginRefusal b s e) (broken e)))
+    chain : answer ≡ cond (not (isKind b t 0)) 17
+        (cond (not (statusB (statusIn b s t) (asks e))) 18 (first (beginRefusal b s e) (broken e)))
     chain = chain-of e ∙ rw (of, task-is t)
 
     pub answer-17 : isKind b t 0 ≡ false → 17 ≡ answer
@@ -107,9 +122,12 @@ module _ (b s : List ℕ) (ok : stateRefusal b s ≡ 0) where
 
     module _ (y : isKind b t 0 ≡ true) where
       status-is : eqb (nodeByte s t) (statusByte (asks e)) ≡ statusB (statusIn b s t) (asks e)
-      status-is = let w = kind-is b t 0 y in same-test _ _ (r-map (byte-status t (w .0) (w .1) (asks e)) (r-eq (nodeByte s t) (statusByte (asks e)))) (r-status (statusIn b s t) (asks e))
+      status-is = let w = kind-is b t 0 y in
+          same-test _ _ (r-map (byte-status t (w .0) (w .1) (asks e)) (r-eq (nodeByte s t) (statusByte (asks e))))
+          (r-status (statusIn b s t) (asks e))
 
-      chain-18 : answer ≡ cond (not (eqb (nodeByte s t) (statusByte (asks e)))) 18 (first (beginRefusal b s e) (broken e))
+      chain-18 : answer ≡ cond (not (eqb (nodeByte s t) (statusByte (asks e)))) 18
+          (first (beginRefusal b s e) (broken e))
       chain-18 = chain ∙ rw (y, status-is)
 
       pub answer-18 : (nodeByte s t ≡ statusByte (asks e) → ⊥) → 18 ≡ answer
@@ -122,8 +140,10 @@ module _ (b s : List ℕ) (ok : stateRefusal b s ≡ 0) where
         pub answer-begin : (r : ℕ) → r ≡ beginRefusal b s e → (r ≡ 0 → ⊥) → r ≡ answer
         answer-begin r q n = q ∙ first-some (beginRefusal b s e) (broken e) (λ z. n (q ∙ z)) ∙ rest
 
-        pub answer-broken : beginRefusal b s e ≡ 0 → (z : Bool) → incBrokenB (planOf b) (statusIn b s) e ≡ z → cond z 22 0 ≡ answer
-        answer-broken q z d = ap (λ (x : Bool). cond x 22 0) (sym d) ∙ first-none (beginRefusal b s e) (broken e) q ∙ rest
+        pub answer-broken : beginRefusal b s e ≡ 0 → (z : Bool) → incBrokenB (planOf b) (statusIn b s) e ≡ z
+            → cond z 22 0 ≡ answer
+        answer-broken q z d = ap (λ (x : Bool). cond x 22 0) (sym d) ∙ first-none (beginRefusal b s e) (broken e) q
+            ∙ rest
 
     -- an accepted event is of a task
     pub answer-task : answer ≡ 0 → isKind b t 0 ≡ true
@@ -140,10 +160,14 @@ module _ (b s : List ℕ) (ok : stateRefusal b s ≡ 0) where
 
   -- the test of 22, by what the function has at hand
   pub broken-by : (t : ℕ) (e : Event) → nodeOf e ≡ t → (q : ℕ) → q ≡ placeNumber (eventPlace e) → (r : Bool)
-      → r ≡ someBelow (condCount b) (brokenAt b s (made b q t (replicate 8 (allByte false))) (made b q t (replicate 8 (allByte true))) t) → r ≡ incBrokenB (planOf b) (statusIn b s) e
+      → r ≡ someBelow (condCount b) (brokenAt b s (made b q t (replicate 8 (allByte false)))
+          (made b q t (replicate 8 (allByte true))) t) → r ≡ incBrokenB (planOf b) (statusIn b s) e
   broken-by t e of q k r h =
-      let g : (f : ℕ) → asserts (planOf b) e f ≡ signIn b (eventPlace e) t f = λ f. event-does e f ∙ ap (λ (n : ℕ). signIn b (eventPlace e) n f) of in
-      h ∙ ap (λ (q : ℕ). someBelow (condCount b) (brokenAt b s (made b q t (replicate 8 (allByte false))) (made b q t (replicate 8 (allByte true))) t)) k ∙ broken-is b s ok t (eventPlace e) e of g
+      let g : (f : ℕ) → asserts (planOf b) e f ≡ signIn b (eventPlace e) t f = λ f. event-does e f
+          ∙ ap (λ (n : ℕ). signIn b (eventPlace e) n f) of in
+      h ∙ ap (λ (q : ℕ). someBelow (condCount b)
+          (brokenAt b s (made b q t (replicate 8 (allByte false))) (made b q t (replicate 8 (allByte true))) t)) k
+          ∙ broken-is b s ok t (eventPlace e) e of g
 
 -- ---- the parts
 module _ (b s : List ℕ) (t : ℕ) where
@@ -151,23 +175,29 @@ module _ (b s : List ℕ) (t : ℕ) where
   unfolding treeRefusal
   tree-19 y = rw y
 
-  pub tree-20 : branchBegunB (planOf b) (statusIn b s) t ≡ false → orderOpenB (planOf b) (statusIn b s) t ≡ true → 20 ≡ treeRefusal b s t
+  pub tree-20 : branchBegunB (planOf b) (statusIn b s) t ≡ false → orderOpenB (planOf b) (statusIn b s) t ≡ true
+      → 20 ≡ treeRefusal b s t
   unfolding treeRefusal
   tree-20 x y = rw (x, y)
 
-  pub tree-none : branchBegunB (planOf b) (statusIn b s) t ≡ false → orderOpenB (planOf b) (statusIn b s) t ≡ false → 0 ≡ treeRefusal b s t
+  pub tree-none : branchBegunB (planOf b) (statusIn b s) t ≡ false → orderOpenB (planOf b) (statusIn b s) t ≡ false
+      → 0 ≡ treeRefusal b s t
   unfolding treeRefusal
   tree-none x y = rw (x, y)
 
   pub begin-tree : (r : ℕ) → r ≡ treeRefusal b s t → (r ≡ 0 → ⊥) → r ≡ beginRefusal b s (start t)
   unfolding beginRefusal
-  begin-tree r q n = q ∙ first-some (treeRefusal b s t) (cond (preUnmetB (planOf b) (flagShown s) (start t)) 21 0) (λ z. n (q ∙ z))
+  begin-tree r q n = q ∙ first-some (treeRefusal b s t) (cond (preUnmetB (planOf b) (flagShown s) (start t)) 21 0)
+      (λ z. n (q ∙ z))
 
-  pub begin-unmet : treeRefusal b s t ≡ 0 → (z : Bool) → preUnmetB (planOf b) (flagShown s) (start t) ≡ z → cond z 21 0 ≡ beginRefusal b s (start t)
+  pub begin-unmet : treeRefusal b s t ≡ 0 → (z : Bool) → preUnmetB (planOf b) (flagShown s) (start t) ≡ z
+      → cond z 21 0 ≡ beginRefusal b s (start t)
   unfolding beginRefusal
-  begin-unmet q z d = ap (λ (x : Bool). cond x 21 0) (sym d) ∙ first-none (treeRefusal b s t) (cond (preUnmetB (planOf b) (flagShown s) (start t)) 21 0) q
+  begin-unmet q z d = ap (λ (x : Bool). cond x 21 0) (sym d)
+      ∙ first-none (treeRefusal b s t) (cond (preUnmetB (planOf b) (flagShown s) (start t)) 21 0) q
 
-pub begin-start : (b s : List ℕ) (m : Move) (t : ℕ) → m ≡ Start → beginRefusal b s (start t) ≡ beginRefusal b s (eventOf m t)
+pub begin-start : (b s : List ℕ) (m : Move) (t : ℕ) → m ≡ Start
+    → beginRefusal b s (start t) ≡ beginRefusal b s (eventOf m t)
 begin-start b s m t e = rw e
 
 pub begin-finish : (b s : List ℕ) (m : Move) (t : ℕ) → m ≡ Finish → 0 ≡ beginRefusal b s (eventOf m t)

@@ -1,4 +1,5 @@
--- What calls rest on after checks 1 to 16: an accepted plan with its meaning, and a state whose bytes can be read as statuses. Assumes nothing.
+-- What calls rest on after checks 1 to 16: an accepted plan with its meaning, and a state whose bytes can be read as
+-- statuses. Assumes nothing.
 use mathlib.Core.Path.{_≡_, refl}
 use mathlib.Core.Logic.{_↔_}
 use mathlib.Core.List.{List}

@@ -57,10 +57,12 @@ module _ (b s : List ℕ) where
   state-well e = let w = both-none (roomRefusal b s) _ e in (w .0, check-passed _ 15 0 (w .1) .0)
 
 -- a flag's test by the bytes that were loaded
-pub flag-bad : (b s bytes : List ℕ) (v f : ℕ) (h : Bool) → v ≡ flagCount b → bytes ≡ take 8 s → h ≡ flagIn bytes f → f < 64 → (leb v f && h) ≡ badFlag b s f
+pub flag-bad : (b s bytes : List ℕ) (v f : ℕ) (h : Bool) → v ≡ flagCount b → bytes ≡ take 8 s → h ≡ flagIn bytes f
+    → f < 64 → (leb v f && h) ≡ badFlag b s f
 unfolding badFlag
 flag-bad b s bytes v f h ev eb eh l = rw (ev, eh, eb, in-first s f l)
 
-pub bad-parts : (b s : List ℕ) (x y : Bool) → x ≡ someBelow 64 (badFlag b s) → y ≡ someBelow (nodeCount b) (badByte b s) → (x || y) ≡ malformed b s
+pub bad-parts : (b s : List ℕ) (x y : Bool) → x ≡ someBelow 64 (badFlag b s) → y ≡ someBelow (nodeCount b) (badByte b s)
+    → (x || y) ≡ malformed b s
 unfolding malformed
 bad-parts b s x y ex ey = rw (ex, ey)

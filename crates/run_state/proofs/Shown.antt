@@ -19,7 +19,8 @@ use Rattle.plan_check.proofs.Accepted.{start-below}
 use Rattle.plan_check.proofs.Meaning.{kind-is}
 use Rattle.runs.specs.Execution.{waiting}
 use Rattle.runs.specs.Calls as calls
-use Rattle.run_state.specs.State.{nodeByte, badFlag, badByte, malformed, roomRefusal, stateRefusal, statusAt, statusIn, flagShown, worldOf}
+use Rattle.run_state.specs.State.{nodeByte, badFlag, badByte, malformed, roomRefusal, stateRefusal, statusAt}
+use Rattle.run_state.specs.State.{statusIn, flagShown, worldOf}
 use Rattle.run_state.specs.Fresh.{freshByte, freshState}
 use Rattle.run_state.proofs.Refused.{Roomy, roomy, room-long, state-good}
 
@@ -34,7 +35,8 @@ module _ (b s : List ℕ) (r : Roomy b s) where
 
   fresh-node : (n : ℕ) → n < nodeCount b → nodeByte written n ≡ 0
   unfolding written nodeByte freshByte
-  fresh-node n l = at-overlay (freshByte b) s (8 + nodeCount b) (8 + n) (r .room) (omega arith) ∙ rw (le-ltb (8 + n) 8 (omega arith))
+  fresh-node n l = at-overlay (freshByte b) s (8 + nodeCount b) (8 + n) (r .room) (omega arith)
+      ∙ rw (le-ltb (8 + n) 8 (omega arith))
 
   start-past : (f : ℕ) → flagCount b ≤ f → f < 64 → startFlag b f ≡ false
   start-past f l m = not-passed _ (λ y. omega (arith, start-below b (r .plan) f m y))
@@ -43,8 +45,11 @@ module _ (b s : List ℕ) (r : Roomy b s) where
   unfolding malformed badFlag badByte
   well-formed =
       rw (
-        none-all 64 (λ f. leb (flagCount b) f && flagIn written f) (λ f l. by-cases (decLt f (flagCount b)) (λ (h : f < flagCount b). rw (lt-leb (flagCount b) f h)) (λ h. rw (fresh-flag f l, start-past f (omega arith) l) (and-false (leb (flagCount b) f)))),
-        none-all (nodeCount b) (λ n. cond (isKind b n 0) (ltb 2 (nodeByte written n)) (not (eqb (nodeByte written n) 0))) (λ n l. rw (fresh-node n l) (alike (isKind b n 0))),
+        none-all 64 (λ f. leb (flagCount b) f && flagIn written f)
+            (λ f l. by-cases (decLt f (flagCount b)) (λ (h : f < flagCount b). rw (lt-leb (flagCount b) f h))
+            (λ h. rw (fresh-flag f l, start-past f (omega arith) l) (and-false (leb (flagCount b) f)))),
+        none-all (nodeCount b) (λ n. cond (isKind b n 0) (ltb 2 (nodeByte written n))
+            (not (eqb (nodeByte written n) 0))) (λ n l. rw (fresh-node n l) (alike (isKind b n 0))),
       )
     where
       alike : (x : Bool) → cond x false false ≡ false
@@ -63,8 +68,11 @@ module _ (b s : List ℕ) (r : Roomy b s) where
   unfolding flagShown startOf
   shows-flag f =
       by-cases (decLt f (flagCount b))
-      (λ (l : f < flagCount b). let m : f < 64 = omega (arith, r .plan .fits .limits .flags) in rw (lt-ltb f (flagCount b) l, lt-ltb f 64 m) (fresh-flag f m))
-      (λ l. rw (le-ltb f (flagCount b) (omega arith)) (by-cases (decLt f 64) (λ (m : f < 64). rw (lt-ltb f 64 m, fresh-flag f m) (start-past f (omega arith) m)) (λ m. rw (le-ltb f 64 (omega arith)))))
+      (λ (l : f < flagCount b). let m : f < 64 = omega (arith, r .plan .fits .limits .flags) in
+          rw (lt-ltb f (flagCount b) l, lt-ltb f 64 m) (fresh-flag f m))
+      (λ l. rw (le-ltb f (flagCount b) (omega arith))
+          (by-cases (decLt f 64) (λ (m : f < 64). rw (lt-ltb f 64 m, fresh-flag f m) (start-past f (omega arith) m))
+          (λ m. rw (le-ltb f 64 (omega arith)))))
 
   shows : worldOf b written ≡ calls.fresh (startOf b)
   unfolding worldOf
@@ -82,6 +90,8 @@ fresh-started b s e =
     let w = overlay (freshByte b) (8 + nodeCount b) s in
     rw (eq-eqb (roomRefusal b s) 0 e)
     (record {
-      well-formed = sym (state-good b w (sym (room-long b w (r .accepted) (omega (arith, r .room, length-overlay (freshByte b) s (8 + nodeCount b))))) (well-formed b s r));
+      well-formed = sym (state-good b w
+          (sym (room-long b w (r .accepted) (omega (arith, r .room, length-overlay (freshByte b) s (8 + nodeCount b)))))
+          (well-formed b s r));
       at-first = shows b s r;
     })

@@ -4,7 +4,8 @@ pub use mathlib.Core.Logic.{_≢_, _⊎_, inl, inr, _↔_, Iff·trans, Iff·symm
 pub use mathlib.Core.Bool.{Bool, true, false, not, cond, Bool-discrete}
 pub use mathlib.Core.Option.{Option, none, some, Option·getD}
 pub use mathlib.Core.List.{List, [], _∷_, _++_, append-nil, append-assoc, reverse, reverseAux}
-pub use mathlib.Core.List.{List·Memᴰ as Among, List·Memᴰ·head as here, List·Memᴰ·tail as there, List·Memᴰ·not-nil as among-none, List·Memᴰ·cases-cons as among-cases}
+pub use mathlib.Core.List.{List·Memᴰ as Among, List·Memᴰ·head as here, List·Memᴰ·tail as there}
+pub use mathlib.Core.List.{List·Memᴰ·not-nil as among-none, List·Memᴰ·cases-cons as among-cases}
 pub use Prim.Native.Nat.{ℕ, zero, suc, _+_, _<_, _≤_}
 pub use native.Mathlib.Omega.{arith}
 pub use native.Mathlib.Decide.{ℕ-discrete}

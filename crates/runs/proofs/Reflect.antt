@@ -1,5 +1,7 @@
--- Tests reflect what they test. `Reflects b A`: the test b is true exactly if A holds. The laws named `r-x` are gathered in the ruleset `reflection`.
-use Rattle.runs.proofs.Base.{_≡_, refl, ap, _⊎_, inl, inr, _↔_, Bool, true, false, decide, Option, none, some, List, [], _∷_, ℕ, zero, suc, _<_, arith}
+-- Tests reflect what they test. `Reflects b A`: the test b is true exactly if A holds. The laws named `r-x` are
+-- gathered in the ruleset `reflection`.
+use Rattle.runs.proofs.Base.{_≡_, refl, ap, _⊎_, inl, inr, _↔_, Bool, true, false, decide, Option, none, some}
+use Rattle.runs.proofs.Base.{List, [], _∷_, ℕ, zero, suc, _<_, arith}
 use Rattle.runs.proofs.Base.{ℕ-discrete, T, eqb, ltb, eqb→eq, eqb-refl, ltb→lt, lt→ltb}
 use Rattle.runs.specs.Tests.{both, either, implies, negate, anyBelow, allBelow, sameB, sameList, isNone, isSome}
 
@@ -54,20 +56,24 @@ pub r-true : Reflects true (Unit {0})
 r-true = record { to = λ t. t; from = λ t. t }
 
 -- the second test need only be right where the first holds
-pub r-guarded : {A B : Type 0} (b : Bool) (g : Unit {0} → Bool) → Reflects b A → (A → Reflects (g tt) B) → Reflects (both b g) (A × B)
+pub r-guarded : {A B : Type 0} (b : Bool) (g : Unit {0} → Bool) → Reflects b A → (A → Reflects (g tt) B)
+    → Reflects (both b g) (A × B)
 unfolding both
 r-guarded true g ra rb = record { to = λ t. (ra .to tt, (rb (ra .to tt)) .to t); from = λ x. (rb (x .0)) .from (x .1) }
 r-guarded false g ra rb = record { to = λ t. absurd t; from = λ x. ra .from (x .0) }
 
-pub r-implies : {A B : Type 0} (b : Bool) (g : Unit {0} → Bool) → Reflects b A → (A → Reflects (g tt) B) → Reflects (implies b g) (A → B)
+pub r-implies : {A B : Type 0} (b : Bool) (g : Unit {0} → Bool) → Reflects b A → (A → Reflects (g tt) B)
+    → Reflects (implies b g) (A → B)
 unfolding implies
 r-implies true g ra rb = record { to = λ t a. (rb a) .to t; from = λ h. (rb (ra .to tt)) .from (h (ra .to tt)) }
 r-implies false g ra rb = record { to = λ t a. absurd (ra .from a); from = λ h. tt }
 
-pub r-both : {A B : Type 0} (b : Bool) (g : Unit {0} → Bool) → Reflects b A → Reflects (g tt) B → Reflects (both b g) (A × B)
+pub r-both : {A B : Type 0} (b : Bool) (g : Unit {0} → Bool) → Reflects b A → Reflects (g tt) B
+    → Reflects (both b g) (A × B)
 r-both b g ra rb = r-guarded b g ra (λ a. rb)
 
-pub r-either : {A B : Type 0} (b : Bool) (g : Unit {0} → Bool) → Reflects b A → Reflects (g tt) B → Reflects (either b g) (A ⊎ B)
+pub r-either : {A B : Type 0} (b : Bool) (g : Unit {0} → Bool) → Reflects b A → Reflects (g tt) B
+    → Reflects (either b g) (A ⊎ B)
 unfolding either
 r-either {A} {B} true g ra rb = record { to = λ t. inl (ra .to tt); from = λ x. tt }
 r-either {A} {B} false g ra rb = record { to = λ t. inr (rb .to t); from = back }
@@ -81,7 +87,8 @@ unfolding negate
 r-negate true ra = record { to = λ t. absurd t; from = λ k. k (ra .to tt) }
 r-negate false ra = record { to = λ t a. ra .from a; from = λ k. tt }
 
-pub r-any : (P : ℕ → Type 0) (m : ℕ) (g : ℕ → Bool) → ((i : ℕ) → Reflects (g i) (P i)) → Reflects (anyBelow m g) ((i : ℕ) × (i < m) × P i)
+pub r-any : (P : ℕ → Type 0) (m : ℕ) (g : ℕ → Bool) → ((i : ℕ) → Reflects (g i) (P i))
+    → Reflects (anyBelow m g) ((i : ℕ) × (i < m) × P i)
 unfolding anyBelow
 r-any P zero g r = record { to = λ t. absurd t; from = λ x. absurd (omega (arith, x .1)) }
 r-any P (suc m) g r = r-map (up, down) (r-either (g m) (λ u. anyBelow m g) (r m) (r-any P m g r))
@@ -97,10 +104,12 @@ r-any P (suc m) g r = r-map (up, down) (r-either (g m) (λ u. anyBelow m g) (r m
         at (yes e) = inl (rw e at x)
         at (no ne) = inr (i, omega arith, x)
 
-pub r-all : (P : ℕ → Type 0) (m : ℕ) (g : ℕ → Bool) → ((i : ℕ) → Reflects (g i) (P i)) → Reflects (allBelow m g) ((i : ℕ) → i < m → P i)
+pub r-all : (P : ℕ → Type 0) (m : ℕ) (g : ℕ → Bool) → ((i : ℕ) → Reflects (g i) (P i))
+    → Reflects (allBelow m g) ((i : ℕ) → i < m → P i)
 unfolding allBelow
 r-all P zero g r = record { to = λ t i l. absurd (omega arith); from = λ x. tt }
-r-all P (suc m) g r = r-map (up, λ h. (h m (omega arith), λ i l. h i (omega arith))) (r-both (g m) (λ u. allBelow m g) (r m) (r-all P m g r))
+r-all P (suc m) g r = r-map (up, λ h. (h m (omega arith), λ i l. h i (omega arith)))
+    (r-both (g m) (λ u. allBelow m g) (r m) (r-all P m g r))
   where
     up : P m × ((i : ℕ) → i < m → P i) → (i : ℕ) → i < suc m → P i
     up (x, h) i l = at (ℕ-discrete i m)
@@ -122,7 +131,8 @@ unfolding sameList
 r-list [] [] = record { to = λ t. refl; from = λ e. tt }
 r-list [] (y ∷ k) = record { to = λ t. absurd t; from = λ e. clash cc }
 r-list (x ∷ l) [] = record { to = λ t. absurd t; from = λ e. clash cc }
-r-list (x ∷ l) (y ∷ k) = r-map (λ h. rw (h .0, h .1), λ e. (cc, cc)) (r-both (eqb x y) (λ u. sameList l k) (r-eq x y) (r-list l k))
+r-list (x ∷ l) (y ∷ k) = r-map (λ h. rw (h .0, h .1), λ e. (cc, cc))
+    (r-both (eqb x y) (λ u. sameList l k) (r-eq x y) (r-list l k))
 
 pub r-lt : (a b : ℕ) → Reflects (ltb a b) (a < b)
 r-lt a b = record { to = ltb→lt a b; from = lt→ltb a b }

@@ -18,11 +18,11 @@ use Rattle.runs.specs.Plan.{signNumber}
 use Rattle.runs.proofs.Plan.Numbers.{sign-small}
 use Rattle.plan_check.specs.Meaning.{planOf}
 use Rattle.plan_check.proofs.Meaning.{means-well-formed}
-use Rattle.runs.specs.Summary.{Mark, byteOf, Marked}
+use Rattle.runs.specs.Summary.{Mark, byteOf, markAt, Marked}
 use Rattle.runs.specs.Model.Marks.{markedB}
 use Rattle.runs.proofs.Reflect.{Reflects}
 use Rattle.runs.proofs.Summary.Exact.{marks-exact}
-use Rattle.marks_words.specs.Words.{wordIndex, markAt, MarkWords}
+use Rattle.marks_words.specs.Words.{wordIndex, MarkWords}
 use Rattle.marks_words.proofs.Laws.{mark-small, mark-byte, byte-mark}
 use Rattle.marks_of_plan.proofs.Nodes.{node-of}
 use Rattle.summary.specs.Summary.{summaryRefusal, summaryByte, summaryLeft, Tells, Summarised}
@@ -54,16 +54,20 @@ module _ (b : List ℕ) (ok : refusal b ≡ 0) (n : ℕ) (l : n < nodeCount b) w
   exact : (f : ℕ) (v : Bool) (m : Mark) → Reflects (markedB (planOf b) n f v m) (Marked (planOf b) n f v m)
   exact f v m = marks-exact (planOf b) (means-well-formed b ok) n f (node-of b ok n l) v m
 
-  pub byte-is : {words : List ℕ} → MarkWords (planOf b) n words → (i : ℕ) → i < 1024 → getD words (i % 16) 0 / 2 ^ (i / 16) % 2 ≡ summaryByte b n i
+  pub byte-is : {words : List ℕ} → MarkWords (planOf b) n words → (i : ℕ) → i < 1024
+      → getD words (i % 16) 0 / 2 ^ (i / 16) % 2 ≡ summaryByte b n i
   unfolding summaryByte
   byte-is {words} w i k =
       let v = eqb (i / 8 % 2) 1 in
       let m = markAt (i % 8) in
-      let at : i % 16 ≡ wordIndex v m = omega (arith, sign-of (i / 8 % 2) (omega arith), byte-mark (i % 8) (omega arith)) in
+      let at : i % 16 ≡ wordIndex v m =
+          omega (arith, sign-of (i / 8 % 2) (omega arith), byte-mark (i % 8) (omega arith)) in
       let on : i / 16 ≡ i / 8 / 2 = omega arith in
-      rw (at, on) (digit-is (markedB (planOf b) n (i / 8 / 2) v m) (w .says v m (i / 8 / 2) (omega arith)) (exact (i / 8 / 2) v m))
+      rw (at, on) (digit-is (markedB (planOf b) n (i / 8 / 2) v m) (w .says v m (i / 8 / 2) (omega arith))
+          (exact (i / 8 / 2) v m))
 
-  byte-at : (f : ℕ) (v : Bool) (m : Mark) → summaryByte b n (8 * (2 * f + signNumber v) + byteOf m) ≡ cond (markedB (planOf b) n f v m) 1 0
+  byte-at : (f : ℕ) (v : Bool) (m : Mark)
+      → summaryByte b n (8 * (2 * f + signNumber v) + byteOf m) ≡ cond (markedB (planOf b) n f v m) 1 0
   unfolding summaryByte
   byte-at f v m =
       let i = 8 * (2 * f + signNumber v) + byteOf m in
@@ -74,10 +78,12 @@ module _ (b : List ℕ) (ok : refusal b ≡ 0) (n : ℕ) (l : n < nodeCount b) w
       rw (flag, sign, mark, sign-back v, mark-byte m)
 
   pub byte-tells : (out : List ℕ) → 16 * flagCount b ≤ length out → (f : ℕ) → f < flagCount b → (v : Bool) (m : Mark)
-      → Tells (getD (overlay (summaryByte b n) (16 * flagCount b) out) (8 * (2 * f + signNumber v) + byteOf m) 0) (Marked (planOf b) n f v m)
+      → Tells (getD (overlay (summaryByte b n) (16 * flagCount b) out) (8 * (2 * f + signNumber v) + byteOf m) 0)
+          (Marked (planOf b) n f v m)
   byte-tells out long f k v m =
       rw (
-        at-overlay (summaryByte b n) out (16 * flagCount b) (8 * (2 * f + signNumber v) + byteOf m) long (omega (arith, sign-small v, mark-small m)),
+        at-overlay (summaryByte b n) out (16 * flagCount b) (8 * (2 * f + signNumber v) + byteOf m) long
+            (omega (arith, sign-small v, mark-small m)),
         byte-at f v m,
       ) (tells (markedB (planOf b) n f v m) (exact f v m))
 
@@ -120,9 +126,11 @@ module _ (b : List ℕ) (n : ℕ) (out : List ℕ) where
   -- the whole call, refused and accepted
   pub summary-refused : {r : ℕ} → r ≡ summaryRefusal b n out → (r ≡ 0 → ⊥) → Summarised b n out r out
   unfolding summaryLeft
-  summary-refused e k = record { returns = e; leaves = rw (ne-eqb (summaryRefusal b n out) 0 (λ z. k (e ∙ z))); marks = λ z. absurd (k z) }
+  summary-refused e k = record { returns = e; leaves = rw (ne-eqb (summaryRefusal b n out) 0 (λ z. k (e ∙ z)));
+      marks = λ z. absurd (k z) }
 
-  pub summary-written : summaryRefusal b n out ≡ 0 → Summarised b n out 0 (overlay (summaryByte b n) (16 * flagCount b) out)
+  pub summary-written : summaryRefusal b n out ≡ 0
+      → Summarised b n out 0 (overlay (summaryByte b n) (16 * flagCount b) out)
   unfolding summaryLeft
   summary-written e = record {
     returns = sym e;

@@ -11,9 +11,8 @@ use Rattle.plan_format.specs.Format.{nodeCount, flagCount}
 use Rattle.plan_rules.specs.Rules.{refusal}
 use Rattle.runs.specs.Plan.{signNumber}
 use Rattle.plan_check.specs.Meaning.{planOf}
-use Rattle.runs.specs.Summary.{Mark, byteOf, Marked}
+use Rattle.runs.specs.Summary.{Mark, byteOf, markAt, Marked}
 use Rattle.runs.specs.Model.Marks.{markedB}
-use Rattle.marks_words.specs.Words.{markAt}
 
 -- 1 to 14; 15: under 16 V bytes; 17: no node
 unfoldable pub summaryRefusal : List ℕ → ℕ → List ℕ → ℕ
@@ -31,8 +30,8 @@ summaryLeft b n out = cond (eqb (summaryRefusal b n out) 0) (overlay (summaryByt
 abbrev pub Tells : ℕ → Type 0 → Type 0
 Tells x A = ((x ≡ 1) × A) ⊎ ((x ≡ 0) × (¬ A))
 
-pub record Summarised (b : List ℕ) (n : ℕ) (out : List ℕ) (r : ℕ) (out' : List ℕ) : Type 0 where
+pub record Summarised (b : List ℕ) (n : ℕ) (out : List ℕ) (r : ℕ) (out′ : List ℕ) : Type 0 where
   pub returns : r ≡ summaryRefusal b n out
-  pub leaves : out' ≡ summaryLeft b n out
+  pub leaves : out′ ≡ summaryLeft b n out
   pub marks : r ≡ 0 → (f : ℕ) → f < flagCount b → (v : Bool) (m : Mark)
-      → Tells (getD out' (8 * (2 * f + signNumber v) + byteOf m) 0) (Marked (planOf b) n f v m)
+      → Tells (getD out′ (8 * (2 * f + signNumber v) + byteOf m) 0) (Marked (planOf b) n f v m)

@@ -30,11 +30,13 @@ module _ (at : ℕ) {i : Item} where
     unfolding Stored
     stored-node {x} e = subst (λ (j : Item). Stored at j k (set k at (x .kind)) o o c c) (sym e) (refl, (refl, refl))
 
-    pub stored-condition : (c' : List ℕ) {t : ℕ} {x : Condition} → i ≡ item.Condition x → t ≡ x .node
-        → c' ≡ set c (t * 6 + x .value / 64) (bitOr (getD c (t * 6 + x .value / 64) 0) (2 ^ (x .value % 64))) → Stored at i k k o o c c'
+    pub stored-condition : (c′ : List ℕ) {t : ℕ} {x : Condition} → i ≡ item.Condition x → t ≡ x .node
+        → c′ ≡ set c (t * 6 + x .value / 64) (bitOr (getD c (t * 6 + x .value / 64) 0) (2 ^ (x .value % 64)))
+            → Stored at i k k o o c c′
     unfolding Stored
-    stored-condition c' e f g = subst (λ (j : Item). Stored at j k k o o c c') (sym e) (rw f at g, (refl, refl))
+    stored-condition c′ e f g = subst (λ (j : Item). Stored at j k k o o c c′) (sym e) (rw f at g, (refl, refl))
 
-    pub stored-order : (o' : List ℕ) {a b : ℕ} {x : Order} → i ≡ item.Order x → a ≡ x .earlier → b ≡ x .later → Linked o o' b (Leading o a) → Stored at i k k o o' c c
+    pub stored-order : (o′ : List ℕ) {a b : ℕ} {x : Order} → i ≡ item.Order x → a ≡ x .earlier → b ≡ x .later
+        → Linked o o′ b (Leading o a) → Stored at i k k o o′ c c
     unfolding Stored
-    stored-order o' e f g h = subst (λ (j : Item). Stored at j k k o o' c c) (sym e) (rw (f, g) at h, (refl, refl))
+    stored-order o′ e f g h = subst (λ (j : Item). Stored at j k k o o′ c c) (sym e) (rw (f, g) at h, (refl, refl))

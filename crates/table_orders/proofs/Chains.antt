@@ -1,4 +1,5 @@
--- Chains through the first i orders. Those through the first i + 1 are those through the first i and, to its later node, what ends with order i. Assumes nothing.
+-- Chains through the first i orders. Those through the first i + 1 are those through the first i and, to its later
+-- node, what ends with order i. Assumes nothing.
 use mathlib.Core.Path.{_≡_, refl, sym}
 use mathlib.Core.Logic.{_⊎_, inl, inr, ⊎-elim, by-cases}
 use mathlib.Core.List.{List}
@@ -99,16 +100,19 @@ module _ (b : List ℕ) (i : ℕ) where
 
     pub chain-ends : {x y : ℕ} → Ends x y → ChainTo b (i + 1) x y
     chain-ends {x} {y} w =
-        let o : OrderTo b (i + 1) (earlierOf b i) y = record { at = i; below = omega arith; earlier = refl; later = sym (w .0) } in
+        let o : OrderTo b (i + 1) (earlierOf b i) y =
+            record { at = i; below = omega arith; earlier = refl; later = sym (w .0) } in
         ⊎-elim (λ e. rw e (one o)) (λ q. more (chain-weaken q) o) (w .1)
 
 -- chains through all orders are the plan's
 module _ (b : List ℕ) (r : refusal b ≡ 0) where
   order-of : {x y : ℕ} → OrderTo b (orderCount b) x y → T (planOf b .order x y)
-  order-of {x} {y} o = means b r .order x y .1 (record { at = o .at; below = o .below; earlier = o .earlier; later = o .later })
+  order-of {x} {y} o = means b r .order x y .1
+      (record { at = o .at; below = o .below; earlier = o .earlier; later = o .later })
 
   from-order : (x y : ℕ) → T (planOf b .order x y) → OrderTo b (orderCount b) x y
-  from-order x y o = let w = means b r .order x y .0 o in record { at = w .at; below = w .below; earlier = w .earlier; later = w .later }
+  from-order x y o = let w = means b r .order x y .0 o in
+      record { at = w .at; below = w .below; earlier = w .earlier; later = w .later }
 
   pub chain-before : {x y : ℕ} → ChainTo b (orderCount b) x y → Before (planOf b) x y
   chain-before (one o) = direct (order-of o)

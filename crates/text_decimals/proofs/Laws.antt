@@ -21,11 +21,12 @@ unless-is (suc n) f l = refl
 unless-none : (n : ℕ) (f : ℕ → List ℕ) → n ≡ 0 → unlessZero n f ≡ []
 unless-none n f e = rw e
 
-enough : (k k' n : ℕ) → n < k → n < k' → decimalBy k n ≡ decimalBy k' n
+enough : (k k′ n : ℕ) → n < k → n < k′ → decimalBy k n ≡ decimalBy k′ n
 unfolding decimalBy
-enough zero k' n l l' = absurd (omega arith)
-enough (suc k) zero n l l' = absurd (omega arith)
-enough (suc k) (suc k') n l l' = rw (unless-same (n / 10) (decimalBy k) (decimalBy k') (λ z. enough k k' (n / 10) (omega arith) (omega arith)))
+enough zero k′ n l l′ = absurd (omega arith)
+enough (suc k) zero n l l′ = absurd (omega arith)
+enough (suc k) (suc k′) n l l′ =
+    rw (unless-same (n / 10) (decimalBy k) (decimalBy k′) (λ z. enough k k′ (n / 10) (omega arith) (omega arith)))
 
 -- one digit
 pub decimal-digit : (n : ℕ) → n < 10 → decimal n ≡ (48 + n % 10) ∷ []
@@ -37,7 +38,8 @@ decimal-digit n l =
 -- more: those of n / 10, and the last
 pub decimal-more : (n : ℕ) → 10 ≤ n → decimal n ≡ decimal (n / 10) ++ ((48 + n % 10) ∷ [])
 unfolding decimal decimalBy
-decimal-more n l = rw (unless-is (n / 10) (decimalBy n) (omega arith), enough n (suc (n / 10)) (n / 10) (omega arith) (omega arith))
+decimal-more n l = rw (unless-is (n / 10) (decimalBy n) (omega arith),
+    enough n (suc (n / 10)) (n / 10) (omega arith) (omega arith))
 
 pub length-digit : (n : ℕ) → n < 10 → length (decimal n) ≡ 1
 length-digit n l = ap length (decimal-digit n l)
@@ -50,7 +52,8 @@ pub length-limit : (k n : ℕ) → n < 10 ^ suc k → length (decimal n) ≤ suc
 length-limit zero n l = omega (arith, length-digit n l)
 length-limit (suc k) n l =
     by-cases (decLt n 10) (λ (q : n < 10). omega (arith, length-digit n q))
-    (λ q. let e : 10 ^ suc (suc k) ≡ 10 ^ suc k * 10 = pow-suc 10 (suc k) in omega (arith, length-more n (omega arith), length-limit k (n / 10) (omega arith)))
+    (λ q. let e : 10 ^ suc (suc k) ≡ 10 ^ suc k * 10 = pow-suc 10 (suc k) in
+        omega (arith, length-more n (omega arith), length-limit k (n / 10) (omega arith)))
 
 -- ---- they are plain
 value-more : (s : List ℕ) (v x : ℕ) → valueFrom v (s ++ (x ∷ [])) ≡ 10 * valueFrom v s + (x - 48)
@@ -87,7 +90,8 @@ plain-more {n} {s} l p = record {
   some = omega (arith, length-append s ((48 + n % 10) ∷ []));
   digits = digits-more s n (p .digits);
   value = omega (arith, value-more s 0 (48 + n % 10), p .value);
-  no-leading-zero = λ e. absurd (omega (arith, first-zero p (sym (List·getD-append s ((48 + n % 10) ∷ []) 0 0 (p .some)) ∙ e)));
+  no-leading-zero = λ e. absurd (omega
+      (arith, first-zero p (sym (List·getD-append s ((48 + n % 10) ∷ []) 0 0 (p .some)) ∙ e)));
 }
 
 plain-in : (k n : ℕ) → n < k → Plain n (decimal n)
@@ -125,9 +129,11 @@ decimal-of n x l m e = let r : 48 + n % 10 ≡ x = omega arith in decimal-digit 
 pub plain-only : {n : ℕ} {s : List ℕ} → Plain n s → s ≡ decimal n
 unfolding valueFrom
 plain-only {s = []} p = absurd (omega (arith, p .some))
-plain-only {n} {s = x ∷ []} p = let w = p .digits 0 (omega arith) in sym (decimal-of n x (w .0) (w .1) (omega (arith, p .value)))
+plain-only {n} {s = x ∷ []} p = let w = p .digits 0 (omega arith) in
+    sym (decimal-of n x (w .0) (w .1) (omega (arith, p .value)))
 plain-only {n} {s = x ∷ y ∷ s} p =
     let w = p .digits 0 (omega arith) in
     let z : x ≡ 48 → ⊥ = λ e. omega (arith, p .no-leading-zero e) in
     let t = decimal-then (y ∷ s) (10 * 0 + (x - 48)) (omega arith) (λ i l. p .digits (suc i) (omega arith)) in
-    sym (ap decimal (sym (p .value)) ∙ t ∙ ap (λ (xs : List ℕ). xs ++ y ∷ s) (decimal-of (10 * 0 + (x - 48)) x (w .0) (w .1) (omega arith)))
+    sym (ap decimal (sym (p .value)) ∙ t
+        ∙ ap (λ (xs : List ℕ). xs ++ y ∷ s) (decimal-of (10 * 0 + (x - 48)) x (w .0) (w .1) (omega arith)))

@@ -21,7 +21,8 @@ unfolding written
 length-written out at s = length-sets out at s
 
 -- first s, and t after it
-pub written-append : (s t out : List ℕ) (at : ℕ) → written (written out at s) (at + length s) t ≡ written out at (s ++ t)
+pub written-append : (s t out : List ℕ) (at : ℕ)
+    → written (written out at s) (at + length s) t ≡ written out at (s ++ t)
 unfolding written
 written-append [] t out at = let e : at + 0 ≡ at = omega arith in rw e
 written-append (x ∷ s) t out at =
@@ -29,18 +30,21 @@ written-append (x ∷ s) t out at =
     rw e (written-append s t (set out at x) (suc at))
 
 -- what is before it and what is past it stay
-pub written-is : (out : List ℕ) (at : ℕ) (s : List ℕ) → at + length s ≤ length out → written out at s ≡ take at out ++ s ++ drop (at + length s) out
+pub written-is : (out : List ℕ) (at : ℕ) (s : List ℕ) → at + length s ≤ length out
+    → written out at s ≡ take at out ++ s ++ drop (at + length s) out
 unfolding written
 written-is out at s h = sets-eq s out at h
 
-module _ {out out' : List ℕ} {at r : ℕ} {s : List ℕ} where
-  pub wrote-long : Wrote out at s r out' → length out' ≡ length out
+module _ {out out′ : List ℕ} {at r : ℕ} {s : List ℕ} where
+  pub wrote-long : Wrote out at s r out′ → length out′ ≡ length out
   wrote-long h = ap length (h .bytes) ∙ length-written out at s
 
   -- one after the other
-  pub wrote-then : {out″ t : List ℕ} {r' : ℕ} → Wrote out at s r out' → Wrote out' r t r' out″ → Wrote out at (s ++ t) r' out″
+  pub wrote-then : {out″ t : List ℕ} {r′ : ℕ} → Wrote out at s r out′ → Wrote out′ r t r′ out″
+      → Wrote out at (s ++ t) r′ out″
   wrote-then {t = t} h k = record {
-    bytes = k .bytes ∙ ap (λ (o : List ℕ). written o r t) (h .bytes) ∙ ap (λ (a : ℕ). written (written out at s) a t) (h .next) ∙ written-append s t out at;
+    bytes = k .bytes ∙ ap (λ (o : List ℕ). written o r t) (h .bytes)
+        ∙ ap (λ (a : ℕ). written (written out at s) a t) (h .next) ∙ written-append s t out at;
     next = omega (arith, k .next, h .next, length-append s t);
   }
 
@@ -48,31 +52,32 @@ pub wrote-one : {out : List ℕ} {at x : ℕ} → Wrote out at (x ∷ []) (at + 
 wrote-one {out} {at} {x} = record { bytes = written-one out at x; next = refl }
 
 -- the same bytes by another name
-pub wrote-same : {out out' s t : List ℕ} {at r : ℕ} → s ≡ t → Wrote out at s r out' → Wrote out at t r out'
+pub wrote-same : {out out′ s t : List ℕ} {at r : ℕ} → s ≡ t → Wrote out at s r out′ → Wrote out at t r out′
 wrote-same e h = rw e at h
 
 -- the first i of the bytes s are written
-pub record WrittenTo (out out' : List ℕ) (at : ℕ) (s : List ℕ) (i : ℕ) : Type 0 where
+pub record WrittenTo (out out′ : List ℕ) (at : ℕ) (s : List ℕ) (i : ℕ) : Type 0 where
   pub inside : i ≤ length s
-  pub long : length out' ≡ length out
-  pub is : out' ≡ written out at (take i s)
+  pub long : length out′ ≡ length out
+  pub is : out′ ≡ written out at (take i s)
 
 module _ {out : List ℕ} {at : ℕ} {s : List ℕ} where
   pub to-none : WrittenTo out out at s 0
   to-none = record { inside = omega arith; long = refl; is = sym (written-none out at) }
 
-  pub to-more : {out' : List ℕ} {i : ℕ} → i < length s → WrittenTo out out' at s i → WrittenTo out (set out' (at + i) (getD s i 0)) at s (i + 1)
-  to-more {out'} {i} l h = record {
+  pub to-more : {out′ : List ℕ} {i : ℕ} → i < length s → WrittenTo out out′ at s i
+      → WrittenTo out (set out′ (at + i) (getD s i 0)) at s (i + 1)
+  to-more {out′} {i} l h = record {
     inside = omega arith;
-    long = length-set out' (at + i) (getD s i 0) ∙ h .long;
+    long = length-set out′ (at + i) (getD s i 0) ∙ h .long;
     is =
         let e : at + i ≡ at + length (take i s) = omega (arith, length-take-le i s (omega arith)) in
-        written-one out' (at + i) (getD s i 0)
+        written-one out′ (at + i) (getD s i 0)
         ∙ ap (λ (x : List ℕ). written x (at + i) (getD s i 0 ∷ [])) (h .is)
         ∙ ap (λ (k : ℕ). written (written out at (take i s)) k (getD s i 0 ∷ [])) e
         ∙ written-append (take i s) (getD s i 0 ∷ []) out at
         ∙ ap (written out at) (rw add-one (sym (take-suc s i 0 l)));
   }
 
-  pub to-all : {out' : List ℕ} {i : ℕ} → length s ≤ i → WrittenTo out out' at s i → Wrote out at s (at + i) out'
+  pub to-all : {out′ : List ℕ} {i : ℕ} → length s ≤ i → WrittenTo out out′ at s i → Wrote out at s (at + i) out′
   to-all {i = i} l h = record { bytes = h .is ∙ ap (written out at) (take-all i s l); next = omega (arith, h .inside) }

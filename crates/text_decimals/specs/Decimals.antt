@@ -10,8 +10,8 @@ unfoldable pub written : List ℕ → ℕ → List ℕ → List ℕ
 written out at s = sets out at s
 
 -- a call wrote s there, and nothing else, and answered where the next byte goes
-pub record Wrote (out : List ℕ) (at : ℕ) (s : List ℕ) (r : ℕ) (out' : List ℕ) : Type 0 where
-  pub bytes : out' ≡ written out at s
+pub record Wrote (out : List ℕ) (at : ℕ) (s : List ℕ) (r : ℕ) (out′ : List ℕ) : Type 0 where
+  pub bytes : out′ ≡ written out at s
   pub next : r ≡ at + length s
 
 -- ---- plain decimals, as what is written of a number

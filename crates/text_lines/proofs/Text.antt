@@ -1,6 +1,7 @@
 -- The text of the task lines: how long it is, and that it is written line by line. Assumes nothing.
 use mathlib.Core.Path.{_≡_, refl, sym, ap, _∙_}
-use mathlib.Core.List.{List, [], _∷_, _++_, append-assoc, append-nil, List·Memᴰ as Among, List·Memᴰ·head as here, List·Memᴰ·tail as there}
+use mathlib.Core.List.{List, [], _∷_, _++_, append-assoc, append-nil, List·Memᴰ as Among, List·Memᴰ·head as here}
+use mathlib.Core.List.{List·Memᴰ·tail as there}
 use Prim.Native.Nat.{ℕ, suc, _+_, _*_, _<_, _≤_}
 use native.Mathlib.Numerals.{add-one}
 use native.Mathlib.Omega.{arith}
@@ -46,11 +47,14 @@ module _ {b : List ℕ} (ok : Clean b) where
   lines-short : (xs : List ℕ) → ((u : ℕ) → Among u xs → u < nodeCount b) → length (linesOf b xs) ≤ 13 * length xs
   unfolding linesOf
   lines-short [] h = omega arith
-  lines-short (x ∷ xs) h = omega (arith, length-append (lineOf b x) (linesOf b xs), line-limit x (h x (here refl)), lines-short xs (λ u a. h u (there a)))
+  lines-short (x ∷ xs) h = omega (arith, length-append (lineOf b x) (linesOf b xs), line-limit x (h x (here refl)),
+      lines-short xs (λ u a. h u (there a)))
 
   -- the first i lines
-  lines-next : (i : ℕ) → i < length (ranking b) → linesOf b (take (suc i) (ranking b)) ≡ linesOf b (take i (ranking b)) ++ lineOf b (getD (ranking b) i 0)
-  lines-next i l = ap (linesOf b) (take-suc (ranking b) i 0 l) ∙ lines-more b (take i (ranking b)) (getD (ranking b) i 0)
+  lines-next : (i : ℕ) → i < length (ranking b)
+      → linesOf b (take (suc i) (ranking b)) ≡ linesOf b (take i (ranking b)) ++ lineOf b (getD (ranking b) i 0)
+  lines-next i l = ap (linesOf b) (take-suc (ranking b) i 0 l)
+      ∙ lines-more b (take i (ranking b)) (getD (ranking b) i 0)
 
 pub ending-is : (n : ℕ) → ((32 ∷ []) ++ decimal n) ++ (10 ∷ []) ≡ ending n
 unfolding ending
@@ -63,7 +67,8 @@ line-is b t = refl
 -- ---- they are 01's lines
 pub ending-then : (x : List ℕ) (n : ℕ) (s : List ℕ) → (x ++ ending n) ++ s ≡ x ++ 32 ∷ decimal n ++ 10 ∷ s
 unfolding ending
-ending-then x n s = ap (λ (xs : List ℕ). xs ++ s) (sym (append-assoc x (32 ∷ decimal n) (10 ∷ []))) ∙ append-assoc (x ++ 32 ∷ decimal n) (10 ∷ []) s
+ending-then x n s = ap (λ (xs : List ℕ). xs ++ s) (sym (append-assoc x (32 ∷ decimal n) (10 ∷ [])))
+    ∙ append-assoc (x ++ 32 ∷ decimal n) (10 ∷ []) s
 
 line-then : (b : List ℕ) (t : ℕ) (s : List ℕ) → lineOf b t ++ s ≡ nameOf b t ++ 32 ∷ decimal (longestWait b t) ++ 10 ∷ s
 unfolding lineOf
@@ -75,7 +80,8 @@ task-lines b [] = none
 task-lines b (t ∷ ts) = rw (line-then b t (linesOf b ts)) (line (plain (longestWait b t)) (task-lines b ts))
 
 -- and no other text is
-pub lines-only : {b : List ℕ} {longest : ℕ → ℕ} {ts s : List ℕ} → ((u : ℕ) → Among u ts → longest u ≡ longestWait b u) → TaskLines b longest ts s → s ≡ linesOf b ts
+pub lines-only : {b : List ℕ} {longest : ℕ → ℕ} {ts s : List ℕ} → ((u : ℕ) → Among u ts → longest u ≡ longestWait b u)
+    → TaskLines b longest ts s → s ≡ linesOf b ts
 unfolding linesOf
 lines-only f none = refl
 lines-only {b} {ts = t ∷ ts} f (line {digits = d} p r) =
@@ -84,50 +90,62 @@ lines-only {b} {ts = t ∷ ts} f (line {digits = d} p r) =
     ∙ sym (line-then b t (linesOf b ts))
 
 -- ---- a name is four bytes of the plan, one after another
-next-byte : (b : List ℕ) (i j n : ℕ) → j ≡ suc i → i < length b → take (suc n) (drop i b) ≡ getD b i 0 ∷ take n (drop j b)
+next-byte : (b : List ℕ) (i j n : ℕ) → j ≡ suc i → i < length b
+    → take (suc n) (drop i b) ≡ getD b i 0 ∷ take n (drop j b)
 next-byte b i j n e l = ap (take (suc n)) (drop-cons b i 0 l) ∙ ap (λ (x : ℕ). getD b i 0 ∷ take n (drop x b)) (sym e)
 
-four : (b : List ℕ) (i j k l : ℕ) → j ≡ suc i → k ≡ suc j → l ≡ suc k → suc l ≤ length b → take 4 (drop i b) ≡ getD b i 0 ∷ getD b j 0 ∷ getD b k 0 ∷ getD b l 0 ∷ []
+four : (b : List ℕ) (i j k l : ℕ) → j ≡ suc i → k ≡ suc j → l ≡ suc k → suc l ≤ length b
+    → take 4 (drop i b) ≡ getD b i 0 ∷ getD b j 0 ∷ getD b k 0 ∷ getD b l 0 ∷ []
 four b i j k l e f g m =
     next-byte b i j 3 e (omega arith)
     ∙ ap (λ (xs : List ℕ). getD b i 0 ∷ xs)
     (next-byte b j k 2 f (omega arith)
     ∙ ap (λ (xs : List ℕ). getD b j 0 ∷ xs)
-    (next-byte b k l 1 g (omega arith) ∙ ap (λ (xs : List ℕ). getD b k 0 ∷ xs) (next-byte b l (suc l) 0 refl (omega arith))))
+    (next-byte b k l 1 g (omega arith)
+        ∙ ap (λ (xs : List ℕ). getD b k 0 ∷ xs) (next-byte b l (suc l) 0 refl (omega arith))))
 
 pub name-bytes : (b : List ℕ) (t n : ℕ) → n ≡ 4 → 20 + 4 * t ≤ length b → take n (drop (16 + 4 * t) b) ≡ nameOf b t
 unfolding nameOf nameChar
-name-bytes b t n e l = rw e (four b (16 + 4 * t) (16 + (4 * t + 1)) (16 + (4 * t + 2)) (16 + (4 * t + 3)) (omega arith) (omega arith) (omega arith) (omega arith))
+name-bytes b t n e l = rw e (four b (16 + 4 * t) (16 + (4 * t + 1)) (16 + (4 * t + 2)) (16 + (4 * t + 3)) (omega arith)
+    (omega arith) (omega arith) (omega arith))
 
 -- ---- the first i lines are written
-pub record LinesTo (b out out' : List ℕ) (at a i : ℕ) : Type 0 where
+pub record LinesTo (b out out′ : List ℕ) (at a i : ℕ) : Type 0 where
   pub inside : i ≤ length (ranking b)
-  pub wrote : Wrote out at (linesOf b (take i (ranking b))) a out'
+  pub wrote : Wrote out at (linesOf b (take i (ranking b))) a out′
   pub short : a ≤ at + 13 * i
 
 module _ {b : List ℕ} (ok : Clean b) where
   pub lines-limit : length (linesOf b (ranking b)) ≤ 1651
   unfolding ranking
-  lines-limit = omega (arith, lines-short ok (rankedTo b (nodeCount b)) (λ u a. ranked-task b u (nodeCount b) a .0), ranking-length b ok)
+  lines-limit = omega (arith, lines-short ok (rankedTo b (nodeCount b)) (λ u a. ranked-task b u (nodeCount b) a .0),
+      ranking-length b ok)
 
   pub lines-none : {out : List ℕ} {at : ℕ} → LinesTo b out out at at 0
   unfolding linesOf
-  lines-none {out} {at} = record { inside = omega arith; wrote = record { bytes = sym (written-none out at); next = omega arith }; short = omega arith }
+  lines-none {out} {at} = record { inside = omega arith;
+      wrote = record { bytes = sym (written-none out at); next = omega arith }; short = omega arith }
 
   -- the task of line i
-  pub line-task : {ranked : List ℕ} {k i t : ℕ} → Ranking b ranked k → i < k → t ≡ getD ranked i 0 → (t < nodeCount b) × (t ≡ getD (ranking b) i 0)
+  pub line-task : {ranked : List ℕ} {k i t : ℕ} → Ranking b ranked k → i < k → t ≡ getD ranked i 0
+      → (t < nodeCount b) × (t ≡ getD (ranking b) i 0)
   unfolding ranking
   line-task {ranked} {k} {i} {t} r l e =
-      let q : t ≡ getD (rankedTo b (nodeCount b)) i 0 = e ∙ sym (getD-take k ranked i 0 l) ∙ ap (λ (xs : List ℕ). getD xs i 0) (r .is) in
-      (rw (← q) at (ranked-task b (getD (rankedTo b (nodeCount b)) i 0) (nodeCount b) (among-at (rankedTo b (nodeCount b)) i (omega (arith, r .count))) .0), q)
+      let q : t ≡ getD (rankedTo b (nodeCount b)) i 0 = e ∙ sym (getD-take k ranked i 0 l)
+          ∙ ap (λ (xs : List ℕ). getD xs i 0) (r .is) in
+      (rw (← q) at (ranked-task b (getD (rankedTo b (nodeCount b)) i 0) (nodeCount b)
+          (among-at (rankedTo b (nodeCount b)) i (omega (arith, r .count))) .0), q)
 
-  pub lines-turn : {out out' out″ : List ℕ} {at a a' i t : ℕ} → i < length (ranking b) → t < nodeCount b → t ≡ getD (ranking b) i 0 → Wrote out' a (lineOf b t) a' out″ → LinesTo b out out' at a i
-      → LinesTo b out out″ at a' (i + 1)
+  pub lines-turn : {out out′ out″ : List ℕ} {at a a′ i t : ℕ} → i < length (ranking b) → t < nodeCount b
+      → t ≡ getD (ranking b) i 0 → Wrote out′ a (lineOf b t) a′ out″ → LinesTo b out out′ at a i
+      → LinesTo b out out″ at a′ (i + 1)
   lines-turn {i = i} {t} l m e w h = rw add-one (record {
     inside = omega arith;
-    wrote = wrote-same (ap (λ (x : ℕ). linesOf b (take i (ranking b)) ++ lineOf b x) e ∙ sym (lines-next ok i l)) (wrote-then (h .wrote) w);
+    wrote = wrote-same (ap (λ (x : ℕ). linesOf b (take i (ranking b)) ++ lineOf b x) e ∙ sym (lines-next ok i l))
+        (wrote-then (h .wrote) w);
     short = omega (arith, h .short, w .next, line-limit ok t m);
   })
 
-  pub lines-all : {out out' : List ℕ} {at a i : ℕ} → length (ranking b) ≤ i → LinesTo b out out' at a i → Wrote out at (linesOf b (ranking b)) a out'
+  pub lines-all : {out out′ : List ℕ} {at a i : ℕ} → length (ranking b) ≤ i → LinesTo b out out′ at a i
+      → Wrote out at (linesOf b (ranking b)) a out′
   lines-all {i = i} l h = wrote-same (ap (linesOf b) (take-all i (ranking b) l)) (h .wrote)

@@ -20,7 +20,8 @@ use Rattle.runs.specs.Verdict.{CLEAR, DOOMED, OPEN, Fails, Judged}
 use Rattle.runs.specs.Demand3.{Demand3}
 use Rattle.runs.specs.Model.Verdicts.{verdict}
 use Rattle.runs.proofs.Reflect.{decided}
-use Rattle.runs.proofs.Verdict.Exact.{MayFail, MustFail, SomeLiteral, may-fail-flag, must-fail-may, r-must-fail, clear-is, doomed-is, verdict-exact}
+use Rattle.runs.proofs.Verdict.Exact.{MayFail, MustFail, SomeLiteral, may-fail-flag, must-fail-may, r-must-fail}
+use Rattle.runs.proofs.Verdict.Exact.{clear-is, doomed-is, verdict-exact}
 use Rattle.runs.proofs.Calls.Demand3.{demand3}
 use Rattle.marks_words.specs.Words.{MarkWords, StartWord, FailsWord}
 use Rattle.verdict.specs.declared.Verdict.{Verdict}
@@ -29,11 +30,13 @@ use Rattle.verdict.specs.Verdict.{wordOf, said, answerOf, Assessed}
 
 -- ---- a word without bits: no literal fails
 module _ (p : Plan) (F : ℕ → Bool) (m k : Mark) {w : ℕ} where
-  none-fails : ((f : ℕ) → f < 64 → Says w f ((v : Bool) × Fails p F m k f v)) → ((f : ℕ) (v : Bool) → Fails p F m k f v → f < 64)
+  none-fails : ((f : ℕ) → f < 64 → Says w f ((v : Bool) × Fails p F m k f v))
+      → ((f : ℕ) (v : Bool) → Fails p F m k f v → f < 64)
       → w ≡ 0 → ¬ SomeLiteral (Fails p F m k)
   none-fails s on e x = no-flag w (x .0) e (s (x .0) (on (x .0) (x .1) (x .2)) .from (x .1, x .2))
 
-  some-fails : w < 2 ^ 64 → ((f : ℕ) → f < 64 → Says w f ((v : Bool) × Fails p F m k f v)) → (w ≡ 0 → ⊥) → ¬ (¬ SomeLiteral (Fails p F m k))
+  some-fails : w < 2 ^ 64 → ((f : ℕ) → f < 64 → Says w f ((v : Bool) × Fails p F m k f v)) → (w ≡ 0 → ⊥)
+      → ¬ (¬ SomeLiteral (Fails p F m k))
   some-fails small s n h = n (no-bits w small (λ f l t. let x = s f l .to t in h (f, x .0, x .1)))
 
 -- ---- the verdict, by what may and what must fail
@@ -63,22 +66,29 @@ module _ (b : List ℕ) (ok : refusal b ≡ 0) where
   -- the words of the root and of the start: the flags with a literal that may fail, that must fail
   module _ {words : List ℕ} {start : ℕ} (w : MarkWords (planOf b) 0 words) (s : StartWord (startOf b) start) where
     clear-if : {x : ℕ} → FailsWord words start 6 0 x → x ≡ 0 → ¬ SomeLiteral (MayFail (planOf b) (startOf b))
-    clear-if {x} f e = none-fails (planOf b) (startOf b) may-clobber may-pre (f (planOf b) (startOf b) w s may-clobber may-pre refl refl) may-small e
+    clear-if {x} f e = none-fails (planOf b) (startOf b) may-clobber may-pre
+        (f (planOf b) (startOf b) w s may-clobber may-pre refl refl) may-small e
 
-    may-if : {x : ℕ} → x < 2 ^ 64 → FailsWord words start 6 0 x → (x ≡ 0 → ⊥) → ¬ (¬ SomeLiteral (MayFail (planOf b) (startOf b)))
-    may-if l f n = some-fails (planOf b) (startOf b) may-clobber may-pre l (f (planOf b) (startOf b) w s may-clobber may-pre refl refl) n
+    may-if : {x : ℕ} → x < 2 ^ 64 → FailsWord words start 6 0 x → (x ≡ 0 → ⊥)
+        → ¬ (¬ SomeLiteral (MayFail (planOf b) (startOf b)))
+    may-if l f n = some-fails (planOf b) (startOf b) may-clobber may-pre l
+        (f (planOf b) (startOf b) w s may-clobber may-pre refl refl) n
 
     pub judged-clear : {x : ℕ} → FailsWord words start 6 0 x → x ≡ 0 → CLEAR ≡ verdict (planOf b) (startOf b)
     judged-clear f e = clear-verdict (planOf b) (means-well-formed b ok) (startOf b) (clear-if f e)
 
-    pub judged-doomed : {y : ℕ} → y < 2 ^ 64 → FailsWord words start 7 1 y → (y ≡ 0 → ⊥) → DOOMED ≡ verdict (planOf b) (startOf b)
+    pub judged-doomed : {y : ℕ} → y < 2 ^ 64 → FailsWord words start 7 1 y → (y ≡ 0 → ⊥)
+        → DOOMED ≡ verdict (planOf b) (startOf b)
     judged-doomed l g m = doomed-verdict (planOf b) (means-well-formed b ok) (startOf b)
-        (some-fails (planOf b) (startOf b) must-clobber must-pre l (g (planOf b) (startOf b) w s must-clobber must-pre refl refl) m)
+        (some-fails (planOf b) (startOf b) must-clobber must-pre l
+            (g (planOf b) (startOf b) w s must-clobber must-pre refl refl) m)
 
-    pub judged-open : {x y : ℕ} → x < 2 ^ 64 → FailsWord words start 6 0 x → (x ≡ 0 → ⊥) → FailsWord words start 7 1 y → y ≡ 0
+    pub judged-open : {x y : ℕ} → x < 2 ^ 64 → FailsWord words start 6 0 x → (x ≡ 0 → ⊥) → FailsWord words start 7 1 y
+        → y ≡ 0
         → OPEN ≡ verdict (planOf b) (startOf b)
     judged-open k f n g e = open-verdict (planOf b) (means-well-formed b ok) (startOf b) (may-if k f n)
-        (none-fails (planOf b) (startOf b) must-clobber must-pre (g (planOf b) (startOf b) w s must-clobber must-pre refl refl) must-small e)
+        (none-fails (planOf b) (startOf b) must-clobber must-pre
+            (g (planOf b) (startOf b) w s must-clobber must-pre refl refl) must-small e)
 
 -- ---- the whole answer
 abbrev word-in : verdicts.Verdict → ℕ ⊎ verdicts.Verdict → verdicts.Verdict
@@ -108,4 +118,5 @@ module _ (b : List ℕ) where
       d = demand3 (planOf b) (means-well-formed b z) (startOf b)
 
       is : (u : verdicts.Verdict) → (said (Given v) ≡ inr u) ↔ Judged (planOf b) (startOf b) u
-      is u = Iff·trans (λ q. sym e ∙ ap (word-in u) q, λ q. ap inr (e ∙ q)) (verdict-exact (planOf b) (means-well-formed b z) (startOf b) u)
+      is u = Iff·trans (λ q. sym e ∙ ap (word-in u) q, λ q. ap inr (e ∙ q))
+          (verdict-exact (planOf b) (means-well-formed b z) (startOf b) u)

@@ -20,7 +20,8 @@ abbrev pub SetBelow : List ℕ → ℕ → ℕ → Type 0
 SetBelow b f g = (g < f) × (startFlag b g ≡ true)
 
 module _ (b : List ℕ) (f : ℕ) {word : ℕ} (s : (g : ℕ) → g < 64 → Says word g (SetBelow b f g)) where
-  pub start-set : {next : ℕ} → next ≡ bitOr word (2 ^ f) → startFlag b f ≡ true → (g : ℕ) → g < 64 → Says next g (SetBelow b (f + 1) g)
+  pub start-set : {next : ℕ} → next ≡ bitOr word (2 ^ f) → startFlag b f ≡ true → (g : ℕ) → g < 64
+      → Says next g (SetBelow b (f + 1) g)
   start-set e q g l = says-map (to, from) (says-set f e (s g l))
     where
       to : SetBelow b f g ⊎ (g ≡ f) → SetBelow b (f + 1) g
@@ -34,14 +35,17 @@ module _ (b : List ℕ) (f : ℕ) {word : ℕ} (s : (g : ℕ) → g < 64 → Say
   start-clear q g l = says-map (λ x. (omega (arith, x .0), x .1), from) (s g l)
     where
       from : SetBelow b (f + 1) g → SetBelow b f g
-      from x = by-cases (ℕ-discrete g f) (λ (z : g ≡ f). absurd (true≢false (sym (x .1) ∙ ap (startFlag b) z ∙ q))) (λ k. (omega (arith, x .0), x .1))
+      from x = by-cases (ℕ-discrete g f) (λ (z : g ≡ f). absurd (true≢false (sym (x .1) ∙ ap (startFlag b) z ∙ q)))
+          (λ k. (omega (arith, x .0), x .1))
 
 pub start-none : (b : List ℕ) (g : ℕ) → Says 0 g (SetBelow b 0 g)
 start-none b g = says-none refl (λ x. omega (arith, x .0))
 
-pub start-all : (b : List ℕ) {word : ℕ} → ((g : ℕ) → g < 64 → Says word g (SetBelow b (flagCount b) g)) → StartWord (startOf b) word
+pub start-all : (b : List ℕ) {word : ℕ} → ((g : ℕ) → g < 64 → Says word g (SetBelow b (flagCount b) g))
+    → StartWord (startOf b) word
 unfolding startOf
-start-all b s = record { says = λ f l. says-map (λ x. rw (lt-ltb f (flagCount b) (x .0)) (x .1), λ e. from f e) (s f l) }
+start-all b s = record { says =
+    λ f l. says-map (λ x. rw (lt-ltb f (flagCount b) (x .0)) (x .1), λ e. from f e) (s f l) }
   where
     split : (x y : Bool) → (x && y) ≡ true → (x ≡ true) × (y ≡ true)
     split true y e = (refl, e)

@@ -18,4 +18,5 @@ returns-2 : tie.Need-returns-2
 returns-2 c = rw (c .before .answer2 .given .1)
 
 pub listing-number-spec : {M : Type 1} → statement M
-listing-number-spec = tie.close (tie.spec (λ c. search needs) (λ c. search needs) cast-result add-result (λ c. search needs) returns-2)
+listing-number-spec = tie.close
+    (tie.spec (λ c. search needs) (λ c. search needs) cast-result add-result (λ c. search needs) returns-2)

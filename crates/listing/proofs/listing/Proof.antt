@@ -21,7 +21,8 @@ judge-requires : tie.Need-judge-requires
 judge-requires c κs = passed (c .before)
 
 write-text-requires : tie.Need-write-text-requires
-write-text-requires c κs = let i = c .before .before in (passed (i .before), c .before .judge .ensures, omega (arith, i .if2 .left))
+write-text-requires c κs = let i = c .before .before in
+    (passed (i .before), c .before .judge .ensures, omega (arith, i .if2 .left))
 
 returns-3 : tie.Need-returns-3
 returns-3 c =
@@ -30,4 +31,5 @@ returns-3 c =
     lists-text _ _ (passed (i .before)) (omega (arith, i .if2 .left)) (w .write-text .ensures)
 
 pub listing-spec : {M : Type 1} → statement M
-listing-spec = tie.close (tie.spec (λ c κs. search needs) returns returns-2 judge-requires write-text-requires (λ c. search needs) returns-3)
+listing-spec = tie.close (tie.spec (λ c κs. search needs) returns returns-2 judge-requires write-text-requires
+    (λ c. search needs) returns-3)

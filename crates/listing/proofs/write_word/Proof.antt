@@ -9,13 +9,16 @@ use Rattle.listing.proofs.write_word.Statement.{statement}
 use Rattle.listing.proofs.write_word.Tie as tie
 
 returns : tie.Need-returns
-returns c = wrote-same (ap (λ (v : Verdict). letters (wordOf v)) (sym (c .before .before .before .before .before .enum-told .given .1))) (c .before .before .write-bytes .ensures)
+returns c = wrote-same (ap (λ (v : Verdict). letters (wordOf v))
+    (sym (c .before .before .before .before .before .enum-told .given .1))) (c .before .before .write-bytes .ensures)
 
 returns-2 : tie.Need-returns-2
-returns-2 c = wrote-same (ap (λ (v : Verdict). letters (wordOf v)) (sym (c .before .before .before .before .before .enum-told2 .given .1))) (c .before .before .write-bytes2 .ensures)
+returns-2 c = wrote-same (ap (λ (v : Verdict). letters (wordOf v))
+    (sym (c .before .before .before .before .before .enum-told2 .given .1))) (c .before .before .write-bytes2 .ensures)
 
 returns-3 : tie.Need-returns-3
-returns-3 c = wrote-same (ap (λ (v : Verdict). letters (wordOf v)) (sym (c .before .before .before .before .before .enum-told3 .given .1))) (c .before .before .write-bytes3 .ensures)
+returns-3 c = wrote-same (ap (λ (v : Verdict). letters (wordOf v))
+    (sym (c .before .before .before .before .before .enum-told3 .given .1))) (c .before .before .write-bytes3 .ensures)
 
 pub write-word-spec : {M : Type 1} → statement M
 write-word-spec =

@@ -20,20 +20,24 @@ returns : tie.Need-returns
 returns c = first (now (c .before .before .args .plan)) (c .if1 .taken)
 
 returns-2 : tie.Need-returns-2
-returns-2 c = second (now (c .before .before .before .before .args .plan)) (omega arith) (sym (c .before .sizes-bad .ensures) ∙ c .if2 .taken)
+returns-2 c = second (now (c .before .before .before .before .args .plan)) (omega arith)
+    (sym (c .before .sizes-bad .ensures) ∙ c .if2 .taken)
 
 whole-length-requires : tie.Need-whole-length-requires
 whole-length-requires c κs = sized c
 
 returns-3 : tie.Need-returns-3
-returns-3 c = third (now (c .before .before .before .before .before .before .args .plan)) (sized (c .before .before) .long) (in-limits (c .before .before)) (λ e. c .if3 .taken (omega arith))
+returns-3 c = third (now (c .before .before .before .before .before .before .args .plan))
+    (sized (c .before .before) .long) (in-limits (c .before .before)) (λ e. c .if3 .taken (omega arith))
 
 check-nodes-requires : tie.Need-check-nodes-requires
-check-nodes-requires c κs = whole (now (c .before .before .before .before .before .before .args .plan)) (sized (c .before .before)) (omega arith)
+check-nodes-requires c κs = whole (now (c .before .before .before .before .before .before .args .plan))
+    (sized (c .before .before)) (omega arith)
 
 returns-4 : tie.Need-returns-4
 returns-4 c =
-    let e = rest (now (c .before .before .before .before .before .before .before .args .plan)) (sized (c .before .before .before) .long) (in-limits (c .before .before .before)) (omega arith) in
+    let e = rest (now (c .before .before .before .before .before .before .before .args .plan))
+        (sized (c .before .before .before) .long) (in-limits (c .before .before .before)) (omega arith) in
     c .check-nodes .ensures ∙ e
 
 pub check-spec : {M : Type 1} → statement M

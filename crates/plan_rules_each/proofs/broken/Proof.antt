@@ -4,7 +4,8 @@ use Rattle.plan_rules.proofs.Laws.{some-yes, none-more, none-none}
 use Rattle.plan_rules.specs.Search.{someBelow}
 use Rattle.plan_rules.specs.Rules.{cause4, cause5, cause6, cause7, cause9, cause10, cause13, cause14}
 use Rattle.plan_rules_each.specs.declared.Rule.{Rule}
-use Rattle.plan_rules_each.specs.declared.Rule.the-variants.{Starts, Names, Entries, Parents, Conditions, RisingConditions, Orders, RisingOrders}
+use Rattle.plan_rules_each.specs.declared.Rule.the-variants.{Starts, Names, Entries, Parents, Conditions}
+use Rattle.plan_rules_each.specs.declared.Rule.the-variants.{RisingConditions, Orders, RisingOrders}
 use denote.Ref.{now}
 use mathlib.Core.Bool.{false}
 use mathlib.Core.Path.{_≡_, refl, sym, _∙_}
@@ -45,10 +46,12 @@ returns : tie.Need-returns Inv-loop μ-loop
 returns c =
     let l = c .before .before .before in
     let a = l .before .before .before .args in
-    sym (some-yes (countOf (a .rule) (now (a .plan))) (brokenAt (a .rule) (now (a .plan))) (l .loop .i) (omega arith) (sym (c .before .broken-at .ensures) ∙ c .if1 .taken)) ∙ searched (a .rule) (now (a .plan))
+    sym (some-yes (countOf (a .rule) (now (a .plan))) (brokenAt (a .rule) (now (a .plan))) (l .loop .i) (omega arith)
+        (sym (c .before .broken-at .ensures) ∙ c .if1 .taken)) ∙ searched (a .rule) (now (a .plan))
 
 loop-again : tie.Need-loop-again Inv-loop μ-loop
-loop-again c = (omega arith, none-more _ _ (c .before .before .before .loop .inv .1) (sym (c .before .broken-at .ensures) ∙ c .if1 .left))
+loop-again c = (omega arith, none-more _ _ (c .before .before .before .loop .inv .1)
+    (sym (c .before .broken-at .ensures) ∙ c .if1 .left))
 
 returns-2 : tie.Need-returns-2 Inv-loop μ-loop
 returns-2 c =

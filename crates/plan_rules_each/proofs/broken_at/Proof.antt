@@ -7,7 +7,8 @@ use denote.Ref.{now}
 use mathlib.Core.Path.{_≡_, sym, ap, subst, _∙_}
 use Rattle.plan_rules_each.specs.Indexed.{countOf, brokenAt}
 use Rattle.plan_rules_each.specs.declared.Rule.{Rule}
-use Rattle.plan_rules_each.specs.declared.Rule.the-variants.{Starts, Names, Entries, Parents, Conditions, RisingConditions, Orders, RisingOrders}
+use Rattle.plan_rules_each.specs.declared.Rule.the-variants.{Starts, Names, Entries, Parents, Conditions}
+use Rattle.plan_rules_each.specs.declared.Rule.the-variants.{RisingConditions, Orders, RisingOrders}
 use Rattle.plan_rules_each.proofs.broken_at.Statement.{statement}
 use Rattle.plan_rules_each.proofs.broken_at.Tie as tie
 
@@ -46,7 +47,8 @@ bad-condition-requires c κs =
 conditions-fall-requires : tie.Need-conditions-fall-requires
 conditions-fall-requires c κs =
     let s = c .before .before .before in
-    (omega (arith, at _ RisingConditions (now (s .args .plan)) (s .args .i) (c .enum-told6 .given .1) (s .pre .0)), s .pre .1)
+    (omega (arith, at _ RisingConditions (now (s .args .plan)) (s .args .i) (c .enum-told6 .given .1) (s .pre .0)),
+        s .pre .1)
 
 bad-order-requires : tie.Need-bad-order-requires
 bad-order-requires c κs =
@@ -56,7 +58,8 @@ bad-order-requires c κs =
 orders-fall-requires : tie.Need-orders-fall-requires
 orders-fall-requires c κs =
     let s = c .before .before .before in
-    (omega (arith, at _ RisingOrders (now (s .args .plan)) (s .args .i) (c .enum-told8 .given .1) (s .pre .0)), s .pre .1)
+    (omega (arith, at _ RisingOrders (now (s .args .plan)) (s .args .i) (c .enum-told8 .given .1) (s .pre .0)),
+        s .pre .1)
 
 returns : tie.Need-returns
 returns c = tested _ Starts _ _ _ (c .before .enum-told .given .1) (c .bad-start .ensures)

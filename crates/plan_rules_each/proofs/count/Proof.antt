@@ -5,7 +5,8 @@ use mathlib.Core.List.{List}
 use mathlib.Core.Path.{_≡_, refl, sym, ap, _∙_}
 use Rattle.plan_rules_each.specs.Indexed.{countOf}
 use Rattle.plan_rules_each.specs.declared.Rule.{Rule}
-use Rattle.plan_rules_each.specs.declared.Rule.the-variants.{Starts, Names, Entries, Parents, Conditions, RisingConditions, Orders, RisingOrders}
+use Rattle.plan_rules_each.specs.declared.Rule.the-variants.{Starts, Names, Entries, Parents, Conditions}
+use Rattle.plan_rules_each.specs.declared.Rule.the-variants.{RisingConditions, Orders, RisingOrders}
 use Rattle.plan_rules.proofs.Laws.{whole-head}
 use Rattle.plan_rules_each.proofs.count.Statement.{statement}
 use Rattle.plan_rules_each.proofs.count.Tie as tie
@@ -41,6 +42,8 @@ count-spec =
     (λ c. counted _ Entries _ (c .before .enum-told3 .given .1) (c .nodes2 .ensures))
     (λ c. counted _ Parents _ (c .before .enum-told4 .given .1) (c .nodes3 .ensures))
     (λ c. counted _ Conditions _ (c .before .enum-told5 .given .1) (c .conditions .ensures))
-    (λ c. counted _ RisingConditions _ (c .before .before .enum-told6 .given .1) (c .less-one .ensures ∙ ap (λ (n : ℕ). n - 1) (c .before .conditions2 .ensures)))
+    (λ c. counted _ RisingConditions _ (c .before .before .enum-told6 .given .1)
+        (c .less-one .ensures ∙ ap (λ (n : ℕ). n - 1) (c .before .conditions2 .ensures)))
     (λ c. counted _ Orders _ (c .before .enum-told7 .given .1) (c .orders .ensures))
-    (λ c. counted _ RisingOrders _ (c .before .before .enum-told8 .given .1) (c .less-one2 .ensures ∙ ap (λ (n : ℕ). n - 1) (c .before .orders2 .ensures))))
+    (λ c. counted _ RisingOrders _ (c .before .before .enum-told8 .given .1)
+        (c .less-one2 .ensures ∙ ap (λ (n : ℕ). n - 1) (c .before .orders2 .ensures))))

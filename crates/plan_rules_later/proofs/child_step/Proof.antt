@@ -9,4 +9,5 @@ unfolding childStep
 returns c = rw (c .parent .ensures, c .before .is-group .ensures)
 
 pub child-step-spec : {M : Type 1} → statement M
-child-step-spec = tie.close (tie.spec (λ c κs. c .before .pre .1) (λ c. omega arith) (λ c κs. c .before .before .pre) returns)
+child-step-spec = tie.close (tie.spec (λ c κs. c .before .pre .1) (λ c. omega arith)
+    (λ c κs. c .before .before .pre) returns)

@@ -22,7 +22,9 @@ abbrev stepsBack : List ℕ → Pass → ℕ → Step
 stepsBack plan pass = backwards (stepsOf pass plan) (stepOf pass plan)
 
 abbrev Inv-loop : tie.InvT-loop
-Inv-loop plan pass n table₀ m₀ table m = (m ≤ n) × ((length table ≡ 256) × (Holds (stepsBack plan pass) m table × (someBelow m (refuses (stepsBack plan pass)) ≡ false)))
+Inv-loop plan pass n table₀ m₀ table m = (m ≤ n)
+    × ((length table ≡ 256) × (Holds (stepsBack plan pass) m table
+    × (someBelow m (refuses (stepsBack plan pass)) ≡ false)))
 
 abbrev μ-loop : tie.MeasureT-loop
 μ-loop plan pass n table₀ m₀ table m = n - m
@@ -46,30 +48,39 @@ array-read-found : tie.Need-array-read-found Inv-loop μ-loop
 array-read-found c = c .wide .ensures .1
 
 -- the step of this turn
-is-step : (c : tie.After-step-at Inv-loop μ-loop) → c .step-at .result ≡ stepsBack (now (c .before .before .before .before .before .before .args .plan)) (c .before .before .before .before .before .before .args .pass) (c .before .before .loop .m)
+is-step : (c : tie.After-step-at Inv-loop μ-loop)
+    → c .step-at .result ≡ stepsBack (now (c .before .before .before .before .before .before .args .plan))
+    (c .before .before .before .before .before .before .args .pass) (c .before .before .loop .m)
 unfolding backwards
 is-step c =
     let s = c .before .before .before .before .before .before in
-    c .step-at .ensures ∙ ap (λ (n : ℕ). stepOf (s .args .pass) (now (s .args .plan)) (n - 1 - c .before .before .loop .m)) (c .before .before .before .before .steps .ensures)
+    c .step-at .ensures ∙ ap (λ (n : ℕ). stepOf (s .args .pass) (now (s .args .plan))
+        (n - 1 - c .before .before .loop .m)) (c .before .before .before .before .steps .ensures)
 
 -- what it asks of the table
 asks : (c : tie.After-struct-known3 Inv-loop μ-loop) →
-    refusesAt (c .before .before .before .before .step-at .result) (getD (c .before .before .before .before .before .before .loop .table) (c .before .before .before .wide .result) 0)
+    refusesAt (c .before .before .before .before .step-at .result)
+        (getD (c .before .before .before .before .before .before .loop .table)
+        (c .before .before .before .wide .result) 0)
     ≡ refuses (stepsBack (now (c .before .before .before .before .before .before .before .before .before .before .args .plan)) (c .before .before .before .before .before .before .before .before .before .before .args .pass)) (c .before .before .before .before .before .before .loop .m)
 asks c =
     let w = c .before .before .before in
     let l = w .before .before .before in
-    asked _ (l .loop .m) (l .loop .table) (w .before .step-at .result) (w .wide .result) (is-step (w .before)) (l .loop .inv .1 .1 .0) (w .wide .ensures .0) (w .wide .ensures .1)
+    asked _ (l .loop .m) (l .loop .table) (w .before .step-at .result) (w .wide .result) (is-step (w .before))
+        (l .loop .inv .1 .1 .0) (w .wide .ensures .0) (w .wide .ensures .1)
 
 -- the table after it
 next : (c : tie.Joined2 Inv-loop μ-loop) →
-    (length (c .if2 .table) ≡ 256) × Holds (stepsBack (now (c .before .before .before .before .before .before .before .before .before .before .before .before .args .plan)) (c .before .before .before .before .before .before .before .before .before .before .before .before .args .pass)) (c .before .before .before .before .before .before .before .before .loop .m + 1) (c .if2 .table)
+    (length (c .if2 .table) ≡ 256) × Holds
+        (stepsBack (now (c .before .before .before .before .before .before .before .before .before .before .before .before .args .plan)) (c .before .before .before .before .before .before .before .before .before .before .before .before .args .pass)) (c .before .before .before .before .before .before .before .before .loop .m + 1) (c .if2 .table)
 next c =
     let d = c .before .before .before .before .before .before in
     let l = d .before .before in
     ⊎-elim
-    (λ w. written _ (l .loop .m) (l .loop .table) (c .if2 .table) (d .step-at .result) (is-step d) (l .loop .inv .1 .0) (l .loop .inv .1 .1 .0) (w .1 .result) (w .0 .taken) (w .1 .ensures .0) (w .1 .ensures .1) (w .2))
-    (λ w. kept _ (l .loop .m) (l .loop .table) (c .if2 .table) (d .step-at .result) (is-step d) (l .loop .inv .1 .0) (l .loop .inv .1 .1 .0) (w .0 .left) (w .1))
+    (λ w. written _ (l .loop .m) (l .loop .table) (c .if2 .table) (d .step-at .result) (is-step d) (l .loop .inv .1 .0)
+        (l .loop .inv .1 .1 .0) (w .1 .result) (w .0 .taken) (w .1 .ensures .0) (w .1 .ensures .1) (w .2))
+    (λ w. kept _ (l .loop .m) (l .loop .table) (c .if2 .table) (d .step-at .result) (is-step d) (l .loop .inv .1 .0)
+        (l .loop .inv .1 .1 .0) (w .0 .left) (w .1))
     (c .if2 .came)
 
 returns : tie.Need-returns Inv-loop μ-loop
@@ -77,7 +88,10 @@ unfolding passRefuses
 returns c =
     let l = c .before .before .before .before .before .before .before in
     let a = l .before .before .before .before .args in
-    sym (some-yes (stepsOf (a .pass) (now (a .plan))) (refuses (stepsBack (now (a .plan)) (a .pass))) (l .loop .m) (omega arith) (sym (asks (c .before)) ∙ c .if1 .taken)) ∙ pass-is (a .pass) (now (a .plan)) (l .before .before .before .before .pre .0) (l .before .before .before .before .pre .1)
+    sym (some-yes (stepsOf (a .pass) (now (a .plan))) (refuses (stepsBack (now (a .plan)) (a .pass))) (l .loop .m)
+        (omega arith) (sym (asks (c .before)) ∙ c .if1 .taken))
+        ∙ pass-is (a .pass) (now (a .plan)) (l .before .before .before .before .pre .0)
+        (l .before .before .before .before .pre .1)
 
 wide-requires-2 : tie.Need-wide-requires-2 Inv-loop μ-loop
 wide-requires-2 c κs = tt
@@ -89,7 +103,8 @@ loop-again : tie.Need-loop-again Inv-loop μ-loop
 loop-again c =
     let l = c .before .before .before .before .before .before .before .before in
     let t = next c in
-    (omega arith, (t .0, (t .1, none-more _ _ (l .loop .inv .1 .1 .1) (sym (asks (c .before .before)) ∙ c .before .if1 .left))))
+    (omega arith, (t .0, (t .1, none-more _ _ (l .loop .inv .1 .1 .1)
+        (sym (asks (c .before .before)) ∙ c .before .if1 .left))))
 
 returns-2 : tie.Need-returns-2 Inv-loop μ-loop
 unfolding passRefuses
@@ -97,7 +112,9 @@ returns-2 c =
     let l = c .before in
     let a = l .before .before .before .before .args in
     let e : l .loop .m ≡ stepsOf (a .pass) (now (a .plan)) = omega arith in
-    sym (rw e at (l .loop .inv .1 .1 .1)) ∙ pass-is (a .pass) (now (a .plan)) (l .before .before .before .before .pre .0) (l .before .before .before .before .pre .1)
+    sym (rw e at (l .loop .inv .1 .1 .1))
+        ∙ pass-is (a .pass) (now (a .plan)) (l .before .before .before .before .pre .0)
+        (l .before .before .before .before .pre .1)
 
 pub refuses-spec : {M : Type 1} → statement M
 refuses-spec =

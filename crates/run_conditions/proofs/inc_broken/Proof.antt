@@ -11,26 +11,38 @@ use lib.ListN.{replicate}
 use mathlib.Core.List.{List}
 use Prim.Native.Nat.{ℕ}
 use Rattle.run_flags.specs.Flags.{allByte}
-use Rattle.run_conditions.specs.Conditions.{brokenAt, made}
+use Rattle.run_state.specs.Made.{made}
+use Rattle.run_conditions.specs.Conditions.{brokenAt}
 use native.Mathlib.Omega.{arith}
 use Rattle.run_conditions.proofs.inc_broken.Statement.{statement}
 use Rattle.run_conditions.proofs.inc_broken.Tie as tie
 
 abbrev Inv-loop : tie.InvT-loop
-Inv-loop plan state place task clear set n i₀ i = (i ≤ n) × (someBelow i (brokenAt plan state (clear .bytes) (set .bytes) task) ≡ false)
+Inv-loop plan state place task clear set n i₀ i = (i ≤ n)
+    × (someBelow i (brokenAt plan state (clear .bytes) (set .bytes) task) ≡ false)
 
 abbrev μ-loop : tie.MeasureT-loop
 μ-loop plan state place task clear set n i₀ i = n - i
 
-clear-is : (c : tie.After-all2 Inv-loop μ-loop) → c .before .with-literals .result .bytes ≡ made (now (c .before .before .before .before .before .args .plan)) (c .before .before .before .before .before .args .place) (c .before .before .before .before .before .args .task) (replicate 8 (allByte false))
+clear-is : (c : tie.After-all2 Inv-loop μ-loop)
+    → c .before .with-literals .result .bytes
+    ≡ made (now (c .before .before .before .before .before .args .plan))
+    (c .before .before .before .before .before .args .place) (c .before .before .before .before .before .args .task)
+    (replicate 8 (allByte false))
 clear-is c =
     let a = c .before .before .before .before .before .args in
-    c .before .with-literals .ensures ∙ ap (λ (x : List ℕ). made (now (a .plan)) (a .place) (a .task) x) (c .before .before .all .ensures)
+    c .before .with-literals .ensures
+        ∙ ap (λ (x : List ℕ). made (now (a .plan)) (a .place) (a .task) x) (c .before .before .all .ensures)
 
-set-is : (c : tie.After-with-literals2 Inv-loop μ-loop) → c .with-literals2 .result .bytes ≡ made (now (c .before .before .before .before .before .before .args .plan)) (c .before .before .before .before .before .before .args .place) (c .before .before .before .before .before .before .args .task) (replicate 8 (allByte true))
+set-is : (c : tie.After-with-literals2 Inv-loop μ-loop)
+    → c .with-literals2 .result .bytes
+    ≡ made (now (c .before .before .before .before .before .before .args .plan))
+    (c .before .before .before .before .before .before .args .place)
+    (c .before .before .before .before .before .before .args .task) (replicate 8 (allByte true))
 set-is c =
     let a = c .before .before .before .before .before .before .args in
-    c .with-literals2 .ensures ∙ ap (λ (x : List ℕ). made (now (a .plan)) (a .place) (a .task) x) (c .before .all2 .ensures)
+    c .with-literals2 .ensures ∙ ap (λ (x : List ℕ). made (now (a .plan)) (a .place) (a .task) x)
+        (c .before .all2 .ensures)
 
 loop-holds : tie.Need-loop-holds Inv-loop μ-loop
 loop-holds c = (omega arith, none-none _)
@@ -41,15 +53,19 @@ broken-at-requires c κs = (omega arith, c .before .before .before .before .befo
 returns : tie.Need-returns Inv-loop μ-loop
 returns c =
     let l = c .before .before .before in
-    rw (← clear-is (l .before .before .before), ← set-is (l .before .before)) (sym (some-yes (condCount _) _ (l .loop .i) (omega arith) (sym (c .before .broken-at .ensures) ∙ c .if1 .taken)))
+    rw (← clear-is (l .before .before .before), ← set-is (l .before .before))
+        (sym (some-yes (condCount _) _ (l .loop .i) (omega arith)
+        (sym (c .before .broken-at .ensures) ∙ c .if1 .taken)))
 
 loop-again : tie.Need-loop-again Inv-loop μ-loop
-loop-again c = (omega arith, none-more _ _ (c .before .before .before .loop .inv .1) (sym (c .before .broken-at .ensures) ∙ c .if1 .left))
+loop-again c = (omega arith, none-more _ _ (c .before .before .before .loop .inv .1)
+    (sym (c .before .broken-at .ensures) ∙ c .if1 .left))
 
 returns-2 : tie.Need-returns-2 Inv-loop μ-loop
 returns-2 c =
     let l = c .before in
-    let e : l .loop .i ≡ condCount (now (l .before .before .before .before .before .before .before .before .args .plan)) = omega arith in
+    let e : l .loop .i ≡ condCount (now
+        (l .before .before .before .before .before .before .before .before .args .plan)) = omega arith in
     rw (← clear-is (l .before .before .before), ← set-is (l .before .before)) (sym (rw e at (l .loop .inv .1)))
 
 pub inc-broken-spec : {M : Type 1} → statement M

@@ -1,6 +1,6 @@
 -- `run_conditions::is_of` meets its contract. Assumes nothing.
 use Rattle.plan_check.proofs.Accepted.{clean}
-use Rattle.run_conditions.specs.Conditions.{isOf}
+use Rattle.run_state.specs.Made.{isOf}
 use Rattle.run_conditions.proofs.Laws.{values}
 use borrow.Author.Needs.{needs}
 use native.Mathlib.Omega.{arith}
@@ -14,11 +14,13 @@ condition-value-requires : tie.Need-condition-value-requires
 condition-value-requires c κs = let s = c .before .before .before in (s .pre .0, clean _ (s .pre .1) .fits)
 
 place-of-requires : tie.Need-place-of-requires
-place-of-requires c κs = let s = c .before .before .before .before in omega (arith, c .condition-value .ensures, values _ (s .pre .1) .value (s .args .i) (s .pre .0))
+place-of-requires c κs = let s = c .before .before .before .before in
+    omega (arith, c .condition-value .ensures, values _ (s .pre .1) .value (s .args .i) (s .pre .0))
 
 returns : tie.Need-returns
 unfolding isOf
-returns c = rw (c .before .before .wide .ensures .0, c .before .before .before .condition-node .ensures, c .place-of .ensures, c .before .condition-value .ensures)
+returns c = rw (c .before .before .wide .ensures .0, c .before .before .before .condition-node .ensures,
+    c .place-of .ensures, c .before .condition-value .ensures)
 
 pub is-of-spec : {M : Type 1} → statement M
 is-of-spec =

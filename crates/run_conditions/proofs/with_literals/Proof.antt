@@ -6,7 +6,7 @@ use denote.Ref.{now}
 use Rattle.run_flags.specs.declared.Flags.{Flags}
 use Rattle.plan_format.specs.Format.{condCount}
 use Rattle.plan_check.proofs.Accepted.{clean}
-use Rattle.run_conditions.specs.Conditions.{literals, made}
+use Rattle.run_state.specs.Made.{literals, made}
 use Rattle.run_conditions.proofs.Laws.{literals-none, literals-turn, literals-kept}
 use native.Mathlib.Omega.{arith}
 use Rattle.run_conditions.proofs.with_literals.Statement.{statement}
@@ -40,8 +40,11 @@ loop-again c =
     let k = c .before .is-of .ensures in (
       omega arith,
       ⊎-elim
-          (λ w. ap (λ (f : Flags). f .bytes) (w .4) ∙ w .3 .ensures ∙ literals-turn _ _ _ _ (l .loop .i) _ _ _ (l .loop .inv .1) (w .1 .ensures .0) (w .2 .ensures) (sym k ∙ w .0 .taken))
-          (λ w. ap (λ (f : Flags). f .bytes) (w .1) ∙ l .loop .inv .1 ∙ literals-kept _ _ _ _ (l .loop .i) (sym k ∙ w .0 .left))
+          (λ w. ap (λ (f : Flags). f .bytes) (w .4) ∙ w .3 .ensures
+              ∙ literals-turn _ _ _ _ (l .loop .i) _ _ _ (l .loop .inv .1) (w .1 .ensures .0) (w .2 .ensures)
+              (sym k ∙ w .0 .taken))
+          (λ w. ap (λ (f : Flags). f .bytes) (w .1) ∙ l .loop .inv .1
+              ∙ literals-kept _ _ _ _ (l .loop .i) (sym k ∙ w .0 .left))
           (c .if1 .came),
     )
 

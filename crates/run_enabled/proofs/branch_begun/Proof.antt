@@ -16,7 +16,9 @@ use Rattle.run_enabled.proofs.branch_begun.Statement.{statement}
 use Rattle.run_enabled.proofs.branch_begun.Tie as tie
 
 abbrev Inv-loop : tie.InvT-loop
-Inv-loop plan state begun task n₀ n = Under (planOf plan) n task × ((n < nodeCount plan) × (BranchBegun (planOf plan) (statusIn plan state) task → BranchBegun (planOf plan) (statusIn plan state) n))
+Inv-loop plan state begun task n₀ n = Under (planOf plan) n task
+    × ((n < nodeCount plan) × (BranchBegun (planOf plan) (statusIn plan state) task
+    → BranchBegun (planOf plan) (statusIn plan state) n))
 
 abbrev μ-loop : tie.MeasureT-loop
 μ-loop plan state begun task n₀ n = n
@@ -27,7 +29,8 @@ room c = has-room _ _ (c .pre .0 .1)
 abbrev start : tie.After-wide Inv-loop μ-loop → tie.Start Inv-loop μ-loop
 start c = c .before .before .before .before .before .before
 
-parent-is : (c : tie.After-wide Inv-loop μ-loop) → c .wide .result ≡ parentOf (now (start c .args .plan)) (c .before .before .before .loop .n)
+parent-is : (c : tie.After-wide Inv-loop μ-loop)
+    → c .wide .result ≡ parentOf (now (start c .args .plan)) (c .before .before .before .loop .n)
 parent-is c = c .wide .ensures .0 ∙ c .before .parent .ensures
 
 loop-holds : tie.Need-loop-holds Inv-loop μ-loop
@@ -37,32 +40,39 @@ parent-requires : tie.Need-parent-requires Inv-loop μ-loop
 parent-requires c κs = (c .before .loop .inv .1 .0, room (c .before .before .before .before) .plan .fits)
 
 rival-begun-requires : tie.Need-rival-begun-requires Inv-loop μ-loop
-rival-begun-requires c κs = let s = start c in ((omega arith, (c .before .before .before .loop .inv .1 .0, (parent-is c, s .pre .0 .1))), s .pre .1)
+rival-begun-requires c κs = let s = start c in
+    ((omega arith, (c .before .before .before .loop .inv .1 .0, (parent-is c, s .pre .0 .1))), s .pre .1)
 
 returns : tie.Need-returns Inv-loop μ-loop
 returns c =
     let w = c .before .before in
     let l = w .before .before .before in
     let s = start w in
-    begun-yes _ _ (s .pre .0 .1) (s .args .task) (rival-here _ _ (s .pre .0 .1) (l .loop .n) (w .wide .result) (omega arith) (l .loop .inv .1 .0) (parent-is w) (l .loop .inv .0) (sym (c .before .rival-begun .ensures) ∙ c .if1 .taken))
+    begun-yes _ _ (s .pre .0 .1) (s .args .task)
+        (rival-here _ _ (s .pre .0 .1) (l .loop .n) (w .wide .result) (omega arith) (l .loop .inv .1 .0) (parent-is w)
+        (l .loop .inv .0) (sym (c .before .rival-begun .ensures) ∙ c .if1 .taken))
 
 loop-less : tie.Need-loop-less Inv-loop μ-loop
 loop-less c =
     let w = c .before .before in
     let l = w .before .before .before in
-    parent-lower _ (room (start w) .accepted) (l .loop .n) (w .wide .result) (omega arith) (l .loop .inv .1 .0) (parent-is w)
+    parent-lower _ (room (start w) .accepted) (l .loop .n) (w .wide .result) (omega arith) (l .loop .inv .1 .0)
+        (parent-is w)
 
 loop-again : tie.Need-loop-again Inv-loop μ-loop
 loop-again c =
     let w = c .before .before in
     let l = w .before .before .before in
     let s = start w in
-    let lower = parent-lower _ (room s .accepted) (l .loop .n) (w .wide .result) (omega arith) (l .loop .inv .1 .0) (parent-is w) in (
-      parent-above _ (room s .accepted) (l .loop .n) (w .wide .result) (omega arith) (l .loop .inv .1 .0) (parent-is w) (l .loop .inv .0),
+    let lower = parent-lower _ (room s .accepted) (l .loop .n) (w .wide .result) (omega arith) (l .loop .inv .1 .0)
+        (parent-is w) in (
+      parent-above _ (room s .accepted) (l .loop .n) (w .wide .result) (omega arith) (l .loop .inv .1 .0) (parent-is w)
+          (l .loop .inv .0),
       (
         omega (arith, lower, l .loop .inv .1 .0),
         λ x.
-            rival-up _ _ (s .pre .0 .1) (l .loop .n) (w .wide .result) (omega arith) (l .loop .inv .1 .0) (parent-is w) (sym (c .before .rival-begun .ensures) ∙ c .if1 .left) (l .loop .inv .1 .1 x),
+            rival-up _ _ (s .pre .0 .1) (l .loop .n) (w .wide .result) (omega arith) (l .loop .inv .1 .0) (parent-is w)
+                (sym (c .before .rival-begun .ensures) ∙ c .if1 .left) (l .loop .inv .1 .1 x),
       ),
     )
 

@@ -27,4 +27,5 @@ unfolding byteWith bit
 returns-3 c = simp (c .before .if1 .left, ne-eqb _ _ (c .if2 .left))
 
 pub byte-with-spec : {M : Type 1} → statement M
-byte-with-spec = tie.close (tie.spec (λ c. search needs) (λ c. search needs) (λ c. search needs) (λ c. search needs) returns returns-2 returns-3)
+byte-with-spec = tie.close (tie.spec (λ c. search needs) (λ c. search needs) (λ c. search needs)
+    (λ c. search needs) returns returns-2 returns-3)

@@ -11,7 +11,8 @@ use Rattle.run_flags.proofs.store.Statement.{statement}
 use Rattle.run_flags.proofs.store.Tie as tie
 
 abbrev Inv-loop : tie.InvT-loop
-Inv-loop state₀ bytes i₀ state i = (i ≤ 8) × ((length bytes ≡ 8) × ((length state ≡ length state₀) × (state ≡ take i bytes ++ drop i state₀)))
+Inv-loop state₀ bytes i₀ state i = (i ≤ 8)
+    × ((length bytes ≡ 8) × ((length state ≡ length state₀) × (state ≡ take i bytes ++ drop i state₀)))
 
 abbrev μ-loop : tie.MeasureT-loop
 μ-loop state₀ bytes i₀ state i = 8 - i
@@ -35,7 +36,10 @@ loop-again : tie.Need-loop-again Inv-loop μ-loop
 loop-again c =
     let l = c .before in
     let s = l .before .before in
-    (omega arith, (l .loop .inv .1 .0, (simp length-set (omega arith), rw (l .loop .inv .1 .1 .1) (copy-more (s .args .flags .bytes) (s .args .state .now) (l .loop .i) (omega arith) (omega arith)))))
+    (omega arith, (l .loop .inv .1 .0,
+        (simp length-set (omega arith),
+        rw (l .loop .inv .1 .1 .1) (copy-more (s .args .flags .bytes) (s .args .state .now) (l .loop .i) (omega arith)
+        (omega arith)))))
 
 same-length : tie.Need-same-length Inv-loop μ-loop
 same-length c = c .before .loop .inv .1 .1 .0

@@ -10,10 +10,15 @@ use borrow.Author.Needs.{needs}
 use Rattle.run_monitor.proofs.call.Statement.{statement}
 use Rattle.run_monitor.proofs.call.Tie as tie
 
-passed : (c : tie.Else1) → stateRefusal (now (c .before .before .before .before .before .args .plan)) (now (c .before .before .before .before .before .args .state)) ≡ 0
+passed : (c : tie.Else1) → stateRefusal (now (c .before .before .before .before .before .args .plan))
+    (now (c .before .before .before .before .before .args .state)) ≡ 0
 passed c = sym (c .before .check-state .ensures) ∙ c .if1 .left
 
-none : (c : tie.Else2) → eventRefusal (now (c .before .before .before .before .before .before .before .before .args .plan)) (now (c .before .before .before .before .before .before .before .before .args .state)) (eventOf (c .before .before .before .before .before .before .before .before .args .m) (c .before .before .before .before .before .before .before .before .args .task)) ≡ 0
+none : (c : tie.Else2) → eventRefusal
+    (now (c .before .before .before .before .before .before .before .before .args .plan))
+    (now (c .before .before .before .before .before .before .before .before .args .state))
+    (eventOf (c .before .before .before .before .before .before .before .before .args .m)
+    (c .before .before .before .before .before .before .before .before .args .task)) ≡ 0
 none c = sym (c .before .refused .ensures) ∙ c .if2 .left
 
 returns : tie.Need-returns
@@ -26,12 +31,16 @@ write-event-requires : tie.Need-write-event-requires
 write-event-requires c κs =
     let a = c .before .before .before .before .before .before .before .before .before .before .before .args in
     let ok = passed (c .before .before .before .before .before .before) in
-    (kind-is _ _ 0 (answer-task _ _ ok (a .task) _ (node-of (a .m) (a .task)) (none (c .before .before .before))) .0, ok)
+    (kind-is _ _ 0 (answer-task _ _ ok (a .task) _ (node-of (a .m) (a .task)) (none (c .before .before .before))) .0,
+        ok)
 
 returns-3 : tie.Need-returns-3
 returns-3 c =
     let a = c .before .before .before .before .before .before .before .before .before .before .before .before .before .before .args in
-    called-0 _ _ (a .m) (a .task) (passed (c .before .before .before .before .before .before .before .before .before)) (none (c .before .before .before .before .before .before)) _ (c .before .before .before .before .place-of .ensures) _ (c .before .before .before .given .ensures) _ (c .before .before .write-event .ensures)
+    called-0 _ _ (a .m) (a .task) (passed (c .before .before .before .before .before .before .before .before .before))
+        (none (c .before .before .before .before .before .before)) _
+        (c .before .before .before .before .place-of .ensures) _ (c .before .before .before .given .ensures) _
+        (c .before .before .write-event .ensures)
 
 pub call-spec : {M : Type 1} → statement M
 call-spec =

@@ -9,20 +9,24 @@ use native.Mathlib.Omega.{arith}
 use Rattle.run_monitor.proofs.status.Statement.{statement}
 use Rattle.run_monitor.proofs.status.Tie as tie
 
-passed : (c : tie.Else1) → stateRefusal (now (c .before .before .before .before .args .plan)) (now (c .before .before .before .before .args .state)) ≡ 0
+passed : (c : tie.Else1) → stateRefusal (now (c .before .before .before .before .args .plan))
+    (now (c .before .before .before .before .args .state)) ≡ 0
 passed c = sym (c .before .check-state .ensures) ∙ c .if1 .left
 
 returns : tie.Need-returns
 returns c = told-refused _ _ _ (c .before .check-state .ensures) (c .if1 .taken)
 
 is-complete-requires : tie.Need-is-complete-requires
-is-complete-requires c κs = (has-room _ _ (passed (c .before .before)) .plan .fits .limits .some-node, (passed (c .before .before), c .before .children .ensures .1 0 (omega arith)))
+is-complete-requires c κs = (has-room _ _ (passed (c .before .before)) .plan .fits .limits .some-node,
+    (passed (c .before .before), c .before .children .ensures .1 0 (omega arith)))
 
 returns-2 : tie.Need-returns-2
-returns-2 c = told-complete _ _ (passed (c .before .before .before .before)) (sym (c .before .is-complete .ensures) ∙ c .if2 .taken)
+returns-2 c = told-complete _ _ (passed (c .before .before .before .before))
+    (sym (c .before .is-complete .ensures) ∙ c .if2 .taken)
 
 returns-3 : tie.Need-returns-3
-returns-3 c = told-unfinished _ _ (passed (c .before .before .before .before)) (sym (c .before .is-complete .ensures) ∙ c .if2 .left)
+returns-3 c = told-unfinished _ _ (passed (c .before .before .before .before))
+    (sym (c .before .is-complete .ensures) ∙ c .if2 .left)
 
 pub status-spec : {M : Type 1} → statement M
 status-spec =

@@ -7,14 +7,17 @@ use Rattle.run_monitor.proofs.write_event.Statement.{statement}
 use Rattle.run_monitor.proofs.write_event.Tie as tie
 
 add-state : tie.Need-add-state
-add-state c = let s = c .before .before .before .before .before .before .before .before .before in omega (arith, s .pre .0, has-room _ _ (s .pre .1) .plan .fits .limits .nodes)
+add-state c = let s = c .before .before .before .before .before .before .before .before .before in
+    omega (arith, s .pre .0, has-room _ _ (s .pre .1) .plan .fits .limits .nodes)
 
 slice-write-state : tie.Need-slice-write-state
-slice-write-state c = let s = c .before .before .before .before .before .before .before .before .before in let l = s .pre .0 in let r = has-room _ _ (s .pre .1) .room in omega arith
+slice-write-state c = let s = c .before .before .before .before .before .before .before .before .before in
+    let l = s .pre .0 in let r = has-room _ _ (s .pre .1) .room in omega arith
 
 returns : tie.Need-returns
 unfolding withEvent
-returns c = rw (c .before .before .store .ensures, c .before .before .before .before .with-literals .ensures, c .before .before .before .before .before .load .ensures)
+returns c = rw (c .before .before .store .ensures, c .before .before .before .before .with-literals .ensures,
+    c .before .before .before .before .before .load .ensures)
 
 pub write-event-spec : {M : Type 1} → statement M
 write-event-spec =

@@ -3,4 +3,5 @@ use Rattle.run_refusals.proofs.place_of.Statement.{statement}
 use Rattle.run_refusals.proofs.place_of.Tie as tie
 
 pub place-of-spec : {M : Type 1} → statement M
-place-of-spec = tie.close (tie.spec (λ c. c .match .keys1) (λ c. c .match .keys2) (λ c. rw (c .enum-told .given .1)) (λ c. rw (c .enum-told2 .given .1)))
+place-of-spec = tie.close (tie.spec (λ c. c .match .keys1) (λ c. c .match .keys2) (λ c. rw (c .enum-told .given .1))
+    (λ c. rw (c .enum-told2 .given .1)))

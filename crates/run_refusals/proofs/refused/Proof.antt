@@ -15,50 +15,79 @@ use Rattle.run_state.specs.State.{nodeByte, statusIn}
 use Rattle.run_state.proofs.Passed.{has-room}
 use Rattle.run_refusals.specs.Events.{eventOf}
 use Rattle.run_refusals.specs.Parts.{beginRefusal}
-use Rattle.run_refusals.proofs.Chain.{asks-of, place-is, node-of, answer-17, answer-18, answer-begin, answer-broken, broken-by}
+use Rattle.run_refusals.proofs.Chain.{asks-of, place-is, node-of, answer-17, answer-18, answer-begin}
+use Rattle.run_refusals.proofs.Chain.{answer-broken, broken-by}
 use native.Mathlib.Omega.{arith}
 use Rattle.run_refusals.proofs.refused.Statement.{statement}
 use Rattle.run_refusals.proofs.refused.Tie as tie
 
-is-task : (c : tie.Else1) → isKind (now (c .before .before .before .before .args .plan)) (c .before .before .before .before .args .task) 0 ≡ true
+is-task : (c : tie.Else1) → isKind (now (c .before .before .before .before .args .plan))
+    (c .before .before .before .before .args .task) 0 ≡ true
 is-task c = sym (c .before .is-kind .ensures) ∙ not-false _ (c .if1 .left)
 
-task-below : (c : tie.Else1) → c .before .before .before .before .args .task < nodeCount (now (c .before .before .before .before .args .plan))
+task-below : (c : tie.Else1) → c .before .before .before .before .args .task < nodeCount
+    (now (c .before .before .before .before .args .plan))
 task-below c = kind-is _ _ 0 (is-task c) .0
 
-asked-is : (c : tie.After-asked) → c .asked .result ≡ statusByte (asks (eventOf (c .before .before .before .before .before .before .args .m) (c .before .before .before .before .before .before .args .task)))
-asked-is c = c .asked .ensures ∙ ap (λ (a : Status). statusByte a) (asks-of (c .before .before .before .before .before .before .args .m) (c .before .before .before .before .before .before .args .task))
+asked-is : (c : tie.After-asked)
+    → c .asked .result ≡ statusByte
+    (asks (eventOf (c .before .before .before .before .before .before .args .m)
+    (c .before .before .before .before .before .before .args .task)))
+asked-is c = c .asked .ensures ∙ ap (λ (a : Status). statusByte a)
+    (asks-of (c .before .before .before .before .before .before .args .m)
+    (c .before .before .before .before .before .before .args .task))
 
-as-asked : (c : tie.Else2) → nodeByte (now (c .before .before .before .before .before .before .before .args .state)) (c .before .before .before .before .before .before .before .args .task) ≡ statusByte (asks (eventOf (c .before .before .before .before .before .before .before .args .m) (c .before .before .before .before .before .before .before .args .task)))
+as-asked : (c : tie.Else2) → nodeByte (now (c .before .before .before .before .before .before .before .args .state))
+    (c .before .before .before .before .before .before .before .args .task)
+    ≡ statusByte (asks (eventOf (c .before .before .before .before .before .before .before .args .m)
+    (c .before .before .before .before .before .before .before .args .task)))
 unfolding nodeByte
 as-asked c = c .if2 .left ∙ asked-is (c .before)
 
-begun : (c : tie.Else3) → beginRefusal (now (c .before .before .before .before .before .before .before .before .before .args .plan)) (now (c .before .before .before .before .before .before .before .before .before .args .state)) (eventOf (c .before .before .before .before .before .before .before .before .before .args .m) (c .before .before .before .before .before .before .before .before .before .args .task)) ≡ 0
+begun : (c : tie.Else3) → beginRefusal
+    (now (c .before .before .before .before .before .before .before .before .before .args .plan))
+    (now (c .before .before .before .before .before .before .before .before .before .args .state))
+    (eventOf (c .before .before .before .before .before .before .before .before .before .args .m)
+    (c .before .before .before .before .before .before .before .before .before .args .task)) ≡ 0
 begun c = sym (c .before .begin-refused .ensures) ∙ c .if3 .left
 
-broken : (c : tie.After-inc-broken) → incBrokenB (planOf (now (c .before .before .before .before .before .before .before .before .before .before .before .args .plan))) (statusIn (now (c .before .before .before .before .before .before .before .before .before .before .before .args .plan)) (now (c .before .before .before .before .before .before .before .before .before .before .before .args .state))) (eventOf (c .before .before .before .before .before .before .before .before .before .before .before .args .m) (c .before .before .before .before .before .before .before .before .before .before .before .args .task)) ≡ c .inc-broken .result
+broken : (c : tie.After-inc-broken)
+    → incBrokenB (planOf (now (c .before .before .before .before .before .before .before .before .before .before .before .args .plan))) (statusIn (now (c .before .before .before .before .before .before .before .before .before .before .before .args .plan)) (now (c .before .before .before .before .before .before .before .before .before .before .before .args .state))) (eventOf (c .before .before .before .before .before .before .before .before .before .before .before .args .m) (c .before .before .before .before .before .before .before .before .before .before .before .args .task)) ≡ c .inc-broken .result
 broken c =
     let s = c .before .before .before .before .before .before .before .before .before .before .before in
-    sym (broken-by (now (s .args .plan)) (now (s .args .state)) (s .pre) (s .args .task) (eventOf (s .args .m) (s .args .task)) (node-of (s .args .m) (s .args .task)) _ (c .before .place-of .ensures ∙ ap (λ (k : Place). placeNumber k) (place-is (s .args .m) (s .args .task))) _ (c .inc-broken .ensures))
+    sym (broken-by (now (s .args .plan)) (now (s .args .state)) (s .pre) (s .args .task)
+        (eventOf (s .args .m) (s .args .task)) (node-of (s .args .m) (s .args .task)) _
+        (c .before .place-of .ensures ∙ ap (λ (k : Place). placeNumber k) (place-is (s .args .m) (s .args .task))) _
+        (c .inc-broken .ensures))
 
 returns : tie.Need-returns
-returns c = answer-17 _ _ (c .before .before .before .before .pre) (c .before .before .before .before .args .task) _ (node-of (c .before .before .before .before .args .m) (c .before .before .before .before .args .task)) (sym (c .before .is-kind .ensures) ∙ not-true _ (c .if1 .taken))
+returns c = answer-17 _ _ (c .before .before .before .before .pre) (c .before .before .before .before .args .task) _
+    (node-of (c .before .before .before .before .args .m) (c .before .before .before .before .args .task))
+    (sym (c .before .is-kind .ensures) ∙ not-true _ (c .if1 .taken))
 
 add-if2 : tie.Need-add-if2
-add-if2 c = omega (arith, task-below c, has-room _ _ (c .before .before .before .before .pre) .plan .fits .limits .nodes)
+add-if2 c = omega (arith, task-below c,
+    has-room _ _ (c .before .before .before .before .pre) .plan .fits .limits .nodes)
 
 shared-slice-read-if2 : tie.Need-shared-slice-read-if2
-shared-slice-read-if2 c = omega (arith, task-below (c .before), has-room _ _ (c .before .before .before .before .before .pre) .room)
+shared-slice-read-if2 c = omega
+    (arith, task-below (c .before), has-room _ _ (c .before .before .before .before .before .pre) .room)
 
 returns-2 : tie.Need-returns-2
 unfolding nodeByte
-returns-2 c = let s = c .before .before .before .before .before .before .before in answer-18 _ _ (s .pre) (s .args .task) _ (node-of (s .args .m) (s .args .task)) (is-task (c .before .before .before)) (λ z. c .if2 .taken (z ∙ sym (asked-is (c .before))))
+returns-2 c = let s = c .before .before .before .before .before .before .before in
+    answer-18 _ _ (s .pre) (s .args .task) _ (node-of (s .args .m) (s .args .task))
+    (is-task (c .before .before .before)) (λ z. c .if2 .taken (z ∙ sym (asked-is (c .before))))
 
 begin-refused-requires : tie.Need-begin-refused-requires
-begin-refused-requires c κs = (task-below (c .before .before .before), c .before .before .before .before .before .before .before .pre)
+begin-refused-requires c κs = (task-below (c .before .before .before),
+    c .before .before .before .before .before .before .before .pre)
 
 returns-3 : tie.Need-returns-3
-returns-3 c = let s = c .before .before .before .before .before .before .before .before .before in answer-begin _ _ (s .pre) (s .args .task) _ (node-of (s .args .m) (s .args .task)) (is-task (c .before .before .before .before .before)) (as-asked (c .before .before)) _ (c .before .begin-refused .ensures) (c .if3 .taken)
+returns-3 c = let s = c .before .before .before .before .before .before .before .before .before in
+    answer-begin _ _ (s .pre) (s .args .task) _ (node-of (s .args .m) (s .args .task))
+    (is-task (c .before .before .before .before .before)) (as-asked (c .before .before)) _
+    (c .before .begin-refused .ensures) (c .if3 .taken)
 
 returns-4 : tie.Need-returns-4
 returns-4 c = let s = c .before .before .before .before .before .before .before .before .before .before .before .before in answer-broken _ _ (s .pre) (s .args .task) _ (node-of (s .args .m) (s .args .task)) (is-task (c .before .before .before .before .before .before .before .before)) (as-asked (c .before .before .before .before .before)) (begun (c .before .before .before)) _ (broken (c .before) ∙ c .if4 .taken)

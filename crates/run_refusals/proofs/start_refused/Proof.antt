@@ -18,19 +18,28 @@ use native.Mathlib.Omega.{arith}
 use Rattle.run_refusals.proofs.start_refused.Statement.{statement}
 use Rattle.run_refusals.proofs.start_refused.Tie as tie
 
-unmet : (c : tie.After-pre-unmet) → preUnmetB (planOf (now (c .before .before .before .before .before .before .args .plan))) (flagShown (now (c .before .before .before .before .before .before .args .state))) (start (c .before .before .before .before .before .before .args .task)) ≡ c .pre-unmet .result
+unmet : (c : tie.After-pre-unmet)
+    → preUnmetB (planOf (now (c .before .before .before .before .before .before .args .plan)))
+    (flagShown (now (c .before .before .before .before .before .before .args .state)))
+    (start (c .before .before .before .before .before .before .args .task)) ≡ c .pre-unmet .result
 unmet c =
     let s = c .before .before .before .before .before .before in
-    sym (c .pre-unmet .ensures ∙ ap (λ (x : List ℕ). someBelow (condCount (now (s .args .plan))) (unmetAt (now (s .args .plan)) x (s .args .task))) (c .before .load .ensures) ∙ unmet-is _ _ (s .pre .1) (s .args .task))
+    sym (c .pre-unmet .ensures ∙ ap
+        (λ (x : List ℕ). someBelow (condCount (now (s .args .plan))) (unmetAt (now (s .args .plan)) x (s .args .task)))
+        (c .before .load .ensures) ∙ unmet-is _ _ (s .pre .1) (s .args .task))
 
 returns : tie.Need-returns
 returns c = begin-tree _ _ _ _ (c .before .tree-refused .ensures) (c .if1 .taken)
 
 returns-2 : tie.Need-returns-2
-returns-2 c = begin-unmet _ _ _ (sym (c .before .before .before .before .tree-refused .ensures) ∙ c .before .before .before .if1 .left) _ (unmet (c .before) ∙ c .if2 .taken)
+returns-2 c = begin-unmet _ _ _
+    (sym (c .before .before .before .before .tree-refused .ensures) ∙ c .before .before .before .if1 .left) _
+    (unmet (c .before) ∙ c .if2 .taken)
 
 returns-3 : tie.Need-returns-3
-returns-3 c = begin-unmet _ _ _ (sym (c .before .before .before .before .tree-refused .ensures) ∙ c .before .before .before .if1 .left) _ (unmet (c .before) ∙ c .if2 .left)
+returns-3 c = begin-unmet _ _ _
+    (sym (c .before .before .before .before .tree-refused .ensures) ∙ c .before .before .before .if1 .left) _
+    (unmet (c .before) ∙ c .if2 .left)
 
 pub start-refused-spec : {M : Type 1} → statement M
 start-refused-spec =

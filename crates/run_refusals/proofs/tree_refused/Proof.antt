@@ -10,8 +10,11 @@ use Rattle.run_refusals.proofs.Chain.{tree-19, tree-20, tree-none}
 use Rattle.run_refusals.proofs.tree_refused.Statement.{statement}
 use Rattle.run_refusals.proofs.tree_refused.Tie as tie
 
-opens : (c : tie.After-order-open) → c .order-open .result ≡ orderOpenB (planOf (now (c .before .before .before .before .before .before .before .before .before .before .before .args .plan))) (statusIn (now (c .before .before .before .before .before .before .before .before .before .before .before .args .plan)) (now (c .before .before .before .before .before .before .before .before .before .before .before .args .state))) (c .before .before .before .before .before .before .before .before .before .before .before .args .task)
-opens c = c .order-open .ensures ∙ open-is _ _ (c .before .before .before .before .before .before .before .before .before .before .before .pre .1) _ _ (c .before .before .before .path .ensures .1)
+opens : (c : tie.After-order-open)
+    → c .order-open .result ≡ orderOpenB
+    (planOf (now (c .before .before .before .before .before .before .before .before .before .before .before .args .plan))) (statusIn (now (c .before .before .before .before .before .before .before .before .before .before .before .args .plan)) (now (c .before .before .before .before .before .before .before .before .before .before .before .args .state))) (c .before .before .before .before .before .before .before .before .before .before .before .args .task)
+opens c = c .order-open .ensures
+    ∙ open-is _ _ (c .before .before .before .before .before .before .before .before .before .before .before .pre .1) _ _ (c .before .before .before .path .ensures .1)
 
 branch-begun-requires : tie.Need-branch-begun-requires
 branch-begun-requires c κs = (c .before .before .before .before .pre, c .before .children .ensures .1)
@@ -20,16 +23,20 @@ returns : tie.Need-returns
 returns c = tree-19 _ _ _ (sym (c .before .branch-begun .ensures) ∙ c .if1 .taken)
 
 path-requires : tie.Need-path-requires
-path-requires c κs = let s = c .before .before .before .before .before .before .before in (s .pre .0, has-room _ _ (s .pre .1) .accepted)
+path-requires c κs = let s = c .before .before .before .before .before .before .before in
+    (s .pre .0, has-room _ _ (s .pre .1) .accepted)
 
 order-open-requires : tie.Need-order-open-requires
-order-open-requires c κs = (c .before .before .before .before .before .before .before .before .before .before .pre .1, c .before .before .before .children2 .ensures .1)
+order-open-requires c κs = (c .before .before .before .before .before .before .before .before .before .before .pre .1,
+    c .before .before .before .children2 .ensures .1)
 
 returns-2 : tie.Need-returns-2
-returns-2 c = tree-20 _ _ _ (sym (c .before .before .before .before .before .before .before .branch-begun .ensures) ∙ c .before .before .before .before .before .before .if1 .left) (sym (opens (c .before)) ∙ c .if2 .taken)
+returns-2 c = tree-20 _ _ _ (sym (c .before .before .before .before .before .before .before .branch-begun .ensures)
+    ∙ c .before .before .before .before .before .before .if1 .left) (sym (opens (c .before)) ∙ c .if2 .taken)
 
 returns-3 : tie.Need-returns-3
-returns-3 c = tree-none _ _ _ (sym (c .before .before .before .before .before .before .before .branch-begun .ensures) ∙ c .before .before .before .before .before .before .if1 .left) (sym (opens (c .before)) ∙ c .if2 .left)
+returns-3 c = tree-none _ _ _ (sym (c .before .before .before .before .before .before .before .branch-begun .ensures)
+    ∙ c .before .before .before .before .before .before .if1 .left) (sym (opens (c .before)) ∙ c .if2 .left)
 
 pub tree-refused-spec : {M : Type 1} → statement M
 tree-refused-spec =

@@ -8,16 +8,19 @@ use native.Mathlib.Omega.{arith}
 use Rattle.run_state.proofs.check_state.Statement.{statement}
 use Rattle.run_state.proofs.check_state.Tie as tie
 
-passed : (c : tie.Else1) → roomRefusal (now (c .before .before .before .before .args .plan)) (now (c .before .before .before .before .args .state)) ≡ 0
+passed : (c : tie.Else1) → roomRefusal (now (c .before .before .before .before .args .plan))
+    (now (c .before .before .before .before .args .state)) ≡ 0
 passed c = sym (c .before .check-room .ensures) ∙ c .if1 .left
 
-enough : (c : tie.Else1) → Roomy (now (c .before .before .before .before .args .plan)) (now (c .before .before .before .before .args .state))
+enough : (c : tie.Else1) → Roomy (now (c .before .before .before .before .args .plan))
+    (now (c .before .before .before .before .args .state))
 enough c = roomy _ _ (passed c)
 
 returns : tie.Need-returns
 returns c =
     let a = c .before .before .before .before .args in
-    c .before .check-room .ensures ∙ state-room (now (a .plan)) (now (a .state)) (λ e. c .if1 .taken (c .before .check-room .ensures ∙ e))
+    c .before .check-room .ensures ∙ state-room (now (a .plan)) (now (a .state))
+        (λ e. c .if1 .taken (c .before .check-room .ensures ∙ e))
 
 flags-bad-requires : tie.Need-flags-bad-requires
 flags-bad-requires c κs = (enough c .plan .fits .limits .long, omega (arith, enough c .room))
@@ -26,10 +29,12 @@ bytes-bad-requires : tie.Need-bytes-bad-requires
 bytes-bad-requires c κs = (enough (c .before) .plan .fits, enough (c .before) .room)
 
 returns-2 : tie.Need-returns-2
-returns-2 c = state-bad _ _ (passed (c .before .before .before)) (sym (bad-parts _ _ _ _ (c .before .before .flags-bad .ensures) (c .before .bytes-bad .ensures)) ∙ c .if2 .taken)
+returns-2 c = state-bad _ _ (passed (c .before .before .before))
+    (sym (bad-parts _ _ _ _ (c .before .before .flags-bad .ensures) (c .before .bytes-bad .ensures)) ∙ c .if2 .taken)
 
 returns-3 : tie.Need-returns-3
-returns-3 c = state-good _ _ (passed (c .before .before .before)) (sym (bad-parts _ _ _ _ (c .before .before .flags-bad .ensures) (c .before .bytes-bad .ensures)) ∙ c .if2 .left)
+returns-3 c = state-good _ _ (passed (c .before .before .before))
+    (sym (bad-parts _ _ _ _ (c .before .before .flags-bad .ensures) (c .before .bytes-bad .ensures)) ∙ c .if2 .left)
 
 pub check-state-spec : {M : Type 1} → statement M
 check-state-spec =

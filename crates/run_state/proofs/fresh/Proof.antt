@@ -20,10 +20,14 @@ Inv-loop plan state₀ r n k₀ state k = (k ≤ n) × (state ≡ overlay (fresh
 abbrev μ-loop : tie.MeasureT-loop
 μ-loop plan state₀ r n k₀ state k = n - k
 
-passed : (c : tie.Else1 Inv-loop μ-loop) → roomRefusal (now (c .before .before .before .before .before .args .plan)) (now (c .before .before .before .before .before .args .state)) ≡ 0
+passed : (c : tie.Else1 Inv-loop μ-loop)
+    → roomRefusal (now (c .before .before .before .before .before .args .plan))
+    (now (c .before .before .before .before .before .args .state)) ≡ 0
 passed c = sym (c .before .check-room .ensures) ∙ c .if1 .left
 
-enough : (c : tie.Else1 Inv-loop μ-loop) → Roomy (now (c .before .before .before .before .before .args .plan)) (now (c .before .before .before .before .before .args .state))
+enough : (c : tie.Else1 Inv-loop μ-loop)
+    → Roomy (now (c .before .before .before .before .before .args .plan))
+    (now (c .before .before .before .before .before .args .state))
 enough c = roomy _ _ (passed c)
 
 returns : tie.Need-returns Inv-loop μ-loop
@@ -65,7 +69,9 @@ returns-2 c =
     let p = passed (l .before .before) in
     let a = l .before .before .before .before .before .before .before .args in
     let e : l .loop .k ≡ 8 + nodeCount (now (a .plan)) = omega arith in
-    record { returns = sym p; leaves = l .loop .inv .1 ∙ ap (λ (k : ℕ). overlay (freshByte (now (a .plan))) k (now (a .state))) e ∙ fresh-accepted (now (a .plan)) (now (a .state)) p }
+    record { returns = sym p; leaves = l .loop .inv .1
+        ∙ ap (λ (k : ℕ). overlay (freshByte (now (a .plan))) k (now (a .state))) e
+        ∙ fresh-accepted (now (a .plan)) (now (a .state)) p }
 
 pub fresh-spec : {M : Type 1} → statement M
 fresh-spec =

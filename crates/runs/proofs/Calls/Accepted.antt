@@ -1,14 +1,17 @@
--- Lists of calls that are all accepted, the last call first: they are executions of the root. A plan that is not CLEAR has one that comes to
+-- Lists of calls that are all accepted, the last call first: they are executions of the root. A plan that is not CLEAR
+-- has one that comes to
 -- a violation; no such list completes a DOOMED root.
 use Rattle.runs.proofs.Base.{_≡_, refl, ap, _∙_, _⊎_, inl, inr, Bool, not, some, List, [], _∷_, _++_, ℕ}
 use Rattle.runs.specs.Plan.{Plan, WellFormed}
-use Rattle.runs.specs.Execution.{State, Event, History, statusAfter, Complete, Enabled, Execution, none-yet, one-more, preOf, Earlier}
+use Rattle.runs.specs.Execution.{State, Event, History, statusAfter, Complete, Enabled, Execution, none-yet}
+use Rattle.runs.specs.Execution.{one-more, preOf, Earlier}
 use Rattle.runs.specs.Verdict.{Clear, Doomed, by-clobber, by-start}
 use Rattle.runs.specs.Calls.{Call, one, events, World}
 use Rattle.runs.proofs.Execution.{earlier-nil, earlier-inv, execution-tail, execution-last}
 use Rattle.runs.proofs.Summary.{must-clobber-fails}
 use Rattle.runs.proofs.Verdict.Exact.{MayFail, clear-or-may-fail}
-use Rattle.runs.proofs.Calls.Violation.{flagAfter, worldAfter, Violates, Violation, flag-last, flag-none, clear-no-violation}
+use Rattle.runs.proofs.Calls.Violation.{flagAfter, worldAfter, Violates, Violation, flag-last, flag-none}
+use Rattle.runs.proofs.Calls.Violation.{clear-no-violation}
 use Rattle.runs.proofs.Calls.Violation.{may-fail-violates, decViolates}
 
 -- what a list of calls comes to
@@ -26,7 +29,8 @@ ViolatesCall p a (one e) = Violates p a e
 -- a list of calls that are all accepted, the last call first
 pub data AcceptedAll (p : Plan) (F : ℕ → Bool) : List Call → Type 0 where
   no-call : AcceptedAll p F []
-  call-more : {c : Call} {cs : List Call} → AcceptedAll p F cs → EnabledCall p (statusAfter (flat cs)) c → ¬ ViolatesCall p (worldAfter p F (flat cs)) c
+  call-more : {c : Call} {cs : List Call} → AcceptedAll p F cs → EnabledCall p (statusAfter (flat cs)) c
+      → ¬ ViolatesCall p (worldAfter p F (flat cs)) c
       → AcceptedAll p F (c ∷ cs)
 
 -- an accepted list and a call to which 21 or 22 is the first to apply
@@ -55,24 +59,31 @@ module _ (p : Plan) (w : WellFormed p) (F : ℕ → Bool) where
   pub clear-no-first-violation : Clear p F → ¬ FirstViolation p F
   clear-no-first-violation c x = at (x .call) (x .enabled) (x .violates)
     where
-      at : (d : Call) → EnabledCall p (statusAfter (flat (x .calls))) d → ViolatesCall p (worldAfter p F (flat (x .calls))) d → ⊥
+      at : (d : Call) → EnabledCall p (statusAfter (flat (x .calls))) d
+          → ViolatesCall p (worldAfter p F (flat (x .calls))) d → ⊥
       at (one e) m b = clear-no-violation p F w c
-          (record { history = flat (x .calls); event = e; execution = one-more (accepted-execution (x .accepted)) m; violates = b })
+          (record { history = flat (x .calls); event = e; execution = one-more (accepted-execution (x .accepted)) m;
+              violates = b })
 
   -- the first violation of an execution
   accepted-or-violation : {h : History} → Execution p 0 h → AcceptedAll p F (ones h) ⊎ FirstViolation p F
   accepted-or-violation none-yet = inl no-call
-  accepted-or-violation (one-more {e = e} {h = h} f m) = go (accepted-or-violation f) (decViolates p F w (worldAfter p F h) e)
+  accepted-or-violation (one-more {e = e} {h = h} f m) =
+      go (accepted-or-violation f) (decViolates p F w (worldAfter p F h) e)
     where
-      go : AcceptedAll p F (ones h) ⊎ FirstViolation p F → Dec (Violates p (worldAfter p F h) e) → AcceptedAll p F (ones (e ∷ h)) ⊎ FirstViolation p F
+      go : AcceptedAll p F (ones h) ⊎ FirstViolation p F → Dec (Violates p (worldAfter p F h) e)
+          → AcceptedAll p F (ones (e ∷ h)) ⊎ FirstViolation p F
       go (inr x) d = inr x
-      go (inl k) (yes b) = inr (record { calls = ones h; call = one e; accepted = k; enabled = rw (flat-ones h) m; violates = rw (flat-ones h) b })
+      go (inl k) (yes b) = inr (record
+          { calls = ones h; call = one e; accepted = k; enabled = rw (flat-ones h) m; violates = rw (flat-ones h) b })
       go (inl k) (no n) = inl (call-more {c = one e} k (rw (flat-ones h) m) (rw (flat-ones h) n))
 
   first-violation : Violation p F → FirstViolation p F
-  first-violation x = go (x .history) (x .event) (x .execution) (x .violates) (accepted-or-violation (execution-tail p w (x .execution)))
+  first-violation x = go (x .history) (x .event) (x .execution) (x .violates)
+      (accepted-or-violation (execution-tail p w (x .execution)))
     where
-      go : (h : History) (e : Event) → Execution p 0 (e ∷ h) → Violates p (worldAfter p F h) e → AcceptedAll p F (ones h) ⊎ FirstViolation p F → FirstViolation p F
+      go : (h : History) (e : Event) → Execution p 0 (e ∷ h) → Violates p (worldAfter p F h) e
+          → AcceptedAll p F (ones h) ⊎ FirstViolation p F → FirstViolation p F
       go h e fr b (inr y) = y
       go h e fr b (inl k) = record {
         calls = ones h;
@@ -91,18 +102,23 @@ module _ (p : Plan) (w : WellFormed p) (F : ℕ → Bool) where
       go (inr (f, v, x)) = inr (first-violation (may-fail-violates p F w f v x))
 
   -- no precondition of an accepted list is unmet
-  accepted-met : {cs : List Call} {e : Event} {r : History} (f : ℕ) (v : Bool) → AcceptedAll p F cs → Earlier (e ∷ r) (flat cs) → preOf (p .cond) e f ≡ some v
+  accepted-met : {cs : List Call} {e : Event} {r : History} (f : ℕ) (v : Bool) → AcceptedAll p F cs
+      → Earlier (e ∷ r) (flat cs) → preOf (p .cond) e f ≡ some v
       → flagAfter p F r f ≡ not v → ⊥
   accepted-met f v no-call q nd b = earlier-nil q refl
-  accepted-met {e = e} {r = r} f v (call-more {c = one x} {cs = cs} k m n) q nd b = go (earlier-inv q) (λ z. accepted-met f v k z nd b)
+  accepted-met {e = e} {r = r} f v (call-more {c = one x} {cs = cs} k m n) q nd b =
+      go (earlier-inv q) (λ z. accepted-met f v k z nd b)
     where
       go : (e ∷ r ≡ x ∷ flat cs) ⊎ Earlier (e ∷ r) (flat cs) → (Earlier (e ∷ r) (flat cs) → ⊥) → ⊥
-      go (inl z) ih = let y : r ≡ flat cs = cc in let s : e ≡ x = cc in n (inl (record { on = f; sign = v; needs = rw s at nd; unmet = rw y at b }))
+      go (inl z) ih = let y : r ≡ flat cs = cc in let s : e ≡ x = cc in
+          n (inl (record { on = f; sign = v; needs = rw s at nd; unmet = rw y at b }))
       go (inr z) ih = ih z
 
   -- no accepted list completes a DOOMED root
   pub doomed-incomplete : Doomed p F → {cs : List Call} → AcceptedAll p F cs → ¬ Complete p (statusAfter (flat cs)) 0
-  doomed-incomplete (by-clobber f v d) {cs} k c = let x = must-clobber-fails p w f v d (flat cs) (record { execution = accepted-execution k; complete = c }) in
+  doomed-incomplete (by-clobber f v d) {cs} k c = let x =
+      must-clobber-fails p w f v d (flat cs) (record { execution = accepted-execution k; complete = c }) in
       accepted-met f v k (x .at) (x .needs) (flag-last p F (x .before) f (not v) (x .opposed))
-  doomed-incomplete (by-start f v q mn) {cs} k c = let x = mn (flat cs) (record { execution = accepted-execution k; complete = c }) in
+  doomed-incomplete (by-start f v q mn) {cs} k c = let x =
+      mn (flat cs) (record { execution = accepted-execution k; complete = c }) in
       accepted-met f v k (x .at) (x .needs) (flag-none p F (x .before) f (x .unasserted) ∙ q)

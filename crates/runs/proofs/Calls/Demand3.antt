@@ -1,7 +1,9 @@
 -- Demand 3 holds of every well-formed plan, whatever flags are set at the start; and the same for what computes.
-use Rattle.runs.proofs.Base.{_≡_, refl, sym, ap, _∙_, _⊎_, inl, inr, _↔_, Bool, Option, none, some, List, [], _∷_, Among, ℕ, _≤_, arith}
+use Rattle.runs.proofs.Base.{_≡_, refl, sym, ap, _∙_, _⊎_, inl, inr, _↔_, Bool, Option, none, some, List, []}
+use Rattle.runs.proofs.Base.{_∷_, Among, ℕ, _≤_, arith}
 use Rattle.runs.specs.Plan.{Place, inc, post, Plan, WellFormed}
-use Rattle.runs.specs.Execution.{waiting, Status-discrete, Event, start, finish, History, statusAfter, Complete, lastAssertedOf, asserts}
+use Rattle.runs.specs.Execution.{waiting, Status-discrete, Event, start, finish, History, statusAfter, Complete}
+use Rattle.runs.specs.Execution.{lastAssertedOf, asserts}
 use Rattle.runs.specs.Execution.{lastAsserted}
 use Rattle.runs.specs.Verdict.{Clear, Doomed}
 use Rattle.runs.specs.Calls.{Call, World, fresh, Refusal, pre-unmet, inc-broken, number, Task, Worked}
@@ -11,7 +13,8 @@ use Rattle.runs.specs.Model.Verdicts.{verdict}
 use Rattle.runs.proofs.Plan.{under-node}
 use Rattle.runs.proofs.Execution.{moved-task, moved-under}
 use Rattle.runs.proofs.Verdict.Exact.{verdict-exact}
-use Rattle.runs.proofs.Calls.Accepted.{flat, FirstViolation, accepted-execution, clear-no-first-violation, clear-or-first-violation}
+use Rattle.runs.proofs.Calls.Accepted.{flat, FirstViolation, accepted-execution, clear-no-first-violation}
+use Rattle.runs.proofs.Calls.Accepted.{clear-or-first-violation}
 use Rattle.runs.proofs.Calls.Accepted.{doomed-incomplete}
 use Rattle.runs.proofs.Calls.First.{worked, worked-only}
 use Rattle.runs.proofs.Calls.Lists.{ViolatingList, Reached, reaches, violating-list, list-violates}
@@ -26,7 +29,8 @@ module _ (p : Plan) (w : WellFormed p) (F : ℕ → Bool) where
   )
     where
       hit : (q : Refusal) → Violating q → Among (number q) (returns p (fresh F) cs) → ⊥
-      hit q v y = clear-no-first-violation p w F c (list-violates p w F (record { calls = cs; refusal = q; violating = v; hit = y }))
+      hit q v y = clear-no-first-violation p w F c
+          (list-violates p w F (record { calls = cs; refusal = q; violating = v; hit = y }))
 
   -- CLEAR exactly if no call in any list returns 21 or 22
   pub clear-exact : Clear p F ↔ ((cs : List Call) → NoViolation (returns p (fresh F) cs))
@@ -92,18 +96,22 @@ module _ (p : Plan) (w : WellFormed p) (F : ℕ → Bool) where
     others = λ x. others x;
     beyond = λ x. beyond x;
     judged = (verdict p F, (verdict-exact p w F (verdict p F)) .0 refl, λ u j. sym ((verdict-exact p w F u) .1 j));
-    clear = (λ c cs ns a x. never c x, λ g. clear-exact .1 (λ cs. g cs (returns p (fresh F) cs) (states p (fresh F) cs) (worked p w (fresh F) cs)));
+    clear = (λ c cs ns a x. never c x,
+        λ g. clear-exact .1 (λ cs. g cs (returns p (fresh F) cs) (states p (fresh F) cs) (worked p w (fresh F) cs)));
     doomed = λ d cs ns a x. doomed d x;
   }
     where
-      others : {cs : List Call} {ns : List ℕ} {a : World} → Worked p (fresh F) cs ns a → (x : ℕ) → ¬ Task p x → a .status x ≡ waiting
+      others : {cs : List Call} {ns : List ℕ} {a : World} → Worked p (fresh F) cs ns a → (x : ℕ) → ¬ Task p x
+          → a .status x ≡ waiting
       others {cs} {a = a} y x n = let (e, q) = worked-only p w y in rw q (others-wait cs x n)
 
-      beyond : {cs : List Call} {ns : List ℕ} {a : World} → Worked p (fresh F) cs ns a → (f : ℕ) → p .cond .flags ≤ f → a .flag f ≡ F f
+      beyond : {cs : List Call} {ns : List ℕ} {a : World} → Worked p (fresh F) cs ns a → (f : ℕ) → p .cond .flags ≤ f
+          → a .flag f ≡ F f
       beyond {cs} y f l = let (e, q) = worked-only p w y in rw q (others-keep cs f l)
 
       never : {cs : List Call} {ns : List ℕ} {a : World} → Clear p F → Worked p (fresh F) cs ns a → NoViolation ns
       never {cs} c y = let (e, q) = worked-only p w y in rw e (clear-exact .0 c cs)
 
-      doomed : {cs : List Call} {ns : List ℕ} {a : World} → Doomed p F → Worked p (fresh F) cs ns a → ¬ Complete p (a .status) 0
+      doomed : {cs : List Call} {ns : List ℕ} {a : World} → Doomed p F → Worked p (fresh F) cs ns a
+          → ¬ Complete p (a .status) 0
       doomed {cs} d y = let (e, q) = worked-only p w y in rw q (doomed-never-complete d cs)

@@ -1,11 +1,16 @@
--- The first check that applies: its computation reflects 01's words, and one call has one return and one state after it.
-use Rattle.runs.proofs.Base.{_≡_, refl, sym, ap, _∙_, inl, inr, _⊎_, _↔_, Bool, true, false, decide, Option, none, some, List, []}
+-- The first check that applies: its computation reflects 01's words, and one call has one return and one state after
+-- it.
+use Rattle.runs.proofs.Base.{_≡_, refl, sym, ap, _∙_, inl, inr, _⊎_, _↔_, Bool, true, false, decide, Option}
+use Rattle.runs.proofs.Base.{none, some, List, []}
 use Rattle.runs.proofs.Base.{_∷_, _++_, ℕ, T, eqb}
 use Rattle.runs.specs.Tests.{either}
 use Rattle.runs.specs.Plan.{Plan, WellFormed}
-use Rattle.runs.specs.Calls.{Call, events, World, happenAll, Refusal, no-task, wrong-status, branch-begun, order-open, pre-unmet, inc-broken}
-use Rattle.runs.specs.Calls.{number, Applies, checks, First, None, Answered, accepted, refused, Worked, no-calls, next-call, Refusal-discrete}
-use Rattle.runs.specs.Model.Monitor.{appliesB, orElse, firstOf, code, settle, refusalOf, returned, step, returns, states}
+use Rattle.runs.specs.Calls.{Call, events, World, happenAll, Refusal, no-task, wrong-status, branch-begun}
+use Rattle.runs.specs.Calls.{order-open, pre-unmet, inc-broken}
+use Rattle.runs.specs.Calls.{number, Applies, checks, First, None, Answered, accepted, refused, Worked, no-calls}
+use Rattle.runs.specs.Calls.{next-call, Refusal-discrete}
+use Rattle.runs.specs.Model.Monitor.{appliesB, orElse, firstOf, code, settle, refusalOf, returned, step, returns}
+use Rattle.runs.specs.Model.Monitor.{states}
 use Rattle.runs.proofs.Reflect.{r-either, r-decide, r-T, clash, Reflects}
 use Rattle.runs.proofs.Calls.Reflect.{r-applies}
 
@@ -22,7 +27,8 @@ module _ (A : Refusal → Type 0) (g : Refusal → Bool) (r : (x : Refusal) → 
   first-is x [] = (λ q. clash cc, λ t. absurd t)
   first-is x (q ∷ l) = go (g q) refl (first-is x l)
     where
-      go : (b : Bool) → g q ≡ b → ((firstOf g l ≡ some x) ↔ First A x l) → (orElse b q (λ u. firstOf g l) ≡ some x) ↔ First A x (q ∷ l)
+      go : (b : Bool) → g q ≡ b → ((firstOf g l ≡ some x) ↔ First A x l)
+          → (orElse b q (λ u. firstOf g l) ≡ some x) ↔ First A x (q ∷ l)
       go true z ih = (λ e. let y : q ≡ x = cc in inl (y, rw y at (applies q z)), from)
         where
           from : First A x (q ∷ l) → some q ≡ some x
@@ -39,7 +45,8 @@ module _ (A : Refusal → Type 0) (g : Refusal → Bool) (r : (x : Refusal) → 
   none-is [] = (λ q. tt, λ t. refl)
   none-is (q ∷ l) = go (g q) refl (none-is l)
     where
-      go : (b : Bool) → g q ≡ b → ((firstOf g l ≡ none) ↔ None A l) → (orElse b q (λ u. firstOf g l) ≡ none) ↔ None A (q ∷ l)
+      go : (b : Bool) → g q ≡ b → ((firstOf g l ≡ none) ↔ None A l)
+          → (orElse b q (λ u. firstOf g l) ≡ none) ↔ None A (q ∷ l)
       go true z ih = (λ e. clash cc, λ t. absurd (t .0 (applies q z)))
       go false z ih = (λ e. (applies-not q z, ih .0 e), λ t. ih .1 (t .1))
 
@@ -72,7 +79,8 @@ memberB r (q ∷ l) = either (decide (Refusal-discrete q r)) (λ u. memberB r l)
 pub first-member : (A : Refusal → Type 0) (r : Refusal) (l : List Refusal) → First A r l → T (memberB r l)
 unfolding memberB
 first-member A r [] x = x
-first-member A r (q ∷ l) x = (r-either _ _ (r-decide (Refusal-discrete q r)) (r-T (memberB r l))) .from (at x (first-member A r l))
+first-member A r (q ∷ l) x = (r-either _ _ (r-decide (Refusal-discrete q r)) (r-T (memberB r l))) .from
+    (at x (first-member A r l))
   where
     at : First A r (q ∷ l) → (First A r l → T (memberB r l)) → (q ≡ r) ⊎ T (memberB r l)
     at (inl (e, a)) ih = inl e
@@ -81,7 +89,8 @@ first-member A r (q ∷ l) x = (r-either _ _ (r-decide (Refusal-discrete q r)) (
 -- the number tells the refusal
 ofNumber : ℕ → Option Refusal
 unfolding firstOf
-ofNumber n = firstOf (λ r. eqb (number r) n) (no-task ∷ wrong-status ∷ branch-begun ∷ order-open ∷ pre-unmet ∷ inc-broken ∷ [])
+ofNumber n = firstOf (λ r. eqb (number r) n)
+    (no-task ∷ wrong-status ∷ branch-begun ∷ order-open ∷ pre-unmet ∷ inc-broken ∷ [])
 
 number-tells : (o : Option Refusal) → ofNumber (code o) ≡ o
 unfolding ofNumber
@@ -127,10 +136,12 @@ module _ (p : Plan) (w : WellFormed p) where
   worked a [] = no-calls
   worked a (c ∷ cs) = next-call (answered p w a c) (worked (step p a c) cs)
 
-  pub worked-only : {a z : World} {cs : List Call} {ns : List ℕ} → Worked p a cs ns z → (ns ≡ returns p a cs) × (z ≡ states p a cs)
+  pub worked-only : {a z : World} {cs : List Call} {ns : List ℕ} → Worked p a cs ns z
+      → (ns ≡ returns p a cs) × (z ≡ states p a cs)
   unfolding returns states
   worked-only no-calls = (refl, refl)
-  worked-only (next-call {a = a} {b = b} {z = z} {c = c} {cs = cs} {n = n} {ns = ns} x y) = at (answered-only p w a c x) (worked-only y)
+  worked-only (next-call {a = a} {b = b} {z = z} {c = c} {cs = cs} {n = n} {ns = ns} x y) =
+      at (answered-only p w a c x) (worked-only y)
     where
       at : (n ≡ returned p a c) × (b ≡ step p a c) → (ns ≡ returns p b cs) × (z ≡ states p b cs)
           → (n ∷ ns ≡ returned p a c ∷ returns p (step p a c) cs) × (z ≡ states p (step p a c) cs)

@@ -1,12 +1,15 @@
--- Lists of calls, the first call first, refused calls anywhere among them: the states that they leave are those after the accepted ones, and a return
+-- Lists of calls, the first call first, refused calls anywhere among them: the states that they leave are those after
+-- the accepted ones, and a return
 -- is 21 or 22 in some list exactly if some accepted list comes to a violation.
-use Rattle.runs.proofs.Base.{_≡_, refl, sym, ap, _∙_, fun-ext, _⊎_, inl, inr, Bool, Option, none, some, Option·getD, List, [], _∷_, _++_}
+use Rattle.runs.proofs.Base.{_≡_, refl, sym, ap, _∙_, fun-ext, _⊎_, inl, inr, Bool, Option, none, some}
+use Rattle.runs.proofs.Base.{Option·getD, List, [], _∷_, _++_}
 use Rattle.runs.proofs.Base.{reverseAux, Among, here, there, among-none, among-cases, ℕ}
 use Rattle.runs.specs.Plan.{Plan, WellFormed}
 use Rattle.runs.specs.Execution.{Event, History, statusAfter, latest, lastAssertedOf, asserts, lastAsserted}
 use Rattle.runs.specs.Calls.{Call, events, World, fresh, happen, happenAll, Refusal, number}
 use Rattle.runs.specs.Model.Monitor.{code, settle, refusalOf, returned, step, returns, states}
-use Rattle.runs.proofs.Calls.Accepted.{flat, EnabledCall, ViolatesCall, AcceptedAll, no-call, call-more, FirstViolation}
+use Rattle.runs.proofs.Calls.Accepted.{flat, EnabledCall, ViolatesCall, AcceptedAll, no-call, call-more}
+use Rattle.runs.proofs.Calls.Accepted.{FirstViolation}
 use Rattle.runs.proofs.Calls.First.{code-inj}
 use Rattle.runs.proofs.Calls.Rows.{Violating, accepted-is, violates-to, violates-from}
 use Rattle.runs.proofs.Calls.Violation.{flagAfter, worldAfter}
@@ -31,7 +34,8 @@ module _ (p : Plan) (w : WellFormed p) (F : ℕ → Bool) where
 
   happen-is : (h : History) (e : Event) → happen p (worldAfter p F h) e ≡ worldAfter p F (e ∷ h)
   unfolding statusAfter flagAfter lastAssertedOf
-  happen-is h e = λ i. record { status = statusAfter (e ∷ h); flag = fun-ext (λ f. at (asserts p e f) (lastAsserted p h f) (F f)) i }
+  happen-is h e = λ i. record { status = statusAfter (e ∷ h);
+      flag = fun-ext (λ f. at (asserts p e f) (lastAsserted p h f) (F f)) i }
     where
       at : (o l : Option Bool) (b : Bool) → Option·getD o (Option·getD l b) ≡ Option·getD (latest o l) b
       at none l b = refl
@@ -49,14 +53,17 @@ module _ (p : Plan) (w : WellFormed p) (F : ℕ → Bool) where
   unfolding step
   step-reached {cs} k c = go (refusalOf p (After cs) c) refl
     where
-      go : (o : Option Refusal) → refusalOf p (After cs) c ≡ o → Reached p F (settle o (After cs) (happenAll p (After cs) (events c)))
+      go : (o : Option Refusal) → refusalOf p (After cs) c ≡ o
+          → Reached p F (settle o (After cs) (happenAll p (After cs) (events c)))
       go none q = let (m, n) = (accepted-is p w (After cs) c) .0 q in
           record { calls = c ∷ cs; accepted = call-more k m n; same = happen-all-is (events c) (flat cs) }
       go (some r) q = record { calls = cs; accepted = k; same = refl }
 
-  step-accepts : (cs : List Call) (c : Call) → EnabledCall p (After cs .status) c → ¬ ViolatesCall p (After cs) c → step p (After cs) c ≡ After (c ∷ cs)
+  step-accepts : (cs : List Call) (c : Call) → EnabledCall p (After cs .status) c → ¬ ViolatesCall p (After cs) c
+      → step p (After cs) c ≡ After (c ∷ cs)
   unfolding step
-  step-accepts cs c m n = ap (λ o. settle o (After cs) (happenAll p (After cs) (events c))) ((accepted-is p w (After cs) c) .1 (m, n))
+  step-accepts cs c m n = ap (λ o. settle o (After cs) (happenAll p (After cs) (events c)))
+      ((accepted-is p w (After cs) c) .1 (m, n))
       ∙ happen-all-is (events c) (flat cs)
 
   states-reached : (cs : List Call) {ds : List Call} → AcceptedAll p F ds → Reached p F (states p (After ds) cs)
@@ -64,7 +71,8 @@ module _ (p : Plan) (w : WellFormed p) (F : ℕ → Bool) where
   states-reached [] {ds} k = record { calls = ds; accepted = k; same = refl }
   states-reached (c ∷ cs) {ds} k = go (step p (After ds) c) (step-reached k c) (λ g m. states-reached cs {ds = g} m)
     where
-      go : (b : World) → Reached p F b → ((g : List Call) → AcceptedAll p F g → Reached p F (states p (After g) cs)) → Reached p F (states p b cs)
+      go : (b : World) → Reached p F b → ((g : List Call) → AcceptedAll p F g → Reached p F (states p (After g) cs))
+          → Reached p F (states p b cs)
       go b x ih = rw (x .same) (ih (x .calls) (x .accepted))
 
   -- the states after any list of calls are those after its accepted calls
@@ -76,29 +84,35 @@ module _ (p : Plan) (w : WellFormed p) (F : ℕ → Bool) where
       → Among r (returns p (fresh F) (reverseAux ds cs))
   unfolding returns
   among-accepted no-call cs r x = rw fresh-is x
-  among-accepted (call-more {c = c} {cs = ds} k m n) cs r x = among-accepted k (c ∷ cs) r (there (rw (step-accepts ds c m n) x))
+  among-accepted (call-more {c = c} {cs = ds} k m n) cs r x =
+      among-accepted k (c ∷ cs) r (there (rw (step-accepts ds c m n) x))
 
   pub violating-list : FirstViolation p F → ViolatingList p F
   unfolding returns returned
-  violating-list x = let (r, v, q) = violates-from p w (After (x .calls)) (x .call) (x .enabled) (x .violates) in record {
+  violating-list x = let (r, v, q) = violates-from p w (After (x .calls)) (x .call) (x .enabled) (x .violates) in
+      record {
     calls = reverseAux (x .calls) (x .call ∷ []);
     refusal = r;
     violating = v;
     hit = among-accepted (x .accepted) (x .call ∷ []) (number r) (top r q);
   }
     where
-      top : (r : Refusal) → refusalOf p (After (x .calls)) (x .call) ≡ some r → Among (number r) (returns p (After (x .calls)) (x .call ∷ []))
+      top : (r : Refusal) → refusalOf p (After (x .calls)) (x .call) ≡ some r
+          → Among (number r) (returns p (After (x .calls)) (x .call ∷ []))
       top r q = here (sym (ap code q))
 
-  violates-in : (cs : List Call) {ds : List Call} → AcceptedAll p F ds → (r : Refusal) → Violating r → Among (number r) (returns p (After ds) cs)
+  violates-in : (cs : List Call) {ds : List Call} → AcceptedAll p F ds → (r : Refusal) → Violating r
+      → Among (number r) (returns p (After ds) cs)
       → FirstViolation p F
   unfolding returns returned
   violates-in [] k r v x = absurd (among-none x)
   violates-in (c ∷ cs) {ds} k r v x = go (among-cases x) (λ g m y. violates-in cs {ds = g} m r v y)
     where
       go : (number r ≡ code (refusalOf p (After ds) c)) ⊎ Among (number r) (returns p (step p (After ds) c) cs)
-          → ((g : List Call) → AcceptedAll p F g → Among (number r) (returns p (After g) cs) → FirstViolation p F) → FirstViolation p F
-      go (inl q) ih = let (m, b) = violates-to p w (After ds) c r v (sym (code-inj {o = some r} {x = refusalOf p (After ds) c} q)) in
+          → ((g : List Call) → AcceptedAll p F g → Among (number r) (returns p (After g) cs) → FirstViolation p F)
+              → FirstViolation p F
+      go (inl q) ih = let (m, b) = violates-to p w (After ds) c r v
+          (sym (code-inj {o = some r} {x = refusalOf p (After ds) c} q)) in
           record { calls = ds; call = c; accepted = k; enabled = m; violates = b }
       go (inr y) ih = rest (step p (After ds) c) (step-reached k c) y
         where

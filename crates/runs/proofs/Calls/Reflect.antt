@@ -1,14 +1,20 @@
 -- The tests for the refusals reflect the rows of 01's table, on any states.
-use Rattle.runs.proofs.Base.{_≡_, refl, sym, ap, _∙_, _≢_, Bool, true, false, not, Option, none, some, ℕ, zero, suc, _+_, _<_, _≤_, arith, T}
+use Rattle.runs.proofs.Base.{_≡_, refl, sym, ap, _∙_, _≢_, Bool, true, false, not, Option, none, some, ℕ, zero}
+use Rattle.runs.proofs.Base.{suc, _+_, _<_, _≤_, arith, T}
 use Rattle.runs.specs.Plan.{Picks, inc, Plan, Node, Child, Under, WellFormed}
-use Rattle.runs.specs.Execution.{Status, waiting, running, State, Event, nodeOf, task-done, all-done, any-done, Complete, Begun, Rival}
+use Rattle.runs.specs.Execution.{Status, waiting, running, State, Event, nodeOf, task-done, all-done, any-done}
+use Rattle.runs.specs.Execution.{Complete, Begun, Rival}
 use Rattle.runs.specs.Execution.{by-branch, preOf, asserts}
-use Rattle.runs.specs.Calls.{Call, one, World, Refusal, no-task, wrong-status, branch-begun, order-open, pre-unmet, inc-broken, Task}
+use Rattle.runs.specs.Calls.{Call, one, World, Refusal, no-task, wrong-status, branch-begun, order-open}
+use Rattle.runs.specs.Calls.{pre-unmet, inc-broken, Task}
 use Rattle.runs.specs.Calls.{BranchBegun, OrderOpen, PreUnmet, IncBroken, Applies}
-use Rattle.runs.specs.Model.Monitor.{statusB, oppositeB, taskB, completeIn, completeB, begunB, rivalB, branchBegunB, orderOpenB, preUnmetB}
+use Rattle.runs.specs.Model.Monitor.{statusB, oppositeB, taskB, completeIn, completeB, begunB, rivalB}
+use Rattle.runs.specs.Model.Monitor.{branchBegunB, orderOpenB, preUnmetB}
 use Rattle.runs.specs.Model.Monitor.{incBrokenB, appliesB}
-use Rattle.runs.proofs.Reflect.{clash, Reflects, r-map, r-both, r-guarded, r-negate, r-any, r-T, r-decide, r-eq, r-some}
-use Rattle.runs.proofs.Plan.{child-lt, r-kind, r-picks, r-by-kind, r-some-child, r-every-child, r-some-task, r-under}
+use Rattle.runs.proofs.Reflect.{clash, Reflects, r-map, r-both, r-guarded, r-negate, r-any, r-T, r-decide, r-eq}
+use Rattle.runs.proofs.Reflect.{r-some}
+use Rattle.runs.proofs.Plan.{child-lt, r-kind, r-picks, r-by-kind, r-some-child, r-every-child, r-some-task}
+use Rattle.runs.proofs.Plan.{r-under}
 use Rattle.runs.proofs.Execution.{picks-any, complete-task, complete-all, PickDone, branch-done, complete-pick}
 use Rattle.runs.proofs.Summary.{pre-flag}
 
@@ -26,7 +32,8 @@ r-opposite none x = record { to = λ t. absurd t; from = λ y. no-sign (y .1) }
   where
     no-sign : {v : Bool} → none ≡ some v → ⊥
     no-sign q = clash cc
-r-opposite (some u) x = r-map (λ q. (u, refl, q), λ y. y .2 ∙ ap (λ b. some (not b)) (sym (same (y .1)))) (r-some x (not u))
+r-opposite (some u) x = r-map (λ q. (u, refl, q), λ y. y .2 ∙ ap (λ b. some (not b)) (sym (same (y .1))))
+    (r-some x (not u))
   where
     same : {v : Bool} → some u ≡ some v → u ≡ v
     same q = cc
@@ -34,16 +41,19 @@ r-opposite (some u) x = r-map (λ q. (u, refl, q), λ y. y .2 ∙ ap (λ b. some
 module _ (p : Plan) (w : WellFormed p) where
   pub r-task : (t : ℕ) → Reflects (taskB p t) (Task p t)
   unfolding taskB
-  r-task t = r-map (λ x. record { node = x .0; is-task = x .1 }, λ x. (x .node, x .is-task)) (r-both _ _ (r-T _) (r-kind _ _))
+  r-task t = r-map (λ x. record { node = x .0; is-task = x .1 }, λ x. (x .node, x .is-task))
+      (r-both _ _ (r-T _) (r-kind _ _))
 
   module _ (s : State) where
     r-complete-in : (k n : ℕ) → Node p n → p .tree .size ≤ n + k → Reflects (completeIn p s k n) (Complete p s n)
     unfolding completeIn
     r-complete-in zero n l b = absurd (omega (arith, w .node-below n l))
-    r-complete-in (suc k) n l b = r-by-kind (p .tree .kind n) _ _ _ (λ kn. r-map (task-done kn, complete-task p kn) (r-status _ _))
+    r-complete-in (suc k) n l b = r-by-kind (p .tree .kind n) _ _ _
+        (λ kn. r-map (task-done kn, complete-task p kn) (r-status _ _))
         (λ kn. r-map (all-done kn, complete-all p kn)
         (r-every-child p w (Complete p s) _ (λ c hc. r-complete-in k c (hc .node) (omega (arith, child-lt p w hc)))))
-        (λ kn. r-map (λ x. any-done (x .0) (picks-any kn) (x .1) (x .2), λ d. through (complete-pick p (picks-any kn) d))
+        (λ kn. r-map (λ x. any-done (x .0) (picks-any kn) (x .1) (x .2),
+            λ d. through (complete-pick p (picks-any kn) d))
         (r-some-child p w (Complete p s) _ (λ c hc. r-complete-in k c (hc .node) (omega (arith, child-lt p w hc)))))
       where
         through : PickDone p s n → (c : ℕ) × Child p n c × Complete p s c
@@ -63,20 +73,25 @@ module _ (p : Plan) (w : WellFormed p) where
     r-rival : (g b : ℕ) → Reflects (rivalB p s g b) (Rival p s g b)
     unfolding rivalB
     r-rival g b = r-map (λ x. by-branch (x .0) (x .1) (x .2 .0) (x .2 .1), from)
-        (r-some-child p w (λ c. (c ≢ b) × Begun p s c) _ (λ c hc. r-both _ _ (r-negate _ (r-eq _ _)) (r-begun c (hc .node))))
+        (r-some-child p w (λ c. (c ≢ b) × Begun p s c) _
+            (λ c hc. r-both _ _ (r-negate _ (r-eq _ _)) (r-begun c (hc .node))))
       where
         from : Rival p s g b → (c : ℕ) × Child p g c × ((c ≢ b) × Begun p s c)
         from (by-branch c hc ne t) = (c, hc, (ne, t))
 
     r-branch-begun : (t : ℕ) → Reflects (branchBegunB p s t) (BranchBegun p s t)
     unfolding branchBegunB
-    r-branch-begun t = r-map (to, from) (r-any (λ g. Picks (p .tree .kind g) × ((b : ℕ) × Child p g b × (Under p b t × Rival p s g b))) _ _
-        (λ g. r-both _ _ (r-picks _) (r-some-child p w (λ b. Under p b t × Rival p s g b) _ (λ b hb. r-both _ _ (r-under p w b t) (r-rival g b)))))
+    r-branch-begun t = r-map (to, from)
+        (r-any (λ g. Picks (p .tree .kind g) × ((b : ℕ) × Child p g b × (Under p b t × Rival p s g b))) _ _
+        (λ g. r-both _ _ (r-picks _) (r-some-child p w (λ b. Under p b t × Rival p s g b) _
+            (λ b hb. r-both _ _ (r-under p w b t) (r-rival g b)))))
       where
-        to : (g : ℕ) × (g < p .tree .size) × (Picks (p .tree .kind g) × ((b : ℕ) × Child p g b × (Under p b t × Rival p s g b))) → BranchBegun p s t
+        to : (g : ℕ) × (g < p .tree .size)
+            × (Picks (p .tree .kind g) × ((b : ℕ) × Child p g b × (Under p b t × Rival p s g b))) → BranchBegun p s t
         to (g, l, (k, (b, hb, (u, r)))) = record { group = g; own = b; picks = k; own-child = hb; above = u; rival = r }
 
-        from : BranchBegun p s t → (g : ℕ) × (g < p .tree .size) × (Picks (p .tree .kind g) × ((b : ℕ) × Child p g b × (Under p b t × Rival p s g b)))
+        from : BranchBegun p s t → (g : ℕ) × (g < p .tree .size)
+            × (Picks (p .tree .kind g) × ((b : ℕ) × Child p g b × (Under p b t × Rival p s g b)))
         from x = (
           x .group,
           omega (arith, child-lt p w (x .own-child), w .node-below (x .own) (x .own-child .node)),
@@ -85,8 +100,10 @@ module _ (p : Plan) (w : WellFormed p) where
 
     r-order-open : (t : ℕ) → Reflects (orderOpenB p s t) (OrderOpen p s t)
     unfolding orderOpenB
-    r-order-open t = r-map (to, from) (r-any (λ a. (b : ℕ) × (b < p .tree .size) × Open a b) _ _ (λ a. r-any (Open a) _ _
-        (λ b. r-guarded _ _ (r-T _) (λ o. r-both _ _ (r-under p w b t) (r-negate _ (r-complete a ((w .order-group a b o) .2 .node)))))))
+    r-order-open t = r-map (to, from)
+        (r-any (λ a. (b : ℕ) × (b < p .tree .size) × Open a b) _ _ (λ a. r-any (Open a) _ _
+        (λ b. r-guarded _ _ (r-T _) (λ o. r-both _ _ (r-under p w b t)
+            (r-negate _ (r-complete a ((w .order-group a b o) .2 .node)))))))
       where
         Open : ℕ → ℕ → Type 0
         Open a b = T (p .order a b) × (Under p b t × (¬ Complete p s a))
@@ -103,16 +120,21 @@ module _ (p : Plan) (w : WellFormed p) where
 
     pub r-inc-broken : (e : Event) → Reflects (incBrokenB p s e) (IncBroken p s e)
     unfolding incBrokenB
-    r-inc-broken e = r-map (to, from) (r-any (λ t. (nodeOf e ≢ t) × ((s t ≡ running) × ((f : ℕ) × (f < p .cond .flags) × Breaks t f))) _ _
-        (λ t. r-both _ _ (r-negate _ (r-eq _ _)) (r-both _ _ (r-status _ _) (r-any (Breaks t) _ _ (λ f. r-opposite _ _)))))
+    r-inc-broken e = r-map (to, from)
+        (r-any (λ t. (nodeOf e ≢ t) × ((s t ≡ running) × ((f : ℕ) × (f < p .cond .flags) × Breaks t f))) _ _
+        (λ t. r-both _ _ (r-negate _ (r-eq _ _))
+            (r-both _ _ (r-status _ _) (r-any (Breaks t) _ _ (λ f. r-opposite _ _)))))
       where
         Breaks : ℕ → ℕ → Type 0
         Breaks t f = (v : Bool) × (p .cond .sign inc t f ≡ some v) × (asserts p e f ≡ some (not v))
 
-        to : (t : ℕ) × (t < p .tree .size) × ((nodeOf e ≢ t) × ((s t ≡ running) × ((f : ℕ) × (f < p .cond .flags) × Breaks t f))) → IncBroken p s e
-        to (t, l, (ne, (ru, (f, lf, (v, ho, br))))) = record { who = t; on = f; sign = v; another = ne; runs = ru; holds = ho; breaks = br }
+        to : (t : ℕ) × (t < p .tree .size)
+            × ((nodeOf e ≢ t) × ((s t ≡ running) × ((f : ℕ) × (f < p .cond .flags) × Breaks t f))) → IncBroken p s e
+        to (t, l, (ne, (ru, (f, lf, (v, ho, br))))) =
+            record { who = t; on = f; sign = v; another = ne; runs = ru; holds = ho; breaks = br }
 
-        from : IncBroken p s e → (t : ℕ) × (t < p .tree .size) × ((nodeOf e ≢ t) × ((s t ≡ running) × ((f : ℕ) × (f < p .cond .flags) × Breaks t f)))
+        from : IncBroken p s e → (t : ℕ) × (t < p .tree .size)
+            × ((nodeOf e ≢ t) × ((s t ≡ running) × ((f : ℕ) × (f < p .cond .flags) × Breaks t f)))
         from x = let o = w .on-task inc (x .who) (x .on) (x .sign) (x .holds) in
             (x .who, o .0, (x .another, (x .runs, (x .on, o .2, (x .sign, x .holds, x .breaks)))))
 

@@ -1,17 +1,22 @@
--- The rows of the table: a call is accepted exactly if it is enabled and violates nothing; 21 or 22 is its first refusal exactly if it is enabled and
+-- The rows of the table: a call is accepted exactly if it is enabled and violates nothing; 21 or 22 is its first
+-- refusal exactly if it is enabled and
 -- violates something.
-use Rattle.runs.proofs.Base.{_≡_, refl, sym, _⊎_, inl, inr, _↔_, Iff·trans, Bool, decide, Option, none, some, List, [], _∷_, _++_, ℕ, T}
+use Rattle.runs.proofs.Base.{_≡_, refl, sym, _⊎_, inl, inr, _↔_, Iff·trans, Bool, decide, Option, none, some}
+use Rattle.runs.proofs.Base.{List, [], _∷_, _++_, ℕ, T}
 use Rattle.runs.specs.Tests.{either}
 use Rattle.runs.specs.Plan.{Plan, WellFormed}
-use Rattle.runs.specs.Execution.{waiting, running, Event, start, finish, nodeOf, Ready, Enabled, can-start, can-finish}
-use Rattle.runs.specs.Calls.{Call, one, World, Refusal, no-task, wrong-status, branch-begun, order-open, pre-unmet, inc-broken, Task}
+use Rattle.runs.specs.Execution.{waiting, running, Event, start, finish, nodeOf, Ready, Enabled, can-start}
+use Rattle.runs.specs.Execution.{can-finish}
+use Rattle.runs.specs.Calls.{Call, one, World, Refusal, no-task, wrong-status, branch-begun, order-open}
+use Rattle.runs.specs.Calls.{pre-unmet, inc-broken, Task}
 use Rattle.runs.specs.Calls.{BranchBegun, OrderOpen, Applies, checks, First, None}
 use Rattle.runs.specs.Model.Monitor.{refusalOf}
 use Rattle.runs.proofs.Reflect.{clash, decided}
 use Rattle.runs.proofs.Plan.{under-node, child-parent, under-root}
 use Rattle.runs.proofs.Calls.Reflect.{r-status, r-task, r-complete}
 use Rattle.runs.proofs.Calls.Accepted.{EnabledCall, ViolatesCall}
-use Rattle.runs.proofs.Calls.First.{memberB, first-member, none-append, first-append, first-not-none, refused-first, refused-none}
+use Rattle.runs.proofs.Calls.First.{memberB, first-member, none-append, first-append, first-not-none}
+use Rattle.runs.proofs.Calls.First.{refused-first, refused-none}
 
 force : {X : Type 0} → Dec X → ¬ ¬ X → X
 force (yes x) k = x
@@ -54,11 +59,13 @@ module _ (p : Plan) (w : WellFormed p) (a : World) where
   enabled-task (can-finish m) = record { node = under-node p (w .root-node) (m .beneath); is-task = m .is-task }
 
   ready-choice : {t : ℕ} → Ready p 0 (a .status) t → ¬ BranchBegun p (a .status) t
-  ready-choice m x = m .choice (x .group) (x .own) (x .picks) (under-root p w (x .group) (child-parent p w (x .own-child))) (x .own-child) (x .above) (x .rival)
+  ready-choice m x = m .choice (x .group) (x .own) (x .picks)
+      (under-root p w (x .group) (child-parent p w (x .own-child))) (x .own-child) (x .above) (x .rival)
 
   ready-order : {t : ℕ} → Ready p 0 (a .status) t → ¬ OrderOpen p (a .status) t
   ready-order m x = let o = w .order-group (x .earlier) (x .later) (x .ordered) in
-      x .incomplete (m .ordered (o .0) (x .earlier) (x .later) (under-root p w (o .0) (child-parent p w (o .2))) (o .2) (o .3) (x .ordered) (x .above))
+      x .incomplete (m .ordered (o .0) (x .earlier) (x .later) (under-root p w (o .0) (child-parent p w (o .2))) (o .2)
+          (o .3) (x .ordered) (x .above))
 
   is-ready : (t : ℕ) → ¬ BranchBegun p (a .status) t → ¬ OrderOpen p (a .status) t → Ready p 0 (a .status) t
   is-ready t k₁ k₂ = record {
@@ -79,12 +86,14 @@ module _ (p : Plan) (w : WellFormed p) (a : World) where
       }
 
       from : Enabled p 0 (a .status) (start t) → None (Applies p a (one (start t))) (enabledChecks (one (start t)))
-      from (can-start m) = (λ k. k (enabled-task (can-start m)), (λ k. k (m .waits), (ready-choice (m .ready), (ready-order (m .ready), tt))))
+      from (can-start m) = (λ k. k (enabled-task (can-start m)),
+          (λ k. k (m .waits), (ready-choice (m .ready), (ready-order (m .ready), tt))))
   enabled-is (one (finish t)) = (to, from)
     where
       to : None (Applies p a (one (finish t))) (enabledChecks (one (finish t))) → Enabled p 0 (a .status) (finish t)
       to (k₁, (k₂, u)) = let x = force (decided (r-task p w t)) k₁ in
-          can-finish record { is-task = x .is-task; beneath = under-root p w t (x .node); runs = force (decided (r-status (a .status t) running)) k₂ }
+          can-finish record { is-task = x .is-task; beneath = under-root p w t (x .node);
+              runs = force (decided (r-status (a .status t) running)) k₂ }
 
       from : Enabled p 0 (a .status) (finish t) → None (Applies p a (one (finish t))) (enabledChecks (one (finish t)))
       from (can-finish m) = (λ k. k (enabled-task (can-finish m)), (λ k. k (m .runs), tt))
@@ -114,24 +123,29 @@ module _ (p : Plan) (w : WellFormed p) (a : World) where
   accepted-is c = Iff·trans (refused-none p w a c) (
     λ n. let (x, y) = (none-append (Applies p a c) (enabledChecks c) (violationChecks c)) .0 (rw (two-parts c) at n) in
         ((enabled-is c) .0 x, (violates-not c) .0 y),
-    λ x. rw (two-parts c) ((none-append (Applies p a c) (enabledChecks c) (violationChecks c)) .1 ((enabled-is c) .1 (x .0), (violates-not c) .1 (x .1))),
+    λ x. rw (two-parts c) ((none-append (Applies p a c) (enabledChecks c) (violationChecks c)) .1
+        ((enabled-is c) .1 (x .0), (violates-not c) .1 (x .1))),
   )
 
   -- a refused call is not enabled, or it is and is refused for 21 or 22
   Refused : Call → Refusal → Type 0
-  Refused c r = First (Applies p a c) r (enabledChecks c) ⊎ (EnabledCall p (a .status) c × (Violating r × Applies p a c r))
+  Refused c r = First (Applies p a c) r (enabledChecks c)
+      ⊎ (EnabledCall p (a .status) c × (Violating r × Applies p a c r))
 
   refused-is : (c : Call) (r : Refusal) → refusalOf p a c ≡ some r → Refused c r
   unfolding Refused
-  refused-is c r q = at (first-append (Applies p a c) r (enabledChecks c) (violationChecks c) (rw (two-parts c) at ((refused-first p w a c r) .0 q)))
+  refused-is c r q = at (first-append (Applies p a c) r (enabledChecks c) (violationChecks c)
+      (rw (two-parts c) at ((refused-first p w a c r) .0 q)))
     where
-      at : First (Applies p a c) r (enabledChecks c) ⊎ (None (Applies p a c) (enabledChecks c) × First (Applies p a c) r (violationChecks c))
+      at : First (Applies p a c) r (enabledChecks c)
+          ⊎ (None (Applies p a c) (enabledChecks c) × First (Applies p a c) r (violationChecks c))
           → First (Applies p a c) r (enabledChecks c) ⊎ (EnabledCall p (a .status) c × (Violating r × Applies p a c r))
       at (inl x) = inl x
       at (inr (n, x)) = inr ((enabled-is c) .0 n, first-violating (Applies p a c) c r x)
 
   -- its refusal is 21 or 22 exactly if it is enabled and one of them applies
-  pub violates-to : (c : Call) (r : Refusal) → Violating r → refusalOf p a c ≡ some r → EnabledCall p (a .status) c × ViolatesCall p a c
+  pub violates-to : (c : Call) (r : Refusal) → Violating r → refusalOf p a c ≡ some r
+      → EnabledCall p (a .status) c × ViolatesCall p a c
   unfolding Refused
   violates-to c r v q = at (refused-is c r q)
     where
@@ -139,11 +153,13 @@ module _ (p : Plan) (w : WellFormed p) (a : World) where
       at (inl x) = absurd (not-enabling c r v (first-member (Applies p a c) r (enabledChecks c) x))
       at (inr (m, (y, x))) = (m, violates-of c r y x)
 
-  pub violates-from : (c : Call) → EnabledCall p (a .status) c → ViolatesCall p a c → (r : Refusal) × Violating r × (refusalOf p a c ≡ some r)
+  pub violates-from : (c : Call) → EnabledCall p (a .status) c → ViolatesCall p a c
+      → (r : Refusal) × Violating r × (refusalOf p a c ≡ some r)
   unfolding Refused
   violates-from c m b = at (refusalOf p a c) refl
     where
-      found : (r : Refusal) → refusalOf p a c ≡ some r → Refused c r → (r : Refusal) × Violating r × (refusalOf p a c ≡ some r)
+      found : (r : Refusal) → refusalOf p a c ≡ some r → Refused c r
+          → (r : Refusal) × Violating r × (refusalOf p a c ≡ some r)
       found r q (inl x) = absurd (first-not-none (Applies p a c) r (enabledChecks c) x ((enabled-is c) .1 m))
       found r q (inr (n, (v, x))) = (r, v, q)
 

@@ -1,12 +1,15 @@
 -- Decomposition, any-of: an execution of the group is empty or one of a single branch.
 use Rattle.runs.proofs.Base.{_≡_, refl, sym, _∙_, _≢_, _⊎_, inl, inr, _↔_, [], _∷_, ℕ, ℕ-discrete, T}
 use Rattle.runs.specs.Plan.{any-of, Picks, Plan, itself, Child, Under, WellFormed}
-use Rattle.runs.specs.Execution.{waiting, running, State, Event, start, finish, History, nodeOf, statusOf, Begins, statusAfter, any-done}
-use Rattle.runs.specs.Execution.{Complete, Begun, Rival, by-branch, Enabled, can-start, can-finish, Execution, none-yet, one-more, Completed}
+use Rattle.runs.specs.Execution.{waiting, running, State, Event, start, finish, History, nodeOf, statusOf, Begins}
+use Rattle.runs.specs.Execution.{statusAfter, any-done}
+use Rattle.runs.specs.Execution.{Complete, Begun, Rival, by-branch, Enabled, can-start, can-finish, Execution}
+use Rattle.runs.specs.Execution.{none-yet, one-more, Completed}
 use Rattle.runs.proofs.Reflect.{clash}
 use Rattle.runs.proofs.Plan.{child-under, Branch, branch, one-branch}
 use Rattle.runs.proofs.Execution.Histories.{after-same, after-other}
-use Rattle.runs.proofs.Execution.Locality.{enabled-under, enabled-of-task, enabled-down, enabled-ready, enabled-up, choice-rests}
+use Rattle.runs.proofs.Execution.Locality.{enabled-under, enabled-of-task, enabled-down, enabled-ready}
+use Rattle.runs.proofs.Execution.Locality.{enabled-up, choice-rests}
 use Rattle.runs.proofs.Execution.Completeness.{PickDone, picks-any, branch-done, complete-begun, complete-pick}
 
 module _ (p : Plan) (w : WellFormed p) where
@@ -18,7 +21,8 @@ module _ (p : Plan) (w : WellFormed p) where
   pub execution-outside : {c : ℕ} {h : History} → Execution p c h → (x : ℕ) → ¬ Under p c x → statusAfter h x ≡ waiting
   unfolding statusAfter
   execution-outside none-yet x k = refl
-  execution-outside (one-more {e = e} {h = h} f m) x k = after-other e h x (λ q. k (rw q (enabled-under p m))) ∙ execution-outside f x k
+  execution-outside (one-more {e = e} {h = h} f m) x k = after-other e h x (λ q. k (rw q (enabled-under p m)))
+      ∙ execution-outside f x k
 
   -- the last event's node has begun
   pub begun-last : {n : ℕ} {e : Event} {h : History} → Execution p n (e ∷ h) → Begun p (statusAfter (e ∷ h)) n
@@ -30,7 +34,8 @@ module _ (p : Plan) (w : WellFormed p) where
   }
 
   -- an execution of c does not begin another child of n
-  pub other-not-begun : {n b c : ℕ} {h : History} → Child p n b → Child p n c → b ≢ c → Execution p c h → ¬ Begun p (statusAfter h) b
+  pub other-not-begun : {n b c : ℕ} {h : History} → Child p n b → Child p n c → b ≢ c → Execution p c h
+      → ¬ Begun p (statusAfter h) b
   other-not-begun hb hc ne f t = t .begun (execution-outside f (t .who) (λ u. ne (one-branch p w hb hc (t .beneath) u)))
 
   -- no orders among the children of a choice
@@ -49,7 +54,8 @@ module _ (p : Plan) (w : WellFormed p) where
   pub pick-join : {n c : ℕ} {h : History} → Picks (p .tree .kind n) → Child p n c → Execution p c h → Execution p n h
   pick-join k hc none-yet = none-yet
   pick-join {n} {c} k hc (one-more {e = e} {h = h} f m) = one-more (pick-join k hc f)
-      (enabled-up p w (statusAfter h) hc m (λ be. record { choice = λ k′. no-rival hc f; ordered = λ a ha o. absurd (no-order a k hc o) }))
+      (enabled-up p w (statusAfter h) hc m
+          (λ be. record { choice = λ k′. no-rival hc f; ordered = λ a ha o. absurd (no-order a k hc o) }))
 
   -- the branch that has begun
   pub data OneOf (n : ℕ) (h : History) : Type 0 where
@@ -60,17 +66,22 @@ module _ (p : Plan) (w : WellFormed p) where
   begins (can-start m) = inl tt
   begins (can-finish m) = inr (m .runs)
 
-  any-step : {n : ℕ} {e e′ : Event} {h : History} → Picks (p .tree .kind n) → Enabled p n (statusAfter (e′ ∷ h)) e → OneOf n (e′ ∷ h) → OneOf n (e ∷ e′ ∷ h)
+  any-step : {n : ℕ} {e e′ : Event} {h : History} → Picks (p .tree .kind n) → Enabled p n (statusAfter (e′ ∷ h)) e
+      → OneOf n (e′ ∷ h) → OneOf n (e ∷ e′ ∷ h)
   any-step {n} {e} {e′} {h} k m (through c hc f) = go (branch p (enabled-under p m))
     where
-      not-other : (d : ℕ) → Child p n d → Under p d (nodeOf e) → d ≢ c → Begins e ⊎ (statusAfter (e′ ∷ h) (nodeOf e) ≡ running) → ⊥
-      not-other d hd u ne (inl be) = (enabled-ready p be m) .choice n d k itself hd u (by-branch c hc (λ q. ne (sym q)) (begun-last f))
+      not-other : (d : ℕ) → Child p n d → Under p d (nodeOf e) → d ≢ c
+          → Begins e ⊎ (statusAfter (e′ ∷ h) (nodeOf e) ≡ running) → ⊥
+      not-other d hd u ne (inl be) = (enabled-ready p be m) .choice n d k itself hd u
+          (by-branch c hc (λ q. ne (sym q)) (begun-last f))
       not-other d hd u ne (inr busy) =
-          let idle : statusAfter (e′ ∷ h) (nodeOf e) ≡ waiting = execution-outside f (nodeOf e) (λ v. ne (one-branch p w hd hc u v)) in
+          let idle : statusAfter (e′ ∷ h) (nodeOf e) ≡ waiting =
+              execution-outside f (nodeOf e) (λ v. ne (one-branch p w hd hc u v)) in
           clash cc
 
       same : (b : Branch p n (nodeOf e)) → Dec (b .via ≡ c) → OneOf n (e ∷ e′ ∷ h)
-      same b (yes q) = through c hc (one-more f (enabled-down p (statusAfter (e′ ∷ h)) (child-under p hc) (rw q at (b .beneath)) m))
+      same b (yes q) = through c hc (one-more f
+          (enabled-down p (statusAfter (e′ ∷ h)) (child-under p hc) (rw q at (b .beneath)) m))
       same b (no ne) = absurd (not-other (b .via) (b .child) (b .beneath) ne (begins m))
 
       go : (n ≡ nodeOf e) ⊎ Branch p n (nodeOf e) → OneOf n (e ∷ e′ ∷ h)
@@ -82,7 +93,8 @@ module _ (p : Plan) (w : WellFormed p) where
     where
       go : (n ≡ nodeOf e) ⊎ Branch p n (nodeOf e) → OneOf n (e ∷ [])
       go (inl q) = absurd (choice-rests p w e k (enabled-of-task p m) q)
-      go (inr b) = through (b .via) (b .child) (one-more none-yet (enabled-down p (statusAfter []) (child-under p (b .child)) (b .beneath) m))
+      go (inr b) = through (b .via) (b .child)
+          (one-more none-yet (enabled-down p (statusAfter []) (child-under p (b .child)) (b .beneath) m))
   pick-split {n} {e} {h = e′ ∷ h} k (one-more f m) = any-step k m (pick-split k f)
 
   -- a history is an execution of a choice exactly if it is empty or an execution of one branch
@@ -105,32 +117,38 @@ module _ (p : Plan) (w : WellFormed p) where
   pick-completed {n} h k = (λ x. to h (x .execution) (complete-pick p k (x .complete)), from)
     where
       from : CompletedOf n h → Completed p n h
-      from (completed-through c hc x) = record { execution = pick-join k hc (x .execution); complete = any-done c k hc (x .complete) }
+      from (completed-through c hc x) =
+          record { execution = pick-join k hc (x .execution); complete = any-done c k hc (x .complete) }
 
       to : (h : History) → Execution p n h → PickDone p (statusAfter h) n → CompletedOf n h
       to [] f (branch-done c hc d) = absurd (nothing-begun (complete-begun p w (hc .not-root) (hc .node) d))
       to (e ∷ h) f d = go (pick-split k f) d
         where
-          same : (c : ℕ) → Child p n c → Complete p (statusAfter (e ∷ h)) c → (b : ℕ) → Child p n b → Execution p b (e ∷ h) → Dec (c ≡ b)
+          same : (c : ℕ) → Child p n c → Complete p (statusAfter (e ∷ h)) c → (b : ℕ) → Child p n b
+              → Execution p b (e ∷ h) → Dec (c ≡ b)
               → CompletedOf n (e ∷ h)
           same c hc d b hb fb (yes q) = completed-through c hc (record { execution = rw q fb; complete = d })
-          same c hc d b hb fb (no ne) = absurd (other-not-begun hc hb ne fb (complete-begun p w (hc .not-root) (hc .node) d))
+          same c hc d b hb fb (no ne) = absurd
+              (other-not-begun hc hb ne fb (complete-begun p w (hc .not-root) (hc .node) d))
 
           go : OneOf n (e ∷ h) → PickDone p (statusAfter (e ∷ h)) n → CompletedOf n (e ∷ h)
           go (through b hb fb) (branch-done c hc d) = same c hc d b hb fb (ℕ-discrete c b)
 
   -- the same for any-of, with the branch at hand
-  pub any-split : {n : ℕ} {e : Event} {h : History} → p .tree .kind n ≡ any-of → Execution p n (e ∷ h) → (c : ℕ) × Child p n c × Execution p c (e ∷ h)
+  pub any-split : {n : ℕ} {e : Event} {h : History} → p .tree .kind n ≡ any-of → Execution p n (e ∷ h)
+      → (c : ℕ) × Child p n c × Execution p c (e ∷ h)
   any-split {n} {e} {h} k f = go (pick-split (picks-any k) f)
     where
       go : OneOf n (e ∷ h) → (c : ℕ) × Child p n c × Execution p c (e ∷ h)
       go (through c hc fc) = (c, hc, fc)
 
-  pub any-completed : {n : ℕ} {h : History} → p .tree .kind n ≡ any-of → Completed p n h → (c : ℕ) × Child p n c × Completed p c h
+  pub any-completed : {n : ℕ} {h : History} → p .tree .kind n ≡ any-of → Completed p n h
+      → (c : ℕ) × Child p n c × Completed p c h
   any-completed {n} {h} k x = go ((pick-completed h (picks-any k)) .0 x)
     where
       go : CompletedOf n h → (c : ℕ) × Child p n c × Completed p c h
       go (completed-through c hc wc) = (c, hc, wc)
 
-  pub completed-pick : {n c : ℕ} {h : History} → Picks (p .tree .kind n) → Child p n c → Completed p c h → Completed p n h
+  pub completed-pick : {n c : ℕ} {h : History} → Picks (p .tree .kind n) → Child p n c → Completed p c h
+      → Completed p n h
   completed-pick {c = c} {h = h} k hc x = (pick-completed h k) .1 (completed-through c hc x)

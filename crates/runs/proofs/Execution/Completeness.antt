@@ -14,7 +14,8 @@ module _ (p : Plan) where
   complete-task k (all-done k′ f) = clash cc
   complete-task k (any-done x k′ hx d) = absurd (rw k at k′)
 
-  pub complete-all : {s : State} {n : ℕ} → p .tree .kind n ≡ all-of → Complete p s n → (c : ℕ) → Child p n c → Complete p s c
+  pub complete-all : {s : State} {n : ℕ} → p .tree .kind n ≡ all-of → Complete p s n → (c : ℕ) → Child p n c
+      → Complete p s c
   complete-all k (task-done k′ d) c hc = clash cc
   complete-all k (all-done k′ f) c hc = f c hc
   complete-all k (any-done x k′ hx d) c hc = absurd (rw k at k′)
@@ -38,7 +39,9 @@ module _ (p : Plan) where
 
   -- what is complete has begun (of the root it may be false: an all-of root need not have a child)
   pub complete-begun : {s : State} {n : ℕ} → WellFormed p → 0 < n → Node p n → Complete p s n → Begun p s n
-  complete-begun {s} {n} w z l (task-done k d) = record { who = n; is-task = k; beneath = itself; begun = λ q. clash cc }
+  complete-begun {s} {n} w z l (task-done k d) =
+      record { who = n; is-task = k; beneath = itself; begun = λ q. clash cc }
   complete-begun {s} {n} w z l (all-done k f) = let (c, hc) = w .some-part n z l k in
       begun-up (child-under p hc) (complete-begun w (hc .not-root) (hc .node) (f c hc))
-  complete-begun {s} {n} w z l (any-done c k hc d) = begun-up (child-under p hc) (complete-begun w (hc .not-root) (hc .node) d)
+  complete-begun {s} {n} w z l (any-done c k hc d) =
+      begun-up (child-under p hc) (complete-begun w (hc .not-root) (hc .node) d)

@@ -1,7 +1,8 @@
 -- Every execution extends to a completed one, so every node has one.
 use Rattle.runs.proofs.Base.{_≡_, refl, _⊎_, inl, inr, [], _∷_, _++_, ℕ}
 use Rattle.runs.specs.Plan.{Kind, task, all-of, any-of, Picks, Plan, itself, Node, Child, WellFormed}
-use Rattle.runs.specs.Execution.{Status, waiting, running, done, start, finish, History, statusAfter, task-done, all-done, any-done, can-start}
+use Rattle.runs.specs.Execution.{Status, waiting, running, done, start, finish, History, statusAfter, task-done}
+use Rattle.runs.specs.Execution.{all-done, any-done, can-start}
 use Rattle.runs.specs.Execution.{can-finish, Execution, none-yet, one-more, Completed}
 use Rattle.runs.proofs.Plan.{child-under, from-leaves}
 use Rattle.runs.specs.Classes.{Anything}
@@ -18,10 +19,13 @@ module _ (p : Plan) (w : WellFormed p) where
     pub completed : Completed p n (more ++ h)
 
   -- a task
-  pub task-start : {n : ℕ} {h : History} → p .tree .kind n ≡ task → statusAfter h n ≡ waiting → Execution p n h → Execution p n (start n ∷ h)
-  task-start {n} {h} k q f = one-more f (can-start record { is-task = k; beneath = itself; waits = q; ready = own-ready p w (statusAfter h) n })
+  pub task-start : {n : ℕ} {h : History} → p .tree .kind n ≡ task → statusAfter h n ≡ waiting → Execution p n h
+      → Execution p n (start n ∷ h)
+  task-start {n} {h} k q f = one-more f
+      (can-start record { is-task = k; beneath = itself; waits = q; ready = own-ready p w (statusAfter h) n })
 
-  pub task-finish : {n : ℕ} {h : History} → p .tree .kind n ≡ task → statusAfter h n ≡ running → Execution p n h → Completed p n (finish n ∷ h)
+  pub task-finish : {n : ℕ} {h : History} → p .tree .kind n ≡ task → statusAfter h n ≡ running → Execution p n h
+      → Completed p n (finish n ∷ h)
   task-finish {n} {h} k q f = record {
     execution = one-more f (can-finish record { is-task = k; beneath = itself; runs = q });
     complete = task-done k (after-same (finish n) h);
@@ -31,7 +35,8 @@ module _ (p : Plan) (w : WellFormed p) where
   grow-task {n} h k f = go (statusAfter h n) refl
     where
       go : (s : Status) → statusAfter h n ≡ s → Extended n h
-      go waiting q = record { more = finish n ∷ start n ∷ []; completed = task-finish k (after-same (start n) h) (task-start k q f) }
+      go waiting q = record { more = finish n ∷ start n ∷ [];
+          completed = task-finish k (after-same (start n) h) (task-start k q f) }
       go running q = record { more = finish n ∷ []; completed = task-finish k q f }
       go done q = record { more = []; completed = record { execution = f; complete = task-done k q } }
 
@@ -44,7 +49,8 @@ module _ (p : Plan) (w : WellFormed p) where
     };
   }
 
-  first-any : {n : ℕ} → Node p n → p .tree .kind n ≡ any-of → ((c : ℕ) → Child p n c → (r : History) → Execution p c r → Extended c r) → Extended n []
+  first-any : {n : ℕ} → Node p n → p .tree .kind n ≡ any-of
+      → ((c : ℕ) → Child p n c → (r : History) → Execution p c r → Extended c r) → Extended n []
   first-any {n} l k ih = let (c, hc) = w .some-branch n l k in lift-grown (picks-any k) hc (ih c hc [] none-yet)
 
   -- a choice: what begins it, and how it goes on
@@ -57,20 +63,23 @@ module _ (p : Plan) (w : WellFormed p) where
       go r (inr (through c hc fc)) = lift-grown k hc (ih c hc r fc)
 
   -- an all-of group: one stage, of all the children
-  grow-all : (n : ℕ) → p .tree .kind n ≡ all-of → ((c : ℕ) → Child p n c → (r : History) → Execution p c r → Extended c r) → (h : History)
+  grow-all : (n : ℕ) → p .tree .kind n ≡ all-of
+      → ((c : ℕ) → Child p n c → (r : History) → Execution p c r → Extended c r) → (h : History)
       → Execution p n h → Extended n h
   grow-all n k ih h f = build (stage p w Anything n k h (λ c. Unit {0}) (λ c. yes tt)
       (λ c hc d. let g : Extended c (part p w c h) = ih c hc (part p w c h) (part-execution p w (child-under p hc) f) in
       (g .more, g .completed, all-anything (g .more))) (λ a b ha hb d o. inl tt) f)
     where
       build : Staged p w Anything n h (λ c. Unit {0}) → Extended n h
-      build s = record { more = s .more; completed = record { execution = s .execution; complete = all-done k (λ c hc. s .got c hc tt) } }
+      build s = record { more = s .more;
+          completed = record { execution = s .execution; complete = all-done k (λ c hc. s .got c hc tt) } }
 
   -- every execution of a node extends to a completed one
   pub extends : (n : ℕ) → Node p n → (h : History) → Execution p n h → Extended n h
   extends = from-leaves p w (λ n. (h : History) → Execution p n h → Extended n h) step
     where
-      step : (n : ℕ) → Node p n → ((c : ℕ) → Child p n c → (h : History) → Execution p c h → Extended c h) → (h : History) → Execution p n h → Extended n h
+      step : (n : ℕ) → Node p n → ((c : ℕ) → Child p n c → (h : History) → Execution p c h → Extended c h)
+          → (h : History) → Execution p n h → Extended n h
       step n l ih h f = go (p .tree .kind n) refl
         where
           go : (k : Kind) → p .tree .kind n ≡ k → Extended n h

@@ -1,7 +1,8 @@
 -- The same executions read forwards, the first event first.
 use Rattle.runs.proofs.Base.{_↔_, [], _∷_, reverse, reverseAux, ℕ}
 use Rattle.runs.specs.Plan.{Plan}
-use Rattle.runs.specs.Execution.{State, Event, History, moved, statusAfter, Enabled, Execution, none-yet, one-more}
+use Rattle.runs.specs.Execution.{State, Event, History, moved, statusAfter, Enabled, Execution, none-yet}
+use Rattle.runs.specs.Execution.{one-more}
 
 -- each event is allowed in the states that those before it leave
 pub data Forward (p : Plan) (n : ℕ) : State → History → Type 0 where

@@ -1,6 +1,8 @@
 -- Histories: the states that they leave, what holds of all their events, and what they were earlier.
-use Rattle.runs.proofs.Base.{_≡_, refl, ap, _≢_, _⊎_, inl, inr, Bool, true, false, cond, [], _∷_, _++_, ℕ, T, eqb, eqb→eq, eqb-refl}
-use Rattle.runs.specs.Execution.{waiting, Event, History, nodeOf, statusOf, statusAfter, Earlier, none-later, one-later}
+use Rattle.runs.proofs.Base.{_≡_, refl, ap, _≢_, _⊎_, inl, inr, Bool, true, false, cond, [], _∷_, _++_, ℕ, T}
+use Rattle.runs.proofs.Base.{eqb, eqb→eq, eqb-refl}
+use Rattle.runs.specs.Execution.{waiting, Event, History, nodeOf, statusOf, statusAfter, Earlier, none-later}
+use Rattle.runs.specs.Execution.{one-later}
 use Rattle.runs.specs.Classes.{All, all-nil, all-cons, Anything}
 use Rattle.runs.proofs.Reflect.{clash, T-true}
 
@@ -21,7 +23,8 @@ pub after-other : (e : Event) (h : History) (x : ℕ) → x ≢ nodeOf e → sta
 unfolding statusAfter
 after-other e h x n = rw (false-of (eqb x (nodeOf e)) (λ t. n (eqb→eq x (nodeOf e) t)))
 
-pub after-cong : (e : Event) (h k : History) (x : ℕ) → statusAfter h x ≡ statusAfter k x → statusAfter (e ∷ h) x ≡ statusAfter (e ∷ k) x
+pub after-cong : (e : Event) (h k : History) (x : ℕ) → statusAfter h x ≡ statusAfter k x
+    → statusAfter (e ∷ h) x ≡ statusAfter (e ∷ k) x
 unfolding statusAfter
 after-cong e h k x q = ap (λ z. cond (eqb x (nodeOf e)) (statusOf e) z) q
 

@@ -1,7 +1,9 @@
--- Locality: what is enabled at a node, and whether it is complete, depends on what is under it alone; and it splits along the children.
+-- Locality: what is enabled at a node, and whether it is complete, depends on what is under it alone; and it splits
+-- along the children.
 use Rattle.runs.proofs.Base.{_≡_, sym, _∙_, _↔_, _⊎_, inl, inr, ℕ, arith, T}
 use Rattle.runs.specs.Plan.{task, all-of, Picks, Plan, itself, Child, Under, WellFormed}
-use Rattle.runs.specs.Execution.{State, Event, nodeOf, Begins, task-done, all-done, any-done, Complete, Begun, Rival, by-branch, Ready, Enabled}
+use Rattle.runs.specs.Execution.{State, Event, nodeOf, Begins, task-done, all-done, any-done, Complete, Begun}
+use Rattle.runs.specs.Execution.{Rival, by-branch, Ready, Enabled}
 use Rattle.runs.specs.Execution.{can-start, can-finish}
 use Rattle.runs.proofs.Reflect.{clash}
 use Rattle.runs.proofs.Plan.{under-trans, child-under, Branch, branch, under-le, child-lt, one-branch}
@@ -20,19 +22,24 @@ module _ (p : Plan) where
   -- whether n is complete depends on the states under n
   pub complete-local : (s r : State) {n : ℕ} → Agree n s r → Complete p s n → Complete p r n
   complete-local s r {n} a (task-done k d) = task-done k (sym (a n itself) ∙ d)
-  complete-local s r {n} a (all-done k f) = all-done k (λ c hc. complete-local s r (agree-child s r (child-under p hc) a) (f c hc))
-  complete-local s r {n} a (any-done c k hc d) = any-done c k hc (complete-local s r (agree-child s r (child-under p hc) a) d)
+  complete-local s r {n} a (all-done k f) =
+      all-done k (λ c hc. complete-local s r (agree-child s r (child-under p hc) a) (f c hc))
+  complete-local s r {n} a (any-done c k hc d) =
+      any-done c k hc (complete-local s r (agree-child s r (child-under p hc) a) d)
 
   pub begun-local : (s r : State) {n : ℕ} → Agree n s r → Begun p s n → Begun p r n
-  begun-local s r a t = record { who = t .who; is-task = t .is-task; beneath = t .beneath; begun = λ e. t .begun (a (t .who) (t .beneath) ∙ e) }
+  begun-local s r a t = record { who = t .who; is-task = t .is-task; beneath = t .beneath;
+      begun = λ e. t .begun (a (t .who) (t .beneath) ∙ e) }
 
   rival-local : (s r : State) {n g b : ℕ} → Agree n s r → Under p n g → Rival p s g b → Rival p r g b
-  rival-local s r a u (by-branch c hc ne t) = by-branch c hc ne (begun-local s r (agree-child s r (under-trans p u (child-under p hc)) a) t)
+  rival-local s r a u (by-branch c hc ne t) =
+      by-branch c hc ne (begun-local s r (agree-child s r (under-trans p u (child-under p hc)) a) t)
 
   ready-local : (s r : State) {n t : ℕ} → Agree n s r → Ready p n s t → Ready p n r t
   ready-local s r {n} a m = record {
     choice = λ g b k ug hb ub x. m .choice g b k ug hb ub (rival-local r s (agree-sym n s r a) ug x);
-    ordered = λ g x y ug hx hy o uy. complete-local s r (agree-child s r (under-trans p ug (child-under p hx)) a) (m .ordered g x y ug hx hy o uy);
+    ordered = λ g x y ug hx hy o uy. complete-local s r (agree-child s r (under-trans p ug (child-under p hx)) a)
+        (m .ordered g x y ug hx hy o uy);
   }
 
   -- whether an event is enabled at n depends on the states under n
@@ -43,7 +50,8 @@ module _ (p : Plan) where
     waits = sym (a t (m .beneath)) ∙ m .waits;
     ready = ready-local s r a (m .ready);
   }
-  enabled-local s r {n} a (can-finish {t = t} m) = can-finish record { is-task = m .is-task; beneath = m .beneath; runs = sym (a t (m .beneath)) ∙ m .runs }
+  enabled-local s r {n} a (can-finish {t = t} m) =
+      can-finish record { is-task = m .is-task; beneath = m .beneath; runs = sym (a t (m .beneath)) ∙ m .runs }
 
   pub enabled-under : {n : ℕ} {s : State} {e : Event} → Enabled p n s e → Under p n (nodeOf e)
   enabled-under (can-start m) = m .beneath
@@ -59,10 +67,13 @@ module _ (p : Plan) where
 
   -- what is allowed at n is allowed at each node under n that the task is under
   ready-down : (s : State) {n c t : ℕ} → Under p n c → Ready p n s t → Ready p c s t
-  ready-down s u m = record { choice = λ g b k ug. m .choice g b k (under-trans p u ug); ordered = λ g x y ug. m .ordered g x y (under-trans p u ug) }
+  ready-down s u m = record { choice = λ g b k ug. m .choice g b k (under-trans p u ug);
+      ordered = λ g x y ug. m .ordered g x y (under-trans p u ug) }
 
-  pub enabled-down : (s : State) {n c : ℕ} {e : Event} → Under p n c → Under p c (nodeOf e) → Enabled p n s e → Enabled p c s e
-  enabled-down s u v (can-start m) = can-start record { is-task = m .is-task; beneath = v; waits = m .waits; ready = ready-down s u (m .ready) }
+  pub enabled-down : (s : State) {n c : ℕ} {e : Event} → Under p n c → Under p c (nodeOf e) → Enabled p n s e
+      → Enabled p c s e
+  enabled-down s u v (can-start m) =
+      can-start record { is-task = m .is-task; beneath = v; waits = m .waits; ready = ready-down s u (m .ready) }
   enabled-down s u v (can-finish m) = can-finish record { is-task = m .is-task; beneath = v; runs = m .runs }
 
   -- what n itself asks of a start under its child c, beside what c asks
@@ -74,13 +85,15 @@ module _ (p : Plan) where
   AdmitsEvent n c s e = Begins e → Admits n c s
 
   ready-admits : (s : State) {n c t : ℕ} → Child p n c → Under p c t → Ready p n s t → Admits n c s
-  ready-admits s {n} {c} hc u m = record { choice = λ k. m .choice n c k itself hc u; ordered = λ a ha o. m .ordered n a c itself ha hc o u }
+  ready-admits s {n} {c} hc u m =
+      record { choice = λ k. m .choice n c k itself hc u; ordered = λ a ha o. m .ordered n a c itself ha hc o u }
 
   pub enabled-ready : {n : ℕ} {s : State} {e : Event} → Begins e → Enabled p n s e → Ready p n s (nodeOf e)
   enabled-ready b (can-start m) = m .ready
   enabled-ready b (can-finish m) = absurd b
 
-  pub admits-of : (s : State) {n c : ℕ} {e : Event} → Child p n c → Under p c (nodeOf e) → Enabled p n s e → AdmitsEvent n c s e
+  pub admits-of : (s : State) {n c : ℕ} {e : Event} → Child p n c → Under p c (nodeOf e) → Enabled p n s e
+      → AdmitsEvent n c s e
   admits-of s hc u m b = ready-admits s hc u (enabled-ready b m)
 
   module _ (w : WellFormed p) where
@@ -90,40 +103,49 @@ module _ (p : Plan) where
       ordered = λ g a b ug ha hb o ub. order-at g a b ha hb o ub (branch p ug);
     }
       where
-        choose-at : (g b : ℕ) → Picks (p .tree .kind g) → Child p g b → Under p b t → (n ≡ g) ⊎ Branch p n g → ¬ Rival p s g b
+        choose-at : (g b : ℕ) → Picks (p .tree .kind g) → Child p g b → Under p b t → (n ≡ g) ⊎ Branch p n g
+            → ¬ Rival p s g b
         choose-at g b k hb ub (inl e) x =
             let same : c ≡ b = one-branch p w hc (rw e hb) ut ub in
             q .choice (rw e k) (rw (e, same) x)
         choose-at g b k hb ub (inr r) x =
-            let same : r .via ≡ c = one-branch p w (r .child) hc (under-trans p (r .beneath) (under-trans p (child-under p hb) ub)) ut in
+            let same : r .via ≡ c = one-branch p w (r .child) hc
+                (under-trans p (r .beneath) (under-trans p (child-under p hb) ub)) ut in
             m .choice g b k (rw (← same) (r .beneath)) hb ub x
 
-        order-at : (g a b : ℕ) → Child p g a → Child p g b → T (p .order a b) → Under p b t → (n ≡ g) ⊎ Branch p n g → Complete p s a
+        order-at : (g a b : ℕ) → Child p g a → Child p g b → T (p .order a b) → Under p b t → (n ≡ g) ⊎ Branch p n g
+            → Complete p s a
         order-at g a b ha hb o ub (inl e) =
             let hb′ : Child p n b = rw e hb in
             q .ordered a (rw e ha) (rw (one-branch p w hc hb′ ut ub) o)
         order-at g a b ha hb o ub (inr r) =
-            let same : r .via ≡ c = one-branch p w (r .child) hc (under-trans p (r .beneath) (under-trans p (child-under p hb) ub)) ut in
+            let same : r .via ≡ c = one-branch p w (r .child) hc
+                (under-trans p (r .beneath) (under-trans p (child-under p hb) ub)) ut in
             m .ordered g a b (rw (← same) (r .beneath)) ha hb o ub
 
     -- what is enabled at a child is enabled at its parent, if the parent lets it begin
-    pub enabled-up : (s : State) {n c : ℕ} {e : Event} → Child p n c → Enabled p c s e → AdmitsEvent n c s e → Enabled p n s e
+    pub enabled-up : (s : State) {n c : ℕ} {e : Event} → Child p n c → Enabled p c s e → AdmitsEvent n c s e
+        → Enabled p n s e
     enabled-up s hc (can-start m) q = can-start record {
       is-task = m .is-task;
       beneath = under-trans p (child-under p hc) (m .beneath);
       waits = m .waits;
       ready = ready-up s hc (m .beneath) (m .ready) (q tt);
     }
-    enabled-up s hc (can-finish m) q = can-finish record { is-task = m .is-task; beneath = under-trans p (child-under p hc) (m .beneath); runs = m .runs }
+    enabled-up s hc (can-finish m) q =
+        can-finish record { is-task = m .is-task; beneath = under-trans p (child-under p hc) (m .beneath);
+        runs = m .runs }
 
     -- decomposition: an event under the child c is enabled at n exactly if it is enabled at c and n lets it begin
     pub enabled-at-child : (s : State) {n c : ℕ} {e : Event} → Child p n c → Under p c (nodeOf e)
         → Enabled p n s e ↔ (Enabled p c s e × AdmitsEvent n c s e)
-    enabled-at-child s hc u = (λ m. (enabled-down s (child-under p hc) u m, admits-of s hc u m), λ x. enabled-up s hc (x .0) (x .1))
+    enabled-at-child s hc u = (λ m. (enabled-down s (child-under p hc) u m, admits-of s hc u m),
+        λ x. enabled-up s hc (x .0) (x .1))
 
     -- nothing stands above a node by itself
     pub own-ready : (s : State) (n : ℕ) → Ready p n s n
-    own-ready s n = record { choice = λ g b kg ug hb ub. no-group-above ug hb ub; ordered = λ g a b ug ha hb o ub. no-group-above ug hb ub }
+    own-ready s n = record { choice = λ g b kg ug hb ub. no-group-above ug hb ub;
+        ordered = λ g a b ug ha hb o ub. no-group-above ug hb ub }
       where
         no-group-above : {A : Type 0} {n g b : ℕ} → Under p n g → Child p g b → Under p b n → A
         no-group-above u hb v = absurd (omega (arith, under-le p w u, child-lt p w hb, under-le p w v))

@@ -1,11 +1,13 @@
 -- The part of a history that falls under a node: it has the states there, and is an execution of that node.
 use Rattle.runs.proofs.Base.{_≡_, refl, sym, ap, _∙_, _≢_, _↔_, [], _∷_, _++_, ℕ}
 use Rattle.runs.specs.Plan.{Plan, Child, Under, WellFormed}
-use Rattle.runs.specs.Execution.{Event, History, nodeOf, statusAfter, Complete, Enabled, Execution, none-yet, one-more, Earlier, none-later, one-later}
+use Rattle.runs.specs.Execution.{Event, History, nodeOf, statusAfter, Complete, Enabled, Execution, none-yet}
+use Rattle.runs.specs.Execution.{one-more, Earlier, none-later, one-later}
 use Rattle.runs.proofs.Plan.{one-branch, decUnder}
 use Rattle.runs.specs.Classes.{All, all-nil, all-cons}
 use Rattle.runs.proofs.Execution.Histories.{after-other, after-cong}
-use Rattle.runs.proofs.Execution.Locality.{Agree, agree-sym, complete-local, enabled-local, enabled-under, enabled-down}
+use Rattle.runs.proofs.Execution.Locality.{Agree, agree-sym, complete-local, enabled-local, enabled-under}
+use Rattle.runs.proofs.Execution.Locality.{enabled-down}
 
 abbrev keep : {A : Type 0} → Dec A → Event → History → History
 keep (yes a) e l = e ∷ l
@@ -42,7 +44,8 @@ module _ (p : Plan) (w : WellFormed p) where
   after-part c [] x u = rw part-nil
   after-part c (e ∷ h) x u = go (decUnder p w c (nodeOf e)) (after-part c h x u)
     where
-      go : Dec (Under p c (nodeOf e)) → statusAfter (part c h) x ≡ statusAfter h x → statusAfter (part c (e ∷ h)) x ≡ statusAfter (e ∷ h) x
+      go : Dec (Under p c (nodeOf e)) → statusAfter (part c h) x ≡ statusAfter h x
+          → statusAfter (part c (e ∷ h)) x ≡ statusAfter (e ∷ h) x
       go (yes v) ih = rw (part-in c e h v) (after-cong e (part c h) h x ih)
       go (no k) ih = rw (part-out c e h k) (ih ∙ sym (after-other e h x (λ q. k (rw q at u))))
 
@@ -53,13 +56,15 @@ module _ (p : Plan) (w : WellFormed p) where
     where
       go : Dec (Under p c (nodeOf e)) → Execution p c (part c h) → Execution p c (part c (e ∷ h))
       go (yes v) ih = rw (part-in c e h v) (one-more ih (enabled-local p (statusAfter h) (statusAfter (part c h))
-          (agree-sym p c (statusAfter (part c h)) (statusAfter h) (after-part c h)) (enabled-down p (statusAfter h) u v m)))
+          (agree-sym p c (statusAfter (part c h)) (statusAfter h) (after-part c h))
+              (enabled-down p (statusAfter h) u v m)))
       go (no k) ih = rw (part-out c e h k) ih
 
   -- and the node is complete after its part exactly if it is after the whole history
   pub part-complete : (c : ℕ) (h : History) → Complete p (statusAfter h) c ↔ Complete p (statusAfter (part c h)) c
   part-complete c h = (
-    complete-local p (statusAfter h) (statusAfter (part c h)) (agree-sym p c (statusAfter (part c h)) (statusAfter h) (after-part c h)),
+    complete-local p (statusAfter h) (statusAfter (part c h))
+        (agree-sym p c (statusAfter (part c h)) (statusAfter h) (after-part c h)),
     complete-local p (statusAfter (part c h)) (statusAfter h) (after-part c h),
   )
 
@@ -92,7 +97,8 @@ module _ (p : Plan) (w : WellFormed p) where
   part-append c [] h = rw (part-nil c)
   part-append c (e ∷ g) h = go (decUnder p w c (nodeOf e)) (part-append c g h)
     where
-      go : Dec (Under p c (nodeOf e)) → part c (g ++ h) ≡ part c g ++ part c h → part c (e ∷ (g ++ h)) ≡ part c (e ∷ g) ++ part c h
+      go : Dec (Under p c (nodeOf e)) → part c (g ++ h) ≡ part c g ++ part c h
+          → part c (e ∷ (g ++ h)) ≡ part c (e ∷ g) ++ part c h
       go (yes u) ih = rw (part-in c e (g ++ h) u, part-in c e g u, ih)
       go (no k) ih = rw (part-out c e (g ++ h) k, part-out c e g k, ih)
 
@@ -102,7 +108,8 @@ module _ (p : Plan) (w : WellFormed p) where
 
   pub part-other : {n b c : ℕ} {g : History} → Child p n b → Child p n c → b ≢ c → All (UnderEv b) g → part c g ≡ []
   part-other {n} {b} {c} hb hc ne all-nil = part-nil c
-  part-other {n} {b} {c} hb hc ne (all-cons {e = e} {h = g} u a) = part-out c e g (λ v. ne (one-branch p w hb hc u v)) ∙ part-other hb hc ne a
+  part-other {n} {b} {c} hb hc ne (all-cons {e = e} {h = g} u a) = part-out c e g (λ v. ne (one-branch p w hb hc u v))
+      ∙ part-other hb hc ne a
 
   pub part-all : {Q : Event → Type 0} (c : ℕ) {h : History} → All Q h → All Q (part c h)
   part-all {Q} c all-nil = rw (part-nil c) all-nil

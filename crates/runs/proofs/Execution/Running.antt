@@ -1,7 +1,8 @@
 -- What has moved is a task under the node; nothing runs under a complete node; what runs has started.
 use Rattle.runs.proofs.Base.{_≡_, ap, sym, _∙_, _≢_, [], _∷_, ℕ, ℕ-discrete}
 use Rattle.runs.specs.Plan.{task, Plan, Node, Under, WellFormed}
-use Rattle.runs.specs.Execution.{Status, waiting, running, done, Event, start, finish, History, nodeOf, statusAfter, Complete, can-finish}
+use Rattle.runs.specs.Execution.{Status, waiting, running, done, Event, start, finish, History, nodeOf}
+use Rattle.runs.specs.Execution.{statusAfter, Complete, can-finish}
 use Rattle.runs.specs.Execution.{Execution, none-yet, one-more, Earlier, none-later, one-later}
 use Rattle.runs.proofs.Reflect.{clash}
 use Rattle.runs.proofs.Plan.{decUnder}
@@ -15,7 +16,8 @@ pub running-started : (h : History) (t : ℕ) → statusAfter h t ≡ running �
 running-started [] t q = let x : statusAfter [] t ≡ waiting = after-nil t in clash cc
 running-started (e ∷ h) t q = go e (ℕ-discrete t (nodeOf e)) q (λ y. running-started h t y)
   where
-    go : (e : Event) → Dec (t ≡ nodeOf e) → statusAfter (e ∷ h) t ≡ running → (statusAfter h t ≡ running → (r : History) × Earlier (start t ∷ r) h)
+    go : (e : Event) → Dec (t ≡ nodeOf e) → statusAfter (e ∷ h) t ≡ running
+        → (statusAfter h t ≡ running → (r : History) × Earlier (start t ∷ r) h)
         → (r : History) × Earlier (start t ∷ r) (e ∷ h)
     go e (no k) q ih = let (r, x) = ih (sym (after-other e h t k) ∙ q) in (r, one-later x)
     go (start x) (yes k) q ih = (h, rw k none-later)
@@ -27,7 +29,8 @@ running-moved q z = clash cc
 
 module _ (p : Plan) (w : WellFormed p) where
   -- what has moved is a task
-  pub moved-task : {n : ℕ} {h : History} → Execution p n h → (x : ℕ) → statusAfter h x ≢ waiting → p .tree .kind x ≡ task
+  pub moved-task : {n : ℕ} {h : History} → Execution p n h → (x : ℕ) → statusAfter h x ≢ waiting
+      → p .tree .kind x ≡ task
   moved-task none-yet x ne = absurd (ne (after-nil x))
   moved-task (one-more {e = e} {h = h} f m) x ne = go (ℕ-discrete x (nodeOf e)) (λ z. moved-task f x z)
     where
@@ -35,7 +38,8 @@ module _ (p : Plan) (w : WellFormed p) where
       go (yes q) ih = ap (p .tree .kind) q ∙ enabled-of-task p m
       go (no k) ih = ih (λ z. ne (after-other e h x k ∙ z))
 
-  pub running-task : {n : ℕ} {h : History} → Execution p n h → (x : ℕ) → statusAfter h x ≡ running → p .tree .kind x ≡ task
+  pub running-task : {n : ℕ} {h : History} → Execution p n h → (x : ℕ) → statusAfter h x ≡ running
+      → p .tree .kind x ≡ task
   running-task f x r = moved-task f x (running-moved r)
 
   -- and it is under the node
@@ -47,6 +51,8 @@ module _ (p : Plan) (w : WellFormed p) where
       go (no k) = absurd (ne (execution-outside p w f x k))
 
   -- nothing runs under a complete node
-  pub none-runs : {n : ℕ} {h : History} → Node p n → Execution p n h → Complete p (statusAfter h) n → (x : ℕ) → statusAfter h x ≡ running → ⊥
+  pub none-runs : {n : ℕ} {h : History} → Node p n → Execution p n h → Complete p (statusAfter h) n → (x : ℕ)
+      → statusAfter h x ≡ running → ⊥
   none-runs {n} {h} l f d x q = final p w n l (finish x) h
-      (one-more f (can-finish record { is-task = running-task f x q; beneath = moved-under f x (running-moved q); runs = q })) d
+      (one-more f (can-finish record { is-task = running-task f x q; beneath = moved-under f x (running-moved q);
+          runs = q })) d

@@ -1,5 +1,7 @@
--- Executions of an all-of group, built stage by stage: a set of children is run to its end, each child by an execution of our choice.
-use Rattle.runs.proofs.Base.{_≡_, refl, sym, _∙_, _⊎_, inl, inr, [], _++_, append-assoc, ℕ, zero, suc, _<_, arith, ℕ-discrete, T}
+-- Executions of an all-of group, built stage by stage: a set of children is run to its end, each child by an execution
+-- of our choice.
+use Rattle.runs.proofs.Base.{_≡_, refl, sym, _∙_, _⊎_, inl, inr, [], _++_, append-assoc, ℕ, zero, suc, _<_}
+use Rattle.runs.proofs.Base.{arith, ℕ-discrete, T}
 use Rattle.runs.specs.Plan.{all-of, Plan, Child, WellFormed}
 use Rattle.runs.specs.Execution.{Event, History, statusAfter, Complete, Execution, Completed}
 use Rattle.runs.proofs.Plan.{decChild}
@@ -19,7 +21,8 @@ module _ (p : Plan) (w : WellFormed p) where
     pub good : All Q more
 
   module _ (Q : Event → Type 0) (n : ℕ) (k : p .tree .kind n ≡ all-of) (h : History) where
-    stage-same : {D E : ℕ → Type 0} → ((c : ℕ) → Child p n c → E c → D c) → ((c : ℕ) → Child p n c → D c → E c) → Staged Q n h D → Staged Q n h E
+    stage-same : {D E : ℕ → Type 0} → ((c : ℕ) → Child p n c → E c → D c) → ((c : ℕ) → Child p n c → D c → E c)
+        → Staged Q n h D → Staged Q n h E
     stage-same f g s = record {
       more = s .more;
       execution = s .execution;
@@ -29,8 +32,10 @@ module _ (p : Plan) (w : WellFormed p) where
     }
 
     -- one child more
-    stage-add : {D : ℕ → Type 0} (i : ℕ) → Child p n i → ¬ D i → ((a : ℕ) → Child p n a → T (p .order a i) → D a ⊎ Complete p (statusAfter h) a)
-        → (r : History) → Completed p i (r ++ part p w i h) → All Q r → Staged Q n h D → Staged Q n h (λ c. D c ⊎ (c ≡ i))
+    stage-add : {D : ℕ → Type 0} (i : ℕ) → Child p n i → ¬ D i
+        → ((a : ℕ) → Child p n a → T (p .order a i) → D a ⊎ Complete p (statusAfter h) a)
+        → (r : History) → Completed p i (r ++ part p w i h) → All Q r → Staged Q n h D
+            → Staged Q n h (λ c. D c ⊎ (c ≡ i))
     stage-add {D} i hi nd o r wh q s = record {
       more = r ++ s .more;
       execution = rw append-assoc free′;
@@ -51,17 +56,21 @@ module _ (p : Plan) (w : WellFormed p) where
 
         got′ : (c : ℕ) → Child p n c → D c ⊎ (c ≡ i) → Complete p (statusAfter (r ++ (s .more ++ h))) c
         got′ c hc (inl d) = complete-stays p w r (s .more ++ h) free′ (s .got c hc d)
-        got′ c hc (inr e) = rw e (complete-local p (statusAfter (r ++ part p w i (s .more ++ h))) (statusAfter (r ++ (s .more ++ h)))
-            (agree-append p w i r (part p w i (s .more ++ h)) (s .more ++ h) (after-part p w i (s .more ++ h))) (wh′ .complete))
+        got′ c hc (inr e) = rw e (complete-local p (statusAfter (r ++ part p w i (s .more ++ h)))
+            (statusAfter (r ++ (s .more ++ h)))
+            (agree-append p w i r (part p w i (s .more ++ h)) (s .more ++ h) (after-part p w i (s .more ++ h)))
+                (wh′ .complete))
 
         kept′ : (c : ℕ) → Child p n c → ¬ (D c ⊎ (c ≡ i)) → part p w c (r ++ (s .more ++ h)) ≡ part p w c h
         kept′ c hc nd′ = part-append p w c r (s .more ++ h)
-            ∙ rw (part-other p w hi hc (λ e. nd′ (inr (sym e))) (all-left r (part p w i (s .more ++ h)) (execution-under p w (wh′ .execution))))
+            ∙ rw (part-other p w hi hc (λ e. nd′ (inr (sym e)))
+                (all-left r (part p w i (s .more ++ h)) (execution-under p w (wh′ .execution))))
             (s .kept c hc (λ d. nd′ (inl d)))
 
     module _ (D : ℕ → Type 0) (decD : (c : ℕ) → Dec (D c))
         (history : (c : ℕ) → Child p n c → D c → (r : History) × Completed p c (r ++ part p w c h) × All Q r)
-        (closed : (a b : ℕ) → Child p n a → Child p n b → D b → T (p .order a b) → D a ⊎ Complete p (statusAfter h) a) where
+        (closed : (a b : ℕ) → Child p n a → Child p n b → D b → T (p .order a b)
+            → D a ⊎ Complete p (statusAfter h) a) where
       abbrev Upto : ℕ → ℕ → ℕ → Type 0
       Upto r i c = D c × ((w .rank c < r) ⊎ ((w .rank c ≡ r) × (c < i)))
 
@@ -93,7 +102,8 @@ module _ (p : Plan) (w : WellFormed p) where
               fresh (inl x) = omega arith
               fresh (inr (y, x)) = omega arith
 
-              pred : (a : ℕ) → T (p .order a i) → D a ⊎ Complete p (statusAfter h) a → Upto r i a ⊎ Complete p (statusAfter h) a
+              pred : (a : ℕ) → T (p .order a i) → D a ⊎ Complete p (statusAfter h) a
+                  → Upto r i a ⊎ Complete p (statusAfter h) a
               pred a o (inl d) = inl (d, inl (omega (arith, w .rank-rises a i o)))
               pred a o (inr c) = inr c
 
@@ -123,14 +133,17 @@ module _ (p : Plan) (w : WellFormed p) where
       stage-row r (suc i) s = stage-step r i (stage-row r i s)
 
       stage-rows : (r : ℕ) → Execution p n h → Staged Q n h (Upto r 0)
-      stage-rows zero f = record { more = []; execution = f; got = λ c hc u. absurd (none-at c (u .1)); kept = λ c hc nd. refl; good = all-nil }
+      stage-rows zero f = record { more = []; execution = f; got = λ c hc u. absurd (none-at c (u .1));
+          kept = λ c hc nd. refl; good = all-nil }
         where
           none-at : (c : ℕ) → (w .rank c < 0) ⊎ ((w .rank c ≡ 0) × (c < 0)) → ⊥
           none-at c (inl x) = omega arith
           none-at c (inr (q, l)) = omega arith
-      stage-rows (suc r) f = stage-same (λ c hc u. (u .0, down c hc (u .1))) (λ c hc u. (u .0, up c hc (u .1))) (stage-row r (p .tree .size) (stage-rows r f))
+      stage-rows (suc r) f = stage-same (λ c hc u. (u .0, down c hc (u .1))) (λ c hc u. (u .0, up c hc (u .1)))
+          (stage-row r (p .tree .size) (stage-rows r f))
         where
-          down : (c : ℕ) → Child p n c → (w .rank c < suc r) ⊎ ((w .rank c ≡ suc r) × (c < 0)) → (w .rank c < r) ⊎ ((w .rank c ≡ r) × (c < p .tree .size))
+          down : (c : ℕ) → Child p n c → (w .rank c < suc r) ⊎ ((w .rank c ≡ suc r) × (c < 0))
+              → (w .rank c < r) ⊎ ((w .rank c ≡ r) × (c < p .tree .size))
           down c hc (inl x) = at (ℕ-discrete (w .rank c) r)
             where
               at : Dec (w .rank c ≡ r) → (w .rank c < r) ⊎ ((w .rank c ≡ r) × (c < p .tree .size))
@@ -138,10 +151,13 @@ module _ (p : Plan) (w : WellFormed p) where
               at (no ne) = inl (omega arith)
           down c hc (inr (q, l)) = absurd (omega arith)
 
-          up : (c : ℕ) → Child p n c → (w .rank c < r) ⊎ ((w .rank c ≡ r) × (c < p .tree .size)) → (w .rank c < suc r) ⊎ ((w .rank c ≡ suc r) × (c < 0))
+          up : (c : ℕ) → Child p n c → (w .rank c < r) ⊎ ((w .rank c ≡ r) × (c < p .tree .size))
+              → (w .rank c < suc r) ⊎ ((w .rank c ≡ suc r) × (c < 0))
           up c hc (inl x) = inl (omega arith)
           up c hc (inr (q, l)) = inl (omega arith)
 
-      -- any set of children that is closed under what is ordered before can be run to its end, each by an execution of our choice
+      -- any set of children that is closed under what is ordered before can be run to its end, each by an execution of
+      -- our choice
       pub stage : Execution p n h → Staged Q n h D
-      stage f = stage-same (λ c hc d. (d, inl (w .rank-below c (hc .node)))) (λ c hc u. u .0) (stage-rows (p .tree .size) f)
+      stage f = stage-same (λ c hc d. (d, inl (w .rank-below c (hc .node)))) (λ c hc u. u .0)
+          (stage-rows (p .tree .size) f)

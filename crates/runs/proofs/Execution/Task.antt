@@ -1,7 +1,8 @@
 -- The executions of a task: nothing, its start, its start and its finish.
 use Rattle.runs.proofs.Base.{_≡_, refl, [], _∷_, ℕ}
 use Rattle.runs.specs.Plan.{task, Plan, WellFormed}
-use Rattle.runs.specs.Execution.{waiting, running, done, Event, start, finish, History, statusAfter, Enabled, can-start, can-finish, Execution}
+use Rattle.runs.specs.Execution.{waiting, running, done, Event, start, finish, History, statusAfter, Enabled}
+use Rattle.runs.specs.Execution.{can-start, can-finish, Execution}
 use Rattle.runs.specs.Execution.{none-yet, one-more, Completed}
 use Rattle.runs.proofs.Reflect.{clash}
 use Rattle.runs.proofs.Execution.Histories.{after-nil, after-same}
@@ -16,11 +17,14 @@ pub data TaskExecution (n : ℕ) : History → Type 0 where
   ended : TaskExecution n (finish n ∷ start n ∷ [])
 
 module _ (p : Plan) (w : WellFormed p) where
-  task-next : {n : ℕ} {e : Event} {h : History} → p .tree .kind n ≡ task → TaskExecution n h → Enabled p n (statusAfter h) e → TaskExecution n (e ∷ h)
+  task-next : {n : ℕ} {e : Event} {h : History} → p .tree .kind n ≡ task → TaskExecution n h
+      → Enabled p n (statusAfter h) e → TaskExecution n (e ∷ h)
   task-next {n} k idle (can-start {t = t} s) = rw (← (under-task p w k (s .beneath))) begun
-  task-next {n} k idle (can-finish {t = t} s) = let y : statusAfter [] t ≡ running = s .runs in let z : statusAfter [] t ≡ waiting = after-nil t in
+  task-next {n} k idle (can-finish {t = t} s) = let y : statusAfter [] t ≡ running = s .runs in
+      let z : statusAfter [] t ≡ waiting = after-nil t in
       clash cc
-  task-next {n} k begun (can-start {t = t} s) = let x : n ≡ t = under-task p w k (s .beneath) in let y : statusAfter (start n ∷ []) t ≡ waiting = s .waits in
+  task-next {n} k begun (can-start {t = t} s) = let x : n ≡ t = under-task p w k (s .beneath) in
+      let y : statusAfter (start n ∷ []) t ≡ waiting = s .waits in
       let z : statusAfter (start n ∷ []) n ≡ running = after-same (start n) [] in clash cc
   task-next {n} k begun (can-finish {t = t} s) = rw (← (under-task p w k (s .beneath))) ended
   task-next {n} k ended (can-start {t = t} s) = let x : n ≡ t = under-task p w k (s .beneath) in

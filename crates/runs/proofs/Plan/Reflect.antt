@@ -1,10 +1,13 @@
 -- The tests of tree and orders reflect them, so all of it can be decided.
 use Rattle.runs.proofs.Base.{_≡_, refl, _⊎_, inl, inr, Bool, ℕ, zero, suc, _+_, _<_, _≤_, arith, T, ℕ-discrete}
-use Rattle.runs.specs.Plan.{Kind, task, all-of, any-of, Picks, Plan, itself, below, Node, Child, Under, Before, direct, chain, Unordered}
+use Rattle.runs.specs.Plan.{Kind, task, all-of, any-of, Picks, Plan, itself, below, Node, Child, Under, Before}
+use Rattle.runs.specs.Plan.{direct, chain, Unordered}
 use Rattle.runs.specs.Plan.{WellFormed}
-use Rattle.runs.specs.Model.Trees.{kindB, picksB, byKind, childB, someChildB, everyChildB, underIn, underB, someTaskB, beforeIn, beforeB}
+use Rattle.runs.specs.Model.Trees.{kindB, picksB, byKind, childB, someChildB, everyChildB, underIn, underB}
+use Rattle.runs.specs.Model.Trees.{someTaskB, beforeIn, beforeB}
 use Rattle.runs.specs.Model.Trees.{unorderedB}
-use Rattle.runs.proofs.Reflect.{clash, Reflects, r-map, decided, reflection, r-guarded, r-both, r-either, r-implies, r-negate, r-any, r-all}
+use Rattle.runs.proofs.Reflect.{clash, Reflects, r-map, decided, reflection, r-guarded, r-both, r-either}
+use Rattle.runs.proofs.Reflect.{r-implies, r-negate, r-any, r-all}
 use Rattle.runs.proofs.Reflect.{r-T, r-eq, r-lt, r-decide}
 use Rattle.runs.proofs.Plan.Trees.{under-node}
 use Rattle.runs.proofs.Plan.Chains.{before-node, before-rank}
@@ -35,7 +38,8 @@ r-picks k = r-map (at k, back k) (r-kind k any-of)
     back any-of x = refl
 
 -- a test with a case for each kind
-pub r-by-kind : {A : Type 0} (k : Kind) (x y z : Unit {0} → Bool) → (k ≡ task → Reflects (x tt) A) → (k ≡ all-of → Reflects (y tt) A)
+pub r-by-kind : {A : Type 0} (k : Kind) (x y z : Unit {0} → Bool) → (k ≡ task → Reflects (x tt) A)
+    → (k ≡ all-of → Reflects (y tt) A)
     → (k ≡ any-of → Reflects (z tt) A) → Reflects (byKind k x y z) A
 unfolding byKind
 r-by-kind task x y z rx ry rz = rx refl
@@ -46,7 +50,8 @@ module _ (p : Plan) where
   pub r-child : (g c : ℕ) → Reflects (childB p g c) (Child p g c)
   unfolding childB
   r-child g c = r-map {A = (0 < c) × (T (p .tree .here c) × (p .tree .parent c ≡ g))}
-      (λ x. record { not-root = x .0; node = x .1 .0; up = x .1 .1 }, λ h. (h .not-root, (h .node, h .up))) (search reflection)
+      (λ x. record { not-root = x .0; node = x .1 .0; up = x .1 .1 }, λ h. (h .not-root, (h .node, h .up)))
+          (search reflection)
 
   pub decChild : (g c : ℕ) → Dec (Child p g c)
   decChild g c = decided (r-child g c)
@@ -56,7 +61,8 @@ module _ (p : Plan) where
     pub r-some-child : {g : ℕ} (P : ℕ → Type 0) (t : ℕ → Bool) → ((c : ℕ) → Child p g c → Reflects (t c) (P c))
         → Reflects (someChildB p g t) ((c : ℕ) × Child p g c × P c)
     unfolding someChildB
-    r-some-child {g} P t r = r-map (λ x. (x .0, x .2 .0, x .2 .1), λ x. (x .0, w .node-below (x .0) (x .1 .node), (x .1, x .2)))
+    r-some-child {g} P t r = r-map (λ x. (x .0, x .2 .0, x .2 .1),
+        λ x. (x .0, w .node-below (x .0) (x .1 .node), (x .1, x .2)))
         (r-any (λ c. Child p g c × P c) _ _ (λ c. r-guarded _ _ (r-child g c) (r c)))
 
     pub r-every-child : {g : ℕ} (P : ℕ → Type 0) (t : ℕ → Bool) → ((c : ℕ) → Child p g c → Reflects (t c) (P c))
@@ -84,7 +90,8 @@ module _ (p : Plan) where
         from : Up a n → a ≡ n
         from (inl e) = e
         from (inr x) = absurd (omega (arith, x .0))
-    r-under-in (suc k) a n l = r-map (up-under, under-up) (r-either _ _ (r-eq a n) (r-guarded _ _ (r-lt 0 n) (λ z. r-guarded _ _ (r-T _)
+    r-under-in (suc k) a n l = r-map (up-under, under-up)
+        (r-either _ _ (r-eq a n) (r-guarded _ _ (r-lt 0 n) (λ z. r-guarded _ _ (r-T _)
         (λ s. r-under-in k a (p .tree .parent n) (omega (arith, w .parent-lower n z s))))))
 
     pub r-under : (a n : ℕ) → Reflects (underB p a n) (Under p a n)
@@ -102,7 +109,8 @@ module _ (p : Plan) where
       λ x. (x .0, x .2 .0, x .2 .1 .0, x .2 .1 .1),
       λ x. (x .0, w .node-below (x .0) (under-node p l (x .1)), (x .1, (x .2, x .3))),
     )
-        (r-any (λ t. Under p c t × ((p .tree .kind t ≡ task) × P t)) _ _ (λ t. r-both _ _ (r-under c t) (r-both _ _ (r-kind _ _) (r t))))
+        (r-any (λ t. Under p c t × ((p .tree .kind t ≡ task) × P t)) _ _
+            (λ t. r-both _ _ (r-under c t) (r-both _ _ (r-kind _ _) (r t))))
 
     -- chains of orders
     abbrev Along : ℕ → ℕ → Type 0
@@ -122,7 +130,8 @@ module _ (p : Plan) where
       where
         from : Along a c → T (p .order a c)
         from (inl o) = o
-        from (inr (b, lb, (o, q))) = absurd (omega (arith, w .rank-rises a b o, before-rank p w q, w .rank-below c (before-node p w q)))
+        from (inr (b, lb, (o, q))) = absurd
+            (omega (arith, w .rank-rises a b o, before-rank p w q, w .rank-below c (before-node p w q)))
     r-before-in (suc k) a c l = r-map (along-before, before-along) (r-either _ _ (r-T (p .order a c))
         (r-any (λ b. T (p .order a b) × Before p b c) _ _
         (λ b. r-guarded _ _ (r-T (p .order a b)) (λ o. r-before-in k b c (omega (arith, w .rank-rises a b o))))))

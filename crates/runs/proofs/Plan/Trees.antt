@@ -65,16 +65,19 @@ module _ (p : Plan) where
     under-root-in zero t b l = let z : 0 ≡ t = omega arith in rw (← z) itself
     under-root-in (suc k) zero b l = itself
     under-root-in (suc k) (suc t) b l = below {n = suc t} (omega arith) l
-        (under-root-in k (p .tree .parent (suc t)) (omega (arith, w .parent-lower (suc t) (omega arith) l)) (w .parent-node (suc t) (omega arith) l))
+        (under-root-in k (p .tree .parent (suc t)) (omega (arith, w .parent-lower (suc t) (omega arith) l))
+            (w .parent-node (suc t) (omega arith) l))
 
     -- every node is under the root
     pub under-root : (t : ℕ) → Node p t → Under p 0 t
     under-root t l = under-root-in t t (omega arith) l
 
-    from-leaves-in : (P : ℕ → Type 0) → ((n : ℕ) → Node p n → ((c : ℕ) → Child p n c → P c) → P n) → (k n : ℕ) → Node p n → p .tree .size ≤ n + k → P n
+    from-leaves-in : (P : ℕ → Type 0) → ((n : ℕ) → Node p n → ((c : ℕ) → Child p n c → P c) → P n) → (k n : ℕ)
+        → Node p n → p .tree .size ≤ n + k → P n
     from-leaves-in P f zero n h b = absurd (omega (arith, w .node-below n h))
     from-leaves-in P f (suc k) n h b = f n h (λ c hc. from-leaves-in P f k c (hc .node) (omega (arith, child-lt hc)))
 
     -- induction from the leaves up
-    pub from-leaves : (P : ℕ → Type 0) → ((n : ℕ) → Node p n → ((c : ℕ) → Child p n c → P c) → P n) → (n : ℕ) → Node p n → P n
+    pub from-leaves : (P : ℕ → Type 0) → ((n : ℕ) → Node p n → ((c : ℕ) → Child p n c → P c) → P n) → (n : ℕ) → Node p n
+        → P n
     from-leaves P f n h = from-leaves-in P f (p .tree .size) n h (omega arith)

@@ -1,9 +1,11 @@
--- The rules by children for the marks of the conditions, each exact: at a task its conditions, at an all-of group a rule for each mark. (At a choice the
+-- The rules by children for the marks of the conditions, each exact: at a task its conditions, at an all-of group a
+-- rule for each mark. (At a choice the
 -- rule is the same for all of them: MayMust. Clobber and ReflectClobber have marks 6 and 7.)
 use Rattle.runs.proofs.Base.{_≡_, refl, _∙_, _⊎_, inl, inr, _↔_, Iff·trans, Bool, Option, none, some, [], _∷_, ℕ}
 use Rattle.runs.specs.Tests.{negate}
 use Rattle.runs.specs.Plan.{all-of, pre, inc, post, Plan, Node, Child, Before, WellFormed}
-use Rattle.runs.specs.Execution.{Event, start, finish, History, lastAssertedOf, lastAsserted, Earlier, none-later, one-later}
+use Rattle.runs.specs.Execution.{Event, start, finish, History, lastAssertedOf, lastAsserted, Earlier, none-later}
+use Rattle.runs.specs.Execution.{one-later}
 use Rattle.runs.specs.Summary.{May, Must, ExternalPre, ExternalPost, Incondition}
 use Rattle.runs.specs.Model.Marks.{quietB, beginsIncB}
 use Rattle.runs.proofs.Reflect.{clash, Reflects, decided, r-negate}
@@ -46,7 +48,8 @@ module _ (p : Plan) (w : WellFormed p) where
       -- at a task: it has the condition
       pub pre-task : (n : ℕ) → ExternalPre p f v (whole n) ↔ (p .cond .sign pre n f ≡ some v)
       unfolding lastAssertedOf
-      pre-task n = (λ x. at (x .needs) (one-of n (x .at)), λ q. record { event = start n; before = []; at = one-later none-later; needs = q; unasserted = refl })
+      pre-task n = (λ x. at (x .needs) (one-of n (x .at)),
+          λ q. record { event = start n; before = []; at = one-later none-later; needs = q; unasserted = refl })
         where
           at : {e : Event} → PreOn p f v e → (e ≡ finish n) ⊎ (e ≡ start n) → p .cond .sign pre n f ≡ some v
           at q (inl z) = let y : PreOn p f v (finish n) = rw z at q in clash cc
@@ -56,7 +59,8 @@ module _ (p : Plan) (w : WellFormed p) where
       unfolding lastAssertedOf
       post-task n = (to (p .cond .sign post n f) refl (p .cond .sign inc n f) refl, λ q. rw q)
         where
-          to : (o : Option Bool) → p .cond .sign post n f ≡ o → (i : Option Bool) → p .cond .sign inc n f ≡ i → lastAsserted p (whole n) f ≡ some v
+          to : (o : Option Bool) → p .cond .sign post n f ≡ o → (i : Option Bool) → p .cond .sign inc n f ≡ i
+              → lastAsserted p (whole n) f ≡ some v
               → p .cond .sign post n f ≡ some v
           to none q none r x = let y : none ≡ some v = rw (q, r) at x in clash cc
           to none q (some u) r x = let (z, y) = w .inc-post n f u r in clash cc
@@ -74,15 +78,18 @@ module _ (p : Plan) (w : WellFormed p) where
 
       -- may need, all-of: some child may need it, and all that stands before that child can avoid the flag
       pub may-pre-all : {n : ℕ} → Node p n → p .tree .kind n ≡ all-of
-          → May p n (ExternalPre p f v) ↔ ((c : ℕ) × Child p n c × May p c (ExternalPre p f v) × ((a : ℕ) → Before p a c → Avoids a))
-      may-pre-all l k = Iff·trans (may-pre-is-meet p w f v l) (Iff·trans (meet-all p w (Unasserted p f) (PreOn p f v) k) (
+          → May p n (ExternalPre p f v) ↔
+              ((c : ℕ) × Child p n c × May p c (ExternalPre p f v) × ((a : ℕ) → Before p a c → Avoids a))
+      may-pre-all l k = Iff·trans (may-pre-is-meet p w f v l)
+          (Iff·trans (meet-all p w (Unasserted p f) (PreOn p f v) k) (
         λ x. (x .0, x .1, (may-pre-is-meet p w f v (x .1 .node)) .1 (x .2), λ a q. (avoid-is-quiet p f) .1 (x .3 a q)),
         λ x. (x .0, x .1, (may-pre-is-meet p w f v (x .1 .node)) .0 (x .2), λ a q. (avoid-is-quiet p f) .0 (x .3 a q)),
       ))
 
       -- may leave, all-of: some child may leave it, and all that stands after that child can avoid the flag
       pub may-post-all : {n : ℕ} → p .tree .kind n ≡ all-of
-          → May p n (ExternalPost p f v) ↔ ((c : ℕ) × Child p n c × May p c (ExternalPost p f v) × ((b : ℕ) → Child p n b → Before p c b → Avoids b))
+          → May p n (ExternalPost p f v) ↔
+              ((c : ℕ) × Child p n c × May p c (ExternalPost p f v) × ((b : ℕ) → Child p n b → Before p c b → Avoids b))
       may-post-all k = Iff·trans (may-post-is-last p f v) (Iff·trans (last-all p w (Unasserted p f) (Asserts p f v) k) (
         λ x. (x .0, x .1, (may-post-is-last p f v) .1 (x .2), λ b hb q. (avoid-is-quiet p f) .1 (x .3 b hb q)),
         λ x. (x .0, x .1, (may-post-is-last p f v) .0 (x .2), λ b hb q. (avoid-is-quiet p f) .0 (x .3 b hb q)),
@@ -92,25 +99,34 @@ module _ (p : Plan) (w : WellFormed p) where
       Without e = ¬ BeginsInc p f v e
 
       -- may hold, must hold, all-of: some child
-      pub may-inc-all : {n : ℕ} → Node p n → p .tree .kind n ≡ all-of → May p n (Incondition p f v) ↔ ((c : ℕ) × Child p n c × May p c (Incondition p f v))
+      pub may-inc-all : {n : ℕ} → Node p n → p .tree .kind n ≡ all-of
+          → May p n (Incondition p f v) ↔ ((c : ℕ) × Child p n c × May p c (Incondition p f v))
       may-inc-all l k = Iff·trans (may-inc-is-meet p f v w l) (Iff·trans (meet-all p w Anything (BeginsInc p f v) k) (
         λ x. (x .0, x .1, (may-inc-is-meet p f v w (x .1 .node)) .1 (x .2)),
-        λ x. (x .0, x .1, (may-inc-is-meet p f v w (x .1 .node)) .0 (x .2), λ a q. quiet-anything p w a ((before-child p w (x .1) q) .node)),
+        λ x. (x .0, x .1, (may-inc-is-meet p f v w (x .1 .node)) .0 (x .2),
+            λ a q. quiet-anything p w a ((before-child p w (x .1) q) .node)),
       ))
 
-      pub must-inc-all : {n : ℕ} → p .tree .kind n ≡ all-of → Must p n (Incondition p f v) ↔ ((c : ℕ) × Child p n c × Must p c (Incondition p f v))
+      pub must-inc-all : {n : ℕ} → p .tree .kind n ≡ all-of
+          → Must p n (Incondition p f v) ↔ ((c : ℕ) × Child p n c × Must p c (Incondition p f v))
       must-inc-all {n} k = (
-        λ m. find (λ g. (must-inc-is p f v w) .0 m ((quiet-all p w Without k) .1 g)) (decided (r-some-child p w (λ c. ¬ MayQuiet p Without c) _ r-loud)),
-        λ x. (must-inc-is p f v w) .1 (λ q. (must-inc-is p f v w) .0 (x .2) ((quiet-all p w Without k) .0 q (x .0) (x .1))),
+        λ m. find (λ g. (must-inc-is p f v w) .0 m ((quiet-all p w Without k) .1 g))
+            (decided (r-some-child p w (λ c. ¬ MayQuiet p Without c) _ r-loud)),
+        λ x. (must-inc-is p f v w) .1 (λ q. (must-inc-is p f v w) .0 (x .2)
+            ((quiet-all p w Without k) .0 q (x .0) (x .1))),
       )
         where
-          r-loud : (c : ℕ) → Child p n c → Reflects (negate (quietB p (λ e. negate (beginsIncB p f v e)) c)) (¬ MayQuiet p Without c)
+          r-loud : (c : ℕ) → Child p n c → Reflects (negate (quietB p (λ e. negate (beginsIncB p f v e)) c))
+              (¬ MayQuiet p Without c)
           r-loud c hc = r-negate _ (r-quiet p w Without _ (λ e. r-negate _ (r-begins-inc p f v e)) c (hc .node))
 
-          find : ¬ ((c : ℕ) → Child p n c → MayQuiet p Without c) → Dec ((c : ℕ) × Child p n c × (¬ MayQuiet p Without c))
+          find : ¬ ((c : ℕ) → Child p n c → MayQuiet p Without c)
+              → Dec ((c : ℕ) × Child p n c × (¬ MayQuiet p Without c))
               → (c : ℕ) × Child p n c × Must p c (Incondition p f v)
           find g (yes (c, hc, k)) = (c, hc, (must-inc-is p f v w) .1 k)
-          find g (no none-loud) = absurd (g (λ c hc. still c hc (decided (r-quiet p w Without _ (λ e. r-negate _ (r-begins-inc p f v e)) c (hc .node)))))
+          find g (no none-loud) = absurd (g
+              (λ c hc. still c hc (decided (r-quiet p w Without _ (λ e. r-negate _ (r-begins-inc p f v e)) c
+              (hc .node)))))
             where
               still : (c : ℕ) → Child p n c → Dec (MayQuiet p Without c) → MayQuiet p Without c
               still c hc (yes q) = q

@@ -2,9 +2,11 @@
 use Rattle.runs.proofs.Base.{_≡_, sym, _∙_, _↔_, Bool, not, some, _∷_, ℕ}
 use Rattle.runs.specs.Plan.{task, all-of, any-of, Plan, Child, WellFormed}
 use Rattle.runs.specs.Execution.{Event, History, Execution, preOf, lastAssertedOf, lastAsserted}
-use Rattle.runs.specs.Summary.{Clobbers, precondition, incondition, Clobbered, ClobberByPairs, in-child, unordered-pair, passed-on, MayClobber}
+use Rattle.runs.specs.Summary.{Clobbers, precondition, incondition, Clobbered, ClobberByPairs, in-child}
+use Rattle.runs.specs.Summary.{unordered-pair, passed-on, MayClobber}
 use Rattle.runs.proofs.Reflect.{clash}
-use Rattle.runs.proofs.Execution.{enabled-under, execution-tail, execution-last, pick-join, any-split, under-task, TaskExecution, begun, ended}
+use Rattle.runs.proofs.Execution.{enabled-under, execution-tail, execution-last, pick-join, any-split}
+use Rattle.runs.proofs.Execution.{under-task, TaskExecution, begun, ended}
 use Rattle.runs.proofs.Execution.{task-execution, picks-any, running-moved, moved-under}
 use Rattle.runs.proofs.Summary.PairsComplete.{clobber-to-pairs}
 use Rattle.runs.proofs.Summary.PairsSound.{passed-on-clobbers, in-child-clobbers, unordered-clobbers}
@@ -21,11 +23,14 @@ module _ (p : Plan) (w : WellFormed p) where
     clobber-all = (clobber-to-pairs p w kn f v, pairs-to-clobber)
 
   -- a choice clobbers exactly if some branch does
-  pub clobber-any : {n : ℕ} (f : ℕ) (v : Bool) → p .tree .kind n ≡ any-of → MayClobber p f v n ↔ ((c : ℕ) × Child p n c × MayClobber p f v c)
+  pub clobber-any : {n : ℕ} (f : ℕ) (v : Bool) → p .tree .kind n ≡ any-of
+      → MayClobber p f v n ↔ ((c : ℕ) × Child p n c × MayClobber p f v c)
   clobber-any {n} f v k = (
-    λ x. let (c, hc, g) = any-split p w k (x .execution) in (c, hc, record { history = x .history; event = x .event; execution = g; clobbers = x .clobbers }),
+    λ x. let (c, hc, g) = any-split p w k (x .execution) in
+        (c, hc, record { history = x .history; event = x .event; execution = g; clobbers = x .clobbers }),
     λ y. let x = y .2 in
-        record { history = x .history; event = x .event; execution = pick-join p w (picks-any k) (y .1) (x .execution); clobbers = x .clobbers },
+        record { history = x .history; event = x .event; execution = pick-join p w (picks-any k) (y .1) (x .execution);
+            clobbers = x .clobbers },
   )
 
   -- no task does
@@ -33,7 +38,8 @@ module _ (p : Plan) (w : WellFormed p) where
   unfolding lastAssertedOf
   clobber-task {n} f v k x = go (x .history) (x .event) (x .execution) (x .clobbers)
     where
-      fresh : {e : Event} {r : History} → TaskExecution n (e ∷ r) → preOf (p .cond) e f ≡ some v → lastAsserted p r f ≡ some (not v) → ⊥
+      fresh : {e : Event} {r : History} → TaskExecution n (e ∷ r) → preOf (p .cond) e f ≡ some v
+          → lastAsserted p r f ≡ some (not v) → ⊥
       fresh begun nd q = clash cc
       fresh ended nd q = clash cc
 

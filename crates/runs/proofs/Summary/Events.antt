@@ -16,7 +16,8 @@ module _ (p : Plan) (f : ℕ) where
   unasserted-all [] q = all-nil
   unasserted-all (e ∷ h) q = go (asserts p e f) refl (λ x. unasserted-all h x)
     where
-      go : (o : Option Bool) → asserts p e f ≡ o → (lastAsserted p h f ≡ none → All (Unasserted p f) h) → All (Unasserted p f) (e ∷ h)
+      go : (o : Option Bool) → asserts p e f ≡ o → (lastAsserted p h f ≡ none → All (Unasserted p f) h)
+          → All (Unasserted p f) (e ∷ h)
       go none r ih = all-cons r (ih (rw r at q))
       go (some v) r ih = let x : some v ≡ none = rw r at q in clash cc
 
@@ -48,6 +49,7 @@ module _ (p : Plan) (f : ℕ) where
     r-covers e = r-both _ _ (r-negate _ (r-pre e)) (r-negate _ (r-unasserted e))
 
 -- a precondition is on a flag of the plan
-pub pre-flag : (p : Plan) → WellFormed p → {f : ℕ} {v : Bool} (e : Event) → preOf (p .cond) e f ≡ some v → f < p .cond .flags
+pub pre-flag : (p : Plan) → WellFormed p → {f : ℕ} {v : Bool} (e : Event) → preOf (p .cond) e f ≡ some v
+    → f < p .cond .flags
 pre-flag p w {f} {v} (start t) q = (w .on-task pre t f v q) .2
 pre-flag p w {f} {v} (finish t) q = clash cc

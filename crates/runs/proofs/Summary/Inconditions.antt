@@ -1,4 +1,5 @@
--- May and must incondition, through quiet and meet: a task with it runs at some time exactly if an event of the history begins it.
+-- May and must incondition, through quiet and meet: a task with it runs at some time exactly if an event of the history
+-- begins it.
 use Rattle.runs.proofs.Base.{_⊎_, inl, inr, _↔_, Bool, [], _∷_, _++_, ℕ}
 use Rattle.runs.specs.Plan.{Plan, Node, WellFormed}
 use Rattle.runs.specs.Execution.{Event, start, finish, History, Completed, Earlier, none-later, one-later}
@@ -43,11 +44,14 @@ module _ (p : Plan) (f : ℕ) (v : Bool) where
         }
 
         from : MayMeet p Anything (BeginsInc p f v) n → May p n (Incondition p f v)
-        from m = let g : Extended p w n (m .event ∷ m .before) = extends p w n l (m .event ∷ m .before) (m .execution) in
+        from m = let g : Extended p w n (m .event ∷ m .before) =
+            extends p w n l (m .event ∷ m .before) (m .execution) in
             record {
               history = g .more ++ (m .event ∷ m .before);
               completed = g .completed;
-              holds = begun-incondition (record { event = m .event; before = m .before; at = earlier-append (g .more) (m .event ∷ m .before); begins = m .hit });
+              holds = begun-incondition (record
+                  { event = m .event; before = m .before; at = earlier-append (g .more) (m .event ∷ m .before);
+                  begins = m .hit });
             }
 
     -- must incondition: no completed execution is without such an event
@@ -61,12 +65,15 @@ module _ (p : Plan) (f : ℕ) (v : Bool) where
         look [] = inl all-nil
         look (e ∷ h) = go (decided (r-begins-inc p f v e)) (look h)
           where
-            go : Dec (BeginsInc p f v e) → All (λ e. ¬ BeginsInc p f v e) h ⊎ Begun h → All (λ e. ¬ BeginsInc p f v e) (e ∷ h) ⊎ Begun (e ∷ h)
-            go d (inr x) = inr (record { event = x .event; before = x .before; at = one-later (x .at); begins = x .begins })
+            go : Dec (BeginsInc p f v e) → All (λ e. ¬ BeginsInc p f v e) h ⊎ Begun h
+                → All (λ e. ¬ BeginsInc p f v e) (e ∷ h) ⊎ Begun (e ∷ h)
+            go d (inr x) = inr (record { event = x .event; before = x .before; at = one-later (x .at);
+                begins = x .begins })
             go (no k) (inl a) = inl (all-cons k a)
             go (yes q) (inl a) = inr (record { event = e; before = h; at = none-later; begins = q })
 
-        at : (¬ MayQuiet p (λ e. ¬ BeginsInc p f v e) n) → (h : History) → Completed p n h → All (λ e. ¬ BeginsInc p f v e) h ⊎ Begun h
+        at : (¬ MayQuiet p (λ e. ¬ BeginsInc p f v e) n) → (h : History) → Completed p n h
+            → All (λ e. ¬ BeginsInc p f v e) h ⊎ Begun h
             → Incondition p f v h
         at k h x (inl a) = absurd (k (record { history = h; completed = x; holds = a }))
         at k h x (inr y) = begun-incondition y

@@ -1,11 +1,14 @@
 -- Last (`MayLast`): its rules by children. At a choice it is `may-any`.
-use Rattle.runs.proofs.Base.{_≡_, refl, ap, _∙_, sym, _⊎_, inl, inr, _↔_, Iff·trans, _≢_, [], _∷_, _++_, append-nil, ℕ, arith, ℕ-discrete, T}
+use Rattle.runs.proofs.Base.{_≡_, refl, ap, _∙_, sym, _⊎_, inl, inr, _↔_, Iff·trans, _≢_, [], _∷_, _++_}
+use Rattle.runs.proofs.Base.{append-nil, ℕ, arith, ℕ-discrete, T}
 use Rattle.runs.specs.Plan.{task, all-of, Plan, Child, Under, Before, direct, WellFormed}
-use Rattle.runs.specs.Execution.{Event, start, finish, History, nodeOf, statusAfter, all-done, Complete, Execution, Completed}
+use Rattle.runs.specs.Execution.{Event, start, finish, History, nodeOf, statusAfter, all-done, Complete}
+use Rattle.runs.specs.Execution.{Execution, Completed}
 use Rattle.runs.proofs.Plan.{Branch, one-branch, before-rank, before-trans, before-irrefl, decBefore}
 use Rattle.runs.specs.Classes.{All, all-nil, all-cons, Anything, MayQuiet, LastIs, here, past, MayLast}
 use Rattle.runs.proofs.Execution.{earlier-append, branch-of, part, part-nil, part-in, part-out}
-use Rattle.runs.proofs.Execution.{execution-last, earlier-execution, execution-under, part-append, part-other, part-all, part-completed}
+use Rattle.runs.proofs.Execution.{execution-last, earlier-execution, execution-under, part-append, part-other}
+use Rattle.runs.proofs.Execution.{part-all, part-completed}
 use Rattle.runs.proofs.Execution.{complete-stays, extend-completed, Staged, stage, apart}
 use Rattle.runs.proofs.Summary.MayMust.{whole, may-task}
 use Rattle.runs.proofs.Summary.Quiet.{quiet-stage, quiet-anything}
@@ -20,9 +23,11 @@ pub record LastAt (Q H : Event → Type 0) (h : History) : Type 0 where
 
 module _ {Q H : Event → Type 0} where
   pub last-at : {h : History} → LastIs Q H h → LastAt Q H h
-  last-at (here {e = e} {r = r} x) = record { later = []; event = e; before = r; splits = refl; hit = x; quiet = all-nil }
+  last-at (here {e = e} {r = r} x) =
+      record { later = []; event = e; before = r; splits = refl; hit = x; quiet = all-nil }
   last-at (past {e = e} q l) = let a = last-at l in
-      record { later = e ∷ a .later; event = a .event; before = a .before; splits = ap (λ z. e ∷ z) (a .splits); hit = a .hit; quiet = all-cons q (a .quiet) }
+      record { later = e ∷ a .later; event = a .event; before = a .before; splits = ap (λ z. e ∷ z) (a .splits);
+          hit = a .hit; quiet = all-cons q (a .quiet) }
 
   pub last-past : {g h : History} → All Q g → LastIs Q H h → LastIs Q H (g ++ h)
   last-past all-nil l = l
@@ -48,7 +53,8 @@ module _ (p : Plan) (w : WellFormed p) (Q H : Event → Type 0) where
   abbrev pub LastAll : ℕ → Type 0
   LastAll n = (c : ℕ) × Child p n c × MayLast p Q H c × ((b : ℕ) → Child p n b → Before p c b → MayQuiet p Q b)
 
-  last-all-to : {n : ℕ} (g : History) (e : Event) (r : History) → p .tree .kind n ≡ all-of → Completed p n (g ++ (e ∷ r)) → H e → All Q g → LastAll n
+  last-all-to : {n : ℕ} (g : History) (e : Event) (r : History) → p .tree .kind n ≡ all-of
+      → Completed p n (g ++ (e ∷ r)) → H e → All Q g → LastAll n
   last-all-to {n} g e r k wh x q = (
     c,
     hc,
@@ -77,7 +83,8 @@ module _ (p : Plan) (w : WellFormed p) (Q H : Event → Type 0) where
 
       quiet-after : (a : ℕ) → Child p n a → Before p c a → MayQuiet p Q a
       quiet-after a ha q′ =
-          let ne : ¬ Under p a (nodeOf e) = λ v. omega (arith, before-rank p w q′, ap (w .rank) (one-branch p w hc ha u v)) in
+          let ne : ¬ Under p a (nodeOf e) =
+              λ v. omega (arith, before-rank p w q′, ap (w .rank) (one-branch p w hc ha u v)) in
           let nil : part p w a (e ∷ r) ≡ [] = part-out p w a e r ne ∙ apart p w fr ha q′ u in
           record {
             history = part p w a (g ++ (e ∷ r));
@@ -93,9 +100,12 @@ module _ (p : Plan) (w : WellFormed p) (Q H : Event → Type 0) where
     pub kept : (a : ℕ) → Child p n a → ¬ D a → part p w a history ≡ []
     pub is : LastIs Q H history
 
-  -- A closed set of children, d one of them: those that need not come after d run first, then d, ending in H, then those after d, quietly.
-  module _ {n : ℕ} (k : p .tree .kind n ≡ all-of) (D : ℕ → Type 0) (decD : (a : ℕ) → Dec (D a)) (closed : (a b : ℕ) → D b → T (p .order a b) → D a)
-      (d : ℕ) (hd : Child p n d) (dd : D d) (m : MayLast p Q H d) (after : (b : ℕ) → Child p n b → D b → Before p d b → MayQuiet p Q b) where
+  -- A closed set of children, d one of them: those that need not come after d run first, then d, ending in H, then
+  -- those after d, quietly.
+  module _ {n : ℕ} (k : p .tree .kind n ≡ all-of) (D : ℕ → Type 0) (decD : (a : ℕ) → Dec (D a))
+      (closed : (a b : ℕ) → D b → T (p .order a b) → D a)
+      (d : ℕ) (hd : Child p n d) (dd : D d) (m : MayLast p Q H d)
+          (after : (b : ℕ) → Child p n b → D b → Before p d b → MayQuiet p Q b) where
     abbrev Sooner : ℕ → Type 0
     Sooner a = D a × (a ≢ d) × (¬ Before p d a)
 
@@ -140,7 +150,8 @@ module _ (p : Plan) (w : WellFormed p) (Q H : Event → Type 0) where
 
     first : Staged p w Anything n [] Sooner
     first = quiet-stage p w Anything k Sooner decSooner
-        (λ a b ha hb x o. (closed a b (x .0) o, (λ e. x .2 (direct (rw e at o))), λ q. x .2 (before-trans p q (direct o)))) (λ a ha x. quiet-anything p w a (ha .node))
+        (λ a b ha hb x o. (closed a b (x .0) o, (λ e. x .2 (direct (rw e at o))),
+            λ q. x .2 (before-trans p q (direct o)))) (λ a ha x. quiet-anything p w a (ha .node))
 
     abbrev h₁ : History
     h₁ = first .more ++ []
@@ -150,7 +161,8 @@ module _ (p : Plan) (w : WellFormed p) (Q H : Event → Type 0) where
 
     second : Execution p n (m .history ++ h₁) × Complete p (statusAfter (m .history ++ h₁)) d
     second = extend-completed p w (m .history) h₁ k hd
-        (λ a ha o. first .got a ha (closed a d dd o, (λ e. before-irrefl p w (direct (rw e at o))), λ q. before-irrefl p w (before-trans p q (direct o))))
+        (λ a ha o. first .got a ha (closed a d dd o, (λ e. before-irrefl p w (direct (rw e at o))),
+            λ q. before-irrefl p w (before-trans p q (direct o))))
         (first .execution) (rw (empty₁ d hd (λ x. x .1 refl), append-nil (m .history)) (m .completed))
 
     abbrev h₂ : History
@@ -166,7 +178,8 @@ module _ (p : Plan) (w : WellFormed p) (Q H : Event → Type 0) where
     third : Staged p w Q n h₂ Later
     third = stage p w Q n k h₂ Later decLater
         (λ a ha x. let y = after a ha (x .0) (x .1) in
-        (y .history, rw (empty₂ a ha (λ e. not-self e (x .1)) (λ z. z .2 (x .1)), append-nil (y .history)) (y .completed), y .holds))
+        (y .history, rw (empty₂ a ha (λ e. not-self e (x .1)) (λ z. z .2 (x .1)), append-nil (y .history))
+            (y .completed), y .holds))
         (λ a b ha hb x o. at a ha (closed a b (x .0) o) (position a)) (second .0)
       where
         at : (a : ℕ) → Child p n a → D a → Position a → Later a ⊎ Complete p (statusAfter h₂) a
@@ -191,14 +204,18 @@ module _ (p : Plan) (w : WellFormed p) (Q H : Event → Type 0) where
         done-at a ha x (out z) = absurd (z x)
 
   last-all-from : {n : ℕ} → p .tree .kind n ≡ all-of → LastAll n → MayLast p Q H n
-  last-all-from {n} k (c, hc, m, after) = build (ending k (λ a. Unit {0}) (λ a. yes tt) (λ a b x o. tt) c hc tt m (λ b hb x q. after b hb q))
+  last-all-from {n} k (c, hc, m, after) =
+      build (ending k (λ a. Unit {0}) (λ a. yes tt) (λ a b x o. tt) c hc tt m (λ b hb x q. after b hb q))
     where
       build : Ending n (λ a. Unit {0}) → MayLast p Q H n
-      build s = record { history = s .history; completed = record { execution = s .execution; complete = all-done k (λ a ha. s .got a ha tt) }; holds = s .is }
+      build s = record { history = s .history;
+          completed = record { execution = s .execution; complete = all-done k (λ a ha. s .got a ha tt) };
+          holds = s .is }
 
   -- all-of: some child ends with H, and all that stands after it is quiet
   pub last-all : {n : ℕ} → p .tree .kind n ≡ all-of → MayLast p Q H n ↔ LastAll n
   last-all {n} k = (
-    λ m. let a = last-at (m .holds) in last-all-to (a .later) (a .event) (a .before) k (rw (a .splits) at (m .completed)) (a .hit) (a .quiet),
+    λ m. let a = last-at (m .holds) in
+        last-all-to (a .later) (a .event) (a .before) k (rw (a .splits) at (m .completed)) (a .hit) (a .quiet),
     last-all-from k,
   )

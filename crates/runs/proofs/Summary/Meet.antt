@@ -4,8 +4,10 @@ use Rattle.runs.specs.Plan.{task, all-of, any-of, Plan, Child, Before, d
 use Rattle.runs.specs.Execution.{Event, start, finish, History, nodeOf, statusAfter}
 use Rattle.runs.proofs.Plan.{child-under, Branch, before-rank, decBefore}
 use Rattle.runs.specs.Classes.{All, all-nil, all-cons, MayQuiet, MayMeet}
-use Rattle.runs.proofs.Execution.{completed-before, all-append, branch-of, part, part-nil, part-in, part-execution}
-use Rattle.runs.proofs.Execution.{execution-last, part-all, pick-join, any-split, extend, Staged, TaskExecution, begun, ended, task-execution}
+use Rattle.runs.proofs.Execution.{completed-before, all-append, branch-of, part, part-nil, part-in}
+use Rattle.runs.proofs.Execution.{part-execution}
+use Rattle.runs.proofs.Execution.{execution-last, part-all, pick-join, any-split, extend, Staged, TaskExecution}
+use Rattle.runs.proofs.Execution.{begun, ended, task-execution}
 use Rattle.runs.proofs.Execution.{task-begun, task-ended, picks-any}
 use Rattle.runs.proofs.Summary.Quiet.{quiet-stage}
 
@@ -14,13 +16,15 @@ module _ (p : Plan) (w : WellFormed p) (Q H : Event → Type 0) where
   pub meet-task : {n : ℕ} → p .tree .kind n ≡ task → MayMeet p Q H n ↔ (H (start n) ⊎ (Q (start n) × H (finish n)))
   meet-task {n} k = (λ m. to (task-execution p w k (m .execution)) (m .hit) (m .quiet), from)
     where
-      to : {e : Event} {r : History} → TaskExecution n (e ∷ r) → H e → All Q r → H (start n) ⊎ (Q (start n) × H (finish n))
+      to : {e : Event} {r : History} → TaskExecution n (e ∷ r) → H e → All Q r
+          → H (start n) ⊎ (Q (start n) × H (finish n))
       to begun h q = inl h
       to ended h (all-cons q a) = inr (q, h)
 
       from : H (start n) ⊎ (Q (start n) × H (finish n)) → MayMeet p Q H n
       from (inl h) = record { event = start n; before = []; execution = task-begun p w k; hit = h; quiet = all-nil }
-      from (inr (q, h)) = record { event = finish n; before = start n ∷ []; execution = task-ended p w k .execution; hit = h; quiet = all-cons q all-nil }
+      from (inr (q, h)) = record { event = finish n; before = start n ∷ []; execution = task-ended p w k .execution;
+          hit = h; quiet = all-cons q all-nil }
 
   -- any-of: some branch
   pub meet-any : {n : ℕ} → p .tree .kind n ≡ any-of → MayMeet p Q H n ↔ ((c : ℕ) × Child p n c × MayMeet p Q H c)
@@ -49,7 +53,8 @@ module _ (p : Plan) (w : WellFormed p) (Q H : Event → Type 0) where
     record {
       event = m .event;
       before = part p w (b .via) (m .before);
-      execution = rw (part-in p w (b .via) (m .event) (m .before) (b .beneath)) at (part-execution p w (child-under p (b .child)) (m .execution));
+      execution = rw (part-in p w (b .via) (m .event) (m .before) (b .beneath)) at
+          (part-execution p w (child-under p (b .child)) (m .execution));
       hit = m .hit;
       quiet = part-all p w (b .via) (m .quiet);
     },
@@ -64,7 +69,8 @@ module _ (p : Plan) (w : WellFormed p) (Q H : Event → Type 0) where
       b = branch-of p w (statusAfter (m .before)) k (execution-last p w (m .execution))
 
   meet-all-from : {n : ℕ} → p .tree .kind n ≡ all-of → MeetAll n → MayMeet p Q H n
-  meet-all-from {n} k (c, hc, m, before) = build (quiet-stage p w Q k (λ a. Before p a c) (λ a. decBefore p w a c) (λ a b ha hb q o. chain o q)
+  meet-all-from {n} k (c, hc, m, before) =
+      build (quiet-stage p w Q k (λ a. Before p a c) (λ a. decBefore p w a c) (λ a b ha hb q o. chain o q)
       (λ a ha q. before a q))
     where
       build : Staged p w Q n [] (λ a. Before p a c) → MayMeet p Q H n
@@ -73,8 +79,10 @@ module _ (p : Plan) (w : WellFormed p) (Q H : Event → Type 0) where
         before = m .before ++ (s .more ++ []);
         hit = m .hit;
         quiet = all-append (m .quiet) (all-append (s .good) all-nil);
-        execution = extend p w (m .event ∷ m .before) (s .more ++ []) k hc (λ a ha o. s .got a ha (direct o)) (s .execution)
-            (rw (s .kept c hc (λ q. omega (arith, before-rank p w q)) ∙ part-nil p w c, append-nil (m .event ∷ m .before)) (m .execution));
+        execution = extend p w (m .event ∷ m .before) (s .more ++ []) k hc (λ a ha o. s .got a ha (direct o))
+            (s .execution)
+            (rw (s .kept c hc (λ q. omega (arith, before-rank p w q)) ∙ part-nil p w c,
+                append-nil (m .event ∷ m .before)) (m .execution));
       }
 
   -- all-of: some child meets H, and all that stands before it is quiet

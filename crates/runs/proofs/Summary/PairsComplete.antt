@@ -1,14 +1,19 @@
 -- An all-of group that may clobber has a pair: the children are read off the execution by projection.
 use Rattle.runs.proofs.Base.{_≡_, sym, _∙_, _≢_, _⊎_, inl, inr, Bool, not, some, [], _∷_, _++_, append-nil, ℕ}
 use Rattle.runs.specs.Plan.{task, all-of, inc, Plan, Child, Under, Before, WellFormed, pre, post}
-use Rattle.runs.specs.Execution.{running, Event, start, finish, History, nodeOf, statusAfter, Execution, Completed, preOf, asserts}
+use Rattle.runs.specs.Execution.{running, Event, start, finish, History, nodeOf, statusAfter, Execution}
+use Rattle.runs.specs.Execution.{Completed, preOf, asserts}
 use Rattle.runs.specs.Execution.{lastAsserted}
-use Rattle.runs.specs.Summary.{Clobbers, precondition, incondition, TaskWith, ClobberByPairs, in-child, unordered-pair, passed-on, MayClobber}
+use Rattle.runs.specs.Summary.{Clobbers, precondition, incondition, TaskWith, ClobberByPairs, in-child}
+use Rattle.runs.specs.Summary.{unordered-pair, passed-on, MayClobber}
 use Rattle.runs.proofs.Reflect.{clash}
-use Rattle.runs.proofs.Plan.{child-under, Branch, branch, one-branch, before-irrefl, Standing, same, earlier, later, unordered, standing}
+use Rattle.runs.proofs.Plan.{child-under, Branch, branch, one-branch, before-irrefl, Standing, same, earlier}
+use Rattle.runs.proofs.Plan.{later, unordered, standing}
 use Rattle.runs.specs.Classes.{All, Unasserted, here}
-use Rattle.runs.proofs.Execution.{after-nil, earlier-append, OfTask, enabled-of-task, all-of-rests, branch-of, part, part-in, part-out}
-use Rattle.runs.proofs.Execution.{after-part, part-execution, execution-tail, execution-last, earlier-execution, part-append, part-all, apart}
+use Rattle.runs.proofs.Execution.{after-nil, earlier-append, OfTask, enabled-of-task, all-of-rests, branch-of}
+use Rattle.runs.proofs.Execution.{part, part-in, part-out}
+use Rattle.runs.proofs.Execution.{after-part, part-execution, execution-tail, execution-last, earlier-execution}
+use Rattle.runs.proofs.Execution.{part-append, part-all, apart}
 use Rattle.runs.proofs.Execution.{completed-before, running-moved, running-task, moved-under, none-runs}
 use Rattle.runs.proofs.Summary.Events.{all-unasserted}
 use Rattle.runs.proofs.Summary.Last.{last-at, last-past}
@@ -17,25 +22,29 @@ use Rattle.runs.proofs.Summary.Preconditions.{may-pre-is-meet}
 
 module _ (p : Plan) (w : WellFormed p) where
   -- what an event needs, its task needs
-  need-of : {f : ℕ} {v : Bool} (d : ℕ) (e : Event) → OfTask p e → Under p d (nodeOf e) → preOf (p .cond) e f ≡ some v → TaskWith p pre inc f v d
+  need-of : {f : ℕ} {v : Bool} (d : ℕ) (e : Event) → OfTask p e → Under p d (nodeOf e) → preOf (p .cond) e f ≡ some v
+      → TaskWith p pre inc f v d
   need-of d (start t) k u q = record { who = t; is-task = k; beneath = u; has = inl q }
   need-of d (finish t) k u q = clash cc
 
   -- what an event asserts, its task holds or leaves
-  assertion-of : {f : ℕ} {v : Bool} (d : ℕ) (e : Event) → OfTask p e → Under p d (nodeOf e) → asserts p e f ≡ some v → TaskWith p inc post f v d
+  assertion-of : {f : ℕ} {v : Bool} (d : ℕ) (e : Event) → OfTask p e → Under p d (nodeOf e) → asserts p e f ≡ some v
+      → TaskWith p inc post f v d
   assertion-of d (start t) k u q = record { who = t; is-task = k; beneath = u; has = inl q }
   assertion-of d (finish t) k u q = record { who = t; is-task = k; beneath = u; has = inr q }
 
   module _ {n : ℕ} (kn : p .tree .kind n ≡ all-of) (f : ℕ) (v : Bool) where
     -- d before b, an event under d: nothing under b has happened
-    nothing-after : {b d : ℕ} (g : History) (e : Event) (r : History) → Child p n b → Child p n d → Execution p n (e ∷ r) → Under p d (nodeOf e)
+    nothing-after : {b d : ℕ} (g : History) (e : Event) (r : History) → Child p n b → Child p n d
+        → Execution p n (e ∷ r) → Under p d (nodeOf e)
         → Before p d b → All (Unasserted p f) g → All (Unasserted p f) (part p w b (g ++ (e ∷ r)))
     nothing-after {b} {d} g e r hb hd fr u q a =
         let ne : ¬ Under p b (nodeOf e) = λ x. before-irrefl p w (rw (one-branch p w hd hb u x) at q) in
         let nil : part p w b (e ∷ r) ≡ [] = part-out p w b e r ne ∙ apart p w fr hb q u in
         rw (part-append p w b g (e ∷ r), nil, append-nil (part p w b g)) (part-all p w b a)
 
-    pre-to-pairs : (ev : Event) (g : History) (e : Event) (r : History) → Execution p n (ev ∷ (g ++ (e ∷ r))) → preOf (p .cond) ev f ≡ some v
+    pre-to-pairs : (ev : Event) (g : History) (e : Event) (r : History) → Execution p n (ev ∷ (g ++ (e ∷ r)))
+        → preOf (p .cond) ev f ≡ some v
         → All (Unasserted p f) g → asserts p e f ≡ some (not v) → ClobberByPairs p f v n
     pre-to-pairs ev g e r fr nd a wr = go (standing p w c d)
       where
@@ -79,7 +88,8 @@ module _ (p : Plan) (w : WellFormed p) where
         })
         go (earlier q) = absurd (not-nil (part p w d g) (sym part-d ∙ apart p w fr (be .child) q (bt .beneath)))
         go (later q) = passed-on c d (bt .child) (be .child) q
-            (record { history = part p w d h; completed = completed-before p w ev h (bt .child) fr (bt .beneath) q; holds = last-d })
+            (record { history = part p w d h; completed = completed-before p w ev h (bt .child) fr (bt .beneath) q;
+                holds = last-d })
             ((may-pre-is-meet p w f v (bt .child .node)) .1
             (record {
               event = ev;
@@ -97,7 +107,8 @@ module _ (p : Plan) (w : WellFormed p) where
             (need-of c ev (enabled-of-task p (execution-last p w fr)) (bt .beneath) nd)
             (assertion-of d e (enabled-of-task p (execution-last p w fe)) (be .beneath) wr)
 
-    inc-to-pairs : (e : Event) (h : History) (t : ℕ) → Execution p n (e ∷ h) → nodeOf e ≢ t → p .cond .sign inc t f ≡ some v → statusAfter h t ≡ running
+    inc-to-pairs : (e : Event) (h : History) (t : ℕ) → Execution p n (e ∷ h) → nodeOf e ≢ t
+        → p .cond .sign inc t f ≡ some v → statusAfter h t ≡ running
         → asserts p e f ≡ some (not v) → ClobberByPairs p f v n
     inc-to-pairs e h t fr other ho ru br = go (standing p w c d)
       where
@@ -131,9 +142,11 @@ module _ (p : Plan) (w : WellFormed p) where
           history = part p w c h;
           event = e;
           clobbers = incondition t other ho runs-c br;
-          execution = rw (part-in p w c e h (rw (← q) at (be .beneath))) at (part-execution p w (child-under p (bt .child)) fr);
+          execution = rw (part-in p w c e h (rw (← q) at (be .beneath))) at
+              (part-execution p w (child-under p (bt .child)) fr);
         })
-        go (earlier q) = let wc : Completed p c (part p w c h) = completed-before p w e h (be .child) fr (be .beneath) q in
+        go (earlier q) = let wc : Completed p c (part p w c h) =
+            completed-before p w e h (be .child) fr (be .beneath) q in
             absurd (none-runs p w (bt .child .node) (wc .execution) (wc .complete) t runs-c)
         go (later q) = absurd (running-moved runs-c (rw (apart p w fr (bt .child) q (be .beneath)) (after-nil t)))
         go (unordered u) = unordered-pair c d (bt .child) (be .child) u

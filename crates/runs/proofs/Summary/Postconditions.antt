@@ -1,5 +1,6 @@
 -- May and must external postcondition, through last and quiet.
-use Rattle.runs.proofs.Base.{_≡_, refl, ap, _∙_, _↔_, _≢_, Bool-discrete, Bool, true, false, not, Option, none, some, [], _∷_, ℕ}
+use Rattle.runs.proofs.Base.{_≡_, refl, ap, _∙_, _↔_, _≢_, Bool-discrete, Bool, true, false, not, Option, none}
+use Rattle.runs.proofs.Base.{some, [], _∷_, ℕ}
 use Rattle.runs.specs.Plan.{Plan}
 use Rattle.runs.specs.Execution.{History, Completed, lastAssertedOf, asserts, lastAsserted}
 use Rattle.runs.specs.Summary.{May, Must, ExternalPost}
@@ -18,7 +19,8 @@ module _ (p : Plan) (f : ℕ) where
   some-last v [] q = clash cc
   some-last v (e ∷ h) q = go (asserts p e f) refl (λ x. some-last v h x)
     where
-      go : (o : Option Bool) → asserts p e f ≡ o → (lastAsserted p h f ≡ some v → LastIs (Unasserted p f) (Asserts p f v) h)
+      go : (o : Option Bool) → asserts p e f ≡ o
+          → (lastAsserted p h f ≡ some v → LastIs (Unasserted p f) (Asserts p f v) h)
           → LastIs (Unasserted p f) (Asserts p f v) (e ∷ h)
       go none r ih = past r (ih (rw r at q))
       go (some u) r ih = here (r ∙ (rw r at q))
@@ -31,7 +33,8 @@ module _ (p : Plan) (f : ℕ) where
   )
 
   -- may external postcondition: the literal is asserted last
-  pub may-post-is-last : {n : ℕ} (v : Bool) → May p n (ExternalPost p f v) ↔ MayLast p (Unasserted p f) (Asserts p f v) n
+  pub may-post-is-last : {n : ℕ} (v : Bool)
+      → May p n (ExternalPost p f v) ↔ MayLast p (Unasserted p f) (Asserts p f v) n
   may-post-is-last {n} v = (
     λ m. record { history = m .history; completed = m .completed; holds = some-last v (m .history) (m .holds) },
     λ m. record { history = m .history; completed = m .completed; holds = last-some (m .holds) },
@@ -41,7 +44,8 @@ module _ (p : Plan) (f : ℕ) where
   pub must-post-is : {n : ℕ} (v : Bool) → Must p n (ExternalPost p f v)
       ↔ ((¬ May p n (λ h. lastAsserted p h f ≡ none)) × (¬ May p n (ExternalPost p f (not v))))
   must-post-is {n} v = (
-    λ m. (λ q. never (q .history) (m (q .history) (q .completed)) (q .holds), λ q. other (q .history) v (m (q .history) (q .completed)) (q .holds)),
+    λ m. (λ q. never (q .history) (m (q .history) (q .completed)) (q .holds),
+        λ q. other (q .history) v (m (q .history) (q .completed)) (q .holds)),
     λ k h x. at k h x (lastAsserted p h f) refl,
   )
     where
@@ -58,7 +62,8 @@ module _ (p : Plan) (f : ℕ) where
       flip false true k = refl
       flip false false k = absurd (k refl)
 
-      at : (¬ May p n (λ h. lastAsserted p h f ≡ none)) × (¬ May p n (ExternalPost p f (not v))) → (h : History) → Completed p n h
+      at : (¬ May p n (λ h. lastAsserted p h f ≡ none)) × (¬ May p n (ExternalPost p f (not v))) → (h : History)
+          → Completed p n h
           → (o : Option Bool) → lastAsserted p h f ≡ o → lastAsserted p h f ≡ some v
       at (a, b) h x none q = absurd (a (record { history = h; completed = x; holds = q }))
       at (a, b) h x (some u) q = same (Bool-discrete u v)

@@ -20,7 +20,8 @@ module _ (p : Plan) (w : WellFormed p) (Q : Event → Type 0) where
       → ((a b : ℕ) → Child p n a → Child p n b → D b → T (p .order a b) → D a)
       → ((c : ℕ) → Child p n c → D c → MayQuiet p Q c) → Staged p w Q n [] D
   quiet-stage {n} k D decD closed history = stage p w Q n k [] D decD
-      (λ c hc d. let m = history c hc d in (m .history, rw (part-nil p w c, append-nil (m .history)) (m .completed), m .holds))
+      (λ c hc d. let m = history c hc d in
+          (m .history, rw (part-nil p w c, append-nil (m .history)) (m .completed), m .holds))
       (λ a b ha hb db o. inl (closed a b ha hb db o)) none-yet
 
   -- all-of: every child is quiet
@@ -46,4 +47,5 @@ module _ (p : Plan) (w : WellFormed p) (Q : Event → Type 0) where
 
 -- every node has a completed execution, of which nothing is asked
 pub quiet-anything : (p : Plan) (w : WellFormed p) (n : ℕ) → Node p n → MayQuiet p Anything n
-quiet-anything p w n l = let (h, x) = completed-execution p w n l in record { history = h; completed = x; holds = all-anything h }
+quiet-anything p w n l = let (h, x) = completed-execution p w n l in
+    record { history = h; completed = x; holds = all-anything h }

@@ -4,7 +4,8 @@ use Rattle.runs.specs.Tests.{implies}
 use Rattle.runs.specs.Plan.{Plan, Node, Child, Before, WellFormed}
 use Rattle.runs.specs.Execution.{Event, lastAsserted}
 use Rattle.runs.specs.Summary.{May, Must, ExternalPre, ExternalPost, Incondition}
-use Rattle.runs.specs.Model.Marks.{quietIn, meetIn, lastIn, quietB, meetB, lastB, avoidB, mayPreB, mustPreB, mayPostB, mustPostB, mayIncB}
+use Rattle.runs.specs.Model.Marks.{quietIn, meetIn, lastIn, quietB, meetB, lastB, avoidB, mayPreB, mustPreB}
+use Rattle.runs.specs.Model.Marks.{mayPostB, mustPostB, mayIncB}
 use Rattle.runs.specs.Model.Marks.{mustIncB}
 use Rattle.runs.specs.Model.Trees.{everyChildB}
 use Rattle.runs.proofs.Reflect.{Reflects, r-map, r-both, r-either, r-implies, r-negate, r-true}
@@ -24,9 +25,12 @@ module _ (p : Plan) (w : WellFormed p) where
     r-quiet-in : (k n : ℕ) → Node p n → p .tree .size ≤ n + k → Reflects (quietIn p q k n) (MayQuiet p Q n)
     unfolding quietIn
     r-quiet-in zero n l b = absurd (omega (arith, w .node-below n l))
-    r-quiet-in (suc k) n l b = r-by-kind (p .tree .kind n) _ _ _ (λ kn. r-map (Iff·symm (quiet-task p w Q kn)) (r-both _ _ (rq _) (rq _)))
-        (λ kn. r-map (Iff·symm (quiet-all p w Q kn)) (r-every-child p w (MayQuiet p Q) _ (λ c hc. r-quiet-in k c (hc .node) (omega (arith, child-lt p w hc)))))
-        (λ kn. r-map (Iff·symm (may-any p w (All Q) kn)) (r-some-child p w (MayQuiet p Q) _ (λ c hc. r-quiet-in k c (hc .node) (omega (arith, child-lt p w hc)))))
+    r-quiet-in (suc k) n l b = r-by-kind (p .tree .kind n) _ _ _
+        (λ kn. r-map (Iff·symm (quiet-task p w Q kn)) (r-both _ _ (rq _) (rq _)))
+        (λ kn. r-map (Iff·symm (quiet-all p w Q kn))
+            (r-every-child p w (MayQuiet p Q) _ (λ c hc. r-quiet-in k c (hc .node) (omega (arith, child-lt p w hc)))))
+        (λ kn. r-map (Iff·symm (may-any p w (All Q) kn))
+            (r-some-child p w (MayQuiet p Q) _ (λ c hc. r-quiet-in k c (hc .node) (omega (arith, child-lt p w hc)))))
 
     pub r-quiet : (n : ℕ) → Node p n → Reflects (quietB p q n) (MayQuiet p Q n)
     unfolding quietB
@@ -34,7 +38,8 @@ module _ (p : Plan) (w : WellFormed p) where
 
     -- the children before c, or after it, are quiet
     r-others : (k n : ℕ) (P : ℕ → Type 0) (t : ℕ → Bool) → ((a : ℕ) → Reflects (t a) (P a)) → p .tree .size ≤ n + suc k
-        → Reflects (everyChildB p n (λ a. implies (t a) (λ u. quietIn p q k a))) ((a : ℕ) → Child p n a → P a → MayQuiet p Q a)
+        → Reflects (everyChildB p n (λ a. implies (t a) (λ u. quietIn p q k a)))
+            ((a : ℕ) → Child p n a → P a → MayQuiet p Q a)
     r-others k n P t r b = r-every-child p w (λ a. P a → MayQuiet p Q a) _
         (λ a ha. r-implies _ _ (r a) (λ x. r-quiet-in k a (ha .node) (omega (arith, child-lt p w ha))))
 
@@ -45,9 +50,11 @@ module _ (p : Plan) (w : WellFormed p) where
       r-meet-in (suc k) n l b = r-by-kind (p .tree .kind n) _ _ _
           (λ kn. r-map (Iff·symm (meet-task p w Q H kn)) (r-either _ _ (rm _) (r-both _ _ (rq _) (rm _))))
           (λ kn. let e = meet-all p w Q H kn in
-          r-map (λ x. e .1 (x .0, x .1, x .2 .0, λ a z. x .2 .1 a (before-child p w (x .1) z) z), λ y. let x = e .0 y in (x .0, x .1, (x .2, λ a ha z. x .3 a z)))
+          r-map (λ x. e .1 (x .0, x .1, x .2 .0, λ a z. x .2 .1 a (before-child p w (x .1) z) z), λ y. let x = e .0 y in
+              (x .0, x .1, (x .2, λ a ha z. x .3 a z)))
           (r-some-child p w (λ c. MayMeet p Q H c × ((a : ℕ) → Child p n a → Before p a c → MayQuiet p Q a)) _
-          (λ c hc. r-both _ _ (r-meet-in k c (hc .node) (omega (arith, child-lt p w hc))) (r-others k n (λ a. Before p a c) _ (λ a. r-before p w a c) b))))
+          (λ c hc. r-both _ _ (r-meet-in k c (hc .node) (omega (arith, child-lt p w hc)))
+              (r-others k n (λ a. Before p a c) _ (λ a. r-before p w a c) b))))
           (λ kn. r-map (Iff·symm (meet-any p w Q H kn))
           (r-some-child p w (MayMeet p Q H) _ (λ c hc. r-meet-in k c (hc .node) (omega (arith, child-lt p w hc)))))
 
@@ -60,9 +67,11 @@ module _ (p : Plan) (w : WellFormed p) where
       r-last-in zero n l b = absurd (omega (arith, w .node-below n l))
       r-last-in (suc k) n l b = r-by-kind (p .tree .kind n) _ _ _
           (λ kn. r-map (Iff·symm (last-task p w Q H kn)) (r-either _ _ (rm _) (r-both _ _ (rq _) (rm _))))
-          (λ kn. let e = last-all p w Q H kn in r-map (λ x. e .1 (x .0, x .1, x .2 .0, x .2 .1), λ y. let x = e .0 y in (x .0, x .1, (x .2, x .3)))
+          (λ kn. let e = last-all p w Q H kn in
+              r-map (λ x. e .1 (x .0, x .1, x .2 .0, x .2 .1), λ y. let x = e .0 y in (x .0, x .1, (x .2, x .3)))
           (r-some-child p w (λ c. MayLast p Q H c × ((a : ℕ) → Child p n a → Before p c a → MayQuiet p Q a)) _
-          (λ c hc. r-both _ _ (r-last-in k c (hc .node) (omega (arith, child-lt p w hc))) (r-others k n (Before p c) _ (r-before p w c) b))))
+          (λ c hc. r-both _ _ (r-last-in k c (hc .node) (omega (arith, child-lt p w hc)))
+              (r-others k n (Before p c) _ (r-before p w c) b))))
           (λ kn. r-map (Iff·symm (may-any p w (LastIs Q H) kn))
           (r-some-child p w (MayLast p Q H) _ (λ c hc. r-last-in k c (hc .node) (omega (arith, child-lt p w hc)))))
 
@@ -91,12 +100,15 @@ module _ (p : Plan) (w : WellFormed p) where
 
       pub r-may-inc : Reflects (mayIncB p n f v) (May p n (Incondition p f v))
       unfolding mayIncB
-      r-may-inc = r-map (Iff·symm (may-inc-is-meet p f v w l)) (r-meet Anything _ (λ e. r-true) _ _ (r-begins-inc p f v) n l)
+      r-may-inc = r-map (Iff·symm (may-inc-is-meet p f v w l))
+          (r-meet Anything _ (λ e. r-true) _ _ (r-begins-inc p f v) n l)
 
       pub r-must-inc : Reflects (mustIncB p n f v) (Must p n (Incondition p f v))
       unfolding mustIncB
-      r-must-inc = r-map (Iff·symm (must-inc-is p f v w)) (r-negate _ (r-quiet _ _ (λ e. r-negate _ (r-begins-inc p f v e)) n l))
+      r-must-inc = r-map (Iff·symm (must-inc-is p f v w))
+          (r-negate _ (r-quiet _ _ (λ e. r-negate _ (r-begins-inc p f v e)) n l))
 
     pub r-must-post : (v : Bool) → Reflects (mustPostB p n f v) (Must p n (ExternalPost p f v))
     unfolding mustPostB
-    r-must-post v = r-map (Iff·symm (must-post-is p f v)) (r-both _ _ (r-negate _ r-avoid) (r-negate _ (r-may-post (not v))))
+    r-must-post v = r-map (Iff·symm (must-post-is p f v))
+        (r-both _ _ (r-negate _ r-avoid) (r-negate _ (r-may-post (not v))))

@@ -2,7 +2,8 @@
 use Rattle.runs.proofs.Base.{_≡_, refl, _⊎_, inl, inr, _↔_, Bool, true, false, ℕ, _<_}
 use Rattle.runs.specs.Plan.{inc, Plan, WellFormed}
 use Rattle.runs.specs.Execution.{Event, History}
-use Rattle.runs.specs.Summary.{Clobbers, precondition, incondition, MayClobber, Mark, may-pre, must-pre, may-clobber, must-clobber}
+use Rattle.runs.specs.Summary.{Clobbers, precondition, incondition, MayClobber, Mark, may-pre, must-pre}
+use Rattle.runs.specs.Summary.{may-clobber, must-clobber}
 use Rattle.runs.specs.Verdict.{Fails, Verdict, CLEAR, DOOMED, OPEN, Clear, Doomed, by-clobber, by-start, Judged}
 use Rattle.runs.specs.Model.Verdicts.{failsB, someLiteralB, mayFailB, mustFailB, judge, verdict}
 use Rattle.runs.proofs.Reflect.{clash, Reflects, r-map, decided, r-both, r-either, r-any, r-same}
@@ -21,7 +22,8 @@ SomeLiteral P = (f : ℕ) × (v : Bool) × P f v
 module _ (p : Plan) (w : WellFormed p) (F : ℕ → Bool) where
   r-fails : (m k : Mark) (f : ℕ) (v : Bool) → Reflects (failsB p F m k f v) (Fails p F m k f v)
   unfolding failsB
-  r-fails m k f v = r-either _ _ (marks-exact p w 0 f (w .root-node) v m) (r-both _ _ (r-same _ _) (marks-exact p w 0 f (w .root-node) v k))
+  r-fails m k f v = r-either _ _ (marks-exact p w 0 f (w .root-node) v m)
+      (r-both _ _ (r-same _ _) (marks-exact p w 0 f (w .root-node) v k))
 
   -- what may fail is on a flag of the plan, and what must fail may fail
   clobber-flag : (f : ℕ) (v : Bool) → MayClobber p f v 0 → f < p .cond .flags
@@ -37,12 +39,14 @@ module _ (p : Plan) (w : WellFormed p) (F : ℕ → Bool) where
 
   pub must-fail-may : (f : ℕ) (v : Bool) → MustFail p F f v → MayFail p F f v
   must-fail-may f v (inl d) = inl (must-clobber-may p w f v (w .root-node) d)
-  must-fail-may f v (inr (q, m)) = let (h, x) = completed-execution p w 0 (w .root-node) in inr (q, record { history = h; completed = x; holds = m h x })
+  must-fail-may f v (inr (q, m)) = let (h, x) = completed-execution p w 0 (w .root-node) in
+      inr (q, record { history = h; completed = x; holds = m h x })
 
   r-some-literal : (P : ℕ → Bool → Type 0) (t : ℕ → Bool → Bool) → ((f : ℕ) (v : Bool) → Reflects (t f v) (P f v))
       → ((f : ℕ) (v : Bool) → P f v → f < p .cond .flags) → Reflects (someLiteralB p F t) (SomeLiteral P)
   unfolding someLiteralB
-  r-some-literal P t r on = r-map (to, from) (r-any (λ f. P f true ⊎ P f false) _ _ (λ f. r-either _ _ (r f true) (r f false)))
+  r-some-literal P t r on = r-map (to, from)
+      (r-any (λ f. P f true ⊎ P f false) _ _ (λ f. r-either _ _ (r f true) (r f false)))
     where
       to : (f : ℕ) × (f < p .cond .flags) × (P f true ⊎ P f false) → SomeLiteral P
       to (f, l, inl x) = (f, true, x)
@@ -58,7 +62,8 @@ module _ (p : Plan) (w : WellFormed p) (F : ℕ → Bool) where
 
   pub r-must-fail : Reflects (mustFailB p F tt) (SomeLiteral (MustFail p F))
   unfolding mustFailB
-  r-must-fail = r-some-literal (MustFail p F) _ (r-fails must-clobber must-pre) (λ f v x. may-fail-flag f v (must-fail-may f v x))
+  r-must-fail = r-some-literal (MustFail p F) _ (r-fails must-clobber must-pre)
+      (λ f v x. may-fail-flag f v (must-fail-may f v x))
 
   -- CLEAR: no literal may fail; DOOMED: some literal must
   pub clear-is : Clear p F ↔ (¬ SomeLiteral (MayFail p F))
@@ -94,7 +99,8 @@ module _ (p : Plan) (w : WellFormed p) (F : ℕ → Bool) where
       go (yes x) = inr x
       go (no k) = inl (clear-is .1 k)
 
-  judged : (b c : Bool) → Reflects b (SomeLiteral (MayFail p F)) → Reflects c (Doomed p F) → (v : Verdict) → (judge b (λ u. c) ≡ v) ↔ Judged p F v
+  judged : (b c : Bool) → Reflects b (SomeLiteral (MayFail p F)) → Reflects c (Doomed p F) → (v : Verdict)
+      → (judge b (λ u. c) ≡ v) ↔ Judged p F v
   unfolding judge
   judged false c rc rd CLEAR = (λ q. clear-is .1 (rc .from), λ x. refl)
   judged false c rc rd DOOMED = (λ q. clash cc, λ d. absurd (clear-not-doomed (clear-is .1 (rc .from)) d))
@@ -109,4 +115,5 @@ module _ (p : Plan) (w : WellFormed p) (F : ℕ → Bool) where
   -- the computed verdict is the verdict
   pub verdict-exact : (v : Verdict) → (verdict p F ≡ v) ↔ Judged p F v
   unfolding verdict
-  verdict-exact = judged (mayFailB p F) (mustFailB p F tt) r-may-fail (r-map ((doomed-is .1), (doomed-is .0)) r-must-fail)
+  verdict-exact = judged (mayFailB p F) (mustFailB p F tt) r-may-fail
+      (r-map ((doomed-is .1), (doomed-is .0)) r-must-fail)

@@ -19,7 +19,9 @@ Inv-loop plan node out₀ r words n i₀ out i = (i ≤ n) × (out ≡ overlay (
 abbrev μ-loop : tie.MeasureT-loop
 μ-loop plan node out₀ r words n i₀ out i = n - i
 
-passed : (c : tie.Else1 Inv-loop μ-loop) → Accepted (now (c .before .before .before .before .before .args .plan)) (c .before .before .before .before .before .args .node) (now (c .before .before .before .before .before .args .out))
+passed : (c : tie.Else1 Inv-loop μ-loop)
+    → Accepted (now (c .before .before .before .before .before .args .plan))
+    (c .before .before .before .before .before .args .node) (now (c .before .before .before .before .before .args .out))
 passed c = accepted _ _ _ (sym (c .before .summary-refused .ensures) ∙ c .if1 .left)
 
 same-length : tie.Need-same-length Inv-loop μ-loop
@@ -48,7 +50,8 @@ mark-byte-requires c κs =
 slice-write-out : tie.Need-slice-write-out Inv-loop μ-loop
 slice-write-out c =
     let l = c .before .before .before in
-    rw (l .loop .inv .1, length-overlay) (omega (arith, l .before .flags .ensures, passed (l .before .before .before) .room))
+    rw (l .loop .inv .1, length-overlay)
+        (omega (arith, l .before .flags .ensures, passed (l .before .before .before) .room))
 
 add-i : tie.Need-add-i Inv-loop μ-loop
 add-i c =
@@ -61,7 +64,8 @@ loop-again c =
     let e = passed (l .before .before .before) in
     let k : l .loop .i < 1024 = omega (arith, l .before .flags .ensures, clean _ (e .plan) .fits .limits .flags) in (
       omega arith,
-      rw (l .loop .inv .1, c .mark-byte .ensures, byte-is _ (e .plan) _ (e .node) (l .before .before .node-words .ensures) (l .loop .i) k) (overlay-more _ _ _),
+      rw (l .loop .inv .1, c .mark-byte .ensures,
+          byte-is _ (e .plan) _ (e .node) (l .before .before .node-words .ensures) (l .loop .i) k) (overlay-more _ _ _),
     )
 
 same-length-2 : tie.Need-same-length-2 Inv-loop μ-loop
@@ -71,7 +75,8 @@ returns-2 : tie.Need-returns-2 Inv-loop μ-loop
 returns-2 c =
     let l = c .before in
     let i = l .before .before .before in
-    let e : l .loop .i ≡ 16 * flagCount (now (i .before .before .before .before .before .args .plan)) = omega (arith, l .before .flags .ensures) in
+    let e : l .loop .i ≡ 16 * flagCount (now (i .before .before .before .before .before .args .plan)) =
+        omega (arith, l .before .flags .ensures) in
     rw (l .loop .inv .1, e) (summary-written _ _ _ (sym (i .before .summary-refused .ensures) ∙ i .if1 .left))
 
 pub summary-spec : {M : Type 1} → statement M

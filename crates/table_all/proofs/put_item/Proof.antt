@@ -1,7 +1,8 @@
 -- `put_item` meets its contract, by the item's kind. Assumes nothing.
 use native.Mathlib.Omega.{arith}
 use borrow.Author.Needs.{needs}
-use Rattle.table_all.proofs.Stores.{fits-node, fits-condition, fits-order, stored-node, stored-condition, stored-order}
+use Rattle.table_all.proofs.Stores.{fits-node, fits-condition, fits-order, stored-node, stored-condition}
+use Rattle.table_all.proofs.Stores.{stored-order}
 use Rattle.table_all.proofs.put_item.Statement.{statement}
 use Rattle.table_all.proofs.put_item.Tie as tie
 
@@ -28,10 +29,12 @@ returns : tie.Need-returns
 returns c = stored-node _ _ _ _ (c .before .item .given .1)
 
 returns-2 : tie.Need-returns-2
-returns-2 c = stored-condition _ _ _ _ _ (c .before .before .before .before .item2 .given .1) (c .before .wide .ensures .0) (c .add-condition .ensures)
+returns-2 c = stored-condition _ _ _ _ _ (c .before .before .before .before .item2 .given .1)
+    (c .before .wide .ensures .0) (c .add-condition .ensures)
 
 returns-3 : tie.Need-returns-3
-returns-3 c = stored-order _ _ _ _ _ (c .before .before .before .before .before .item3 .given .1) (c .before .before .wide2 .ensures .0) (c .before .wide3 .ensures .0) (c .link-all .ensures)
+returns-3 c = stored-order _ _ _ _ _ (c .before .before .before .before .before .item3 .given .1)
+    (c .before .before .wide2 .ensures .0) (c .before .wide3 .ensures .0) (c .link-all .ensures)
 
 pub put-item-spec : {M : Type 1} → statement M
 put-item-spec =

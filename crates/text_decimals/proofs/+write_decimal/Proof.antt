@@ -26,16 +26,19 @@ abbrev claims : ℕ → lts.Claims
 claims t = (put-reads.Asked, put-reads.Learnt, below t, write-decimal.Post)
 
 put-requires : (t : ℕ) → lts.Need-put-requires (claims t) (at t) write-decimal.Post
-put-requires t c κs = let s = c .before .before .before in omega (arith, s .pre .1, length-digit (s .args .n) (omega arith))
+put-requires t c κs = let s = c .before .before .before in
+    omega (arith, s .pre .1, length-digit (s .args .n) (omega arith))
 
 same-length : (t : ℕ) → lts.Need-same-length (claims t) (at t) write-decimal.Post
 same-length t c = wrote-long (c .before .before .put .ensures)
 
 returns : (t : ℕ) → lts.Need-returns (claims t) (at t) write-decimal.Post
-returns t c = let s = c .before .before .before .before .before .before in wrote-same (sym (decimal-digit (s .args .n) (omega arith))) (c .before .before .put .ensures)
+returns t c = let s = c .before .before .before .before .before .before in
+    wrote-same (sym (decimal-digit (s .args .n) (omega arith))) (c .before .before .put .ensures)
 
 write-decimal-requires : (t : ℕ) → lts.Need-write-decimal-requires (claims t) (at t) write-decimal.Post
-write-decimal-requires t c κs = let s = c .before .before .before in (omega (arith, s .pre .0), omega (arith, s .pre .1, length-more (s .args .n) (omega arith)))
+write-decimal-requires t c κs = let s = c .before .before .before in
+    (omega (arith, s .pre .0), omega (arith, s .pre .1, length-more (s .args .n) (omega arith)))
 
 put-requires-2 : (t : ℕ) → lts.Need-put-requires-2 (claims t) (at t) write-decimal.Post
 put-requires-2 t c κs =
@@ -44,12 +47,15 @@ put-requires-2 t c κs =
     omega (arith, w .next, wrote-long w, s .pre .1, length-more (s .args .n) (omega arith))
 
 same-length-2 : (t : ℕ) → lts.Need-same-length-2 (claims t) (at t) write-decimal.Post
-same-length-2 t c = wrote-long (c .before .before .put2 .ensures) ∙ wrote-long (c .before .before .before .before .before .before .write-decimal .ensures)
+same-length-2 t c = wrote-long (c .before .before .put2 .ensures)
+    ∙ wrote-long (c .before .before .before .before .before .before .write-decimal .ensures)
 
 returns-2 : (t : ℕ) → lts.Need-returns-2 (claims t) (at t) write-decimal.Post
 returns-2 t c =
     let s = c .before .before .before .before .before .before .before .before .before .before in
-    wrote-same (sym (decimal-more (s .args .n) (omega arith))) (wrote-then (c .before .before .before .before .before .before .write-decimal .ensures) (c .before .before .put2 .ensures))
+    wrote-same (sym (decimal-more (s .args .n) (omega arith)))
+        (wrote-then (c .before .before .before .before .before .before .write-decimal .ensures)
+        (c .before .before .put2 .ensures))
 
 pub +write-decimal-spec : {M : Type 1} → statement M
 +write-decimal-spec = close μ-write-decimal λ t. lts.spec (claims t)

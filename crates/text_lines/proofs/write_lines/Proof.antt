@@ -19,7 +19,8 @@ loop-holds : tie.Need-loop-holds Inv-loop μ-loop
 loop-holds c = lines-none (clean _ (c .before .before .pre .0))
 
 element-copy-out-wide : tie.Need-element-copy-out-wide Inv-loop μ-loop
-element-copy-out-wide c = let s = c .before .before .before .before in omega (arith, s .pre .2 .count, ranking-length _ (clean _ (s .pre .0)))
+element-copy-out-wide c = let s = c .before .before .before .before in
+    omega (arith, s .pre .2 .count, ranking-length _ (clean _ (s .pre .0)))
 
 mul-wait : tie.Need-mul-wait Inv-loop μ-loop
 mul-wait c = omega (arith, c .wide .ensures)
@@ -37,7 +38,9 @@ write-line-requires c κs =
     let s = l .before .before .before in
     let ok = clean _ (s .pre .0) in
     let t = line-task ok (s .pre .2) (omega arith) (c .before .before .wide .ensures .0) .0 in
-    (s .pre .0, t, s .pre .1 .is _ t, omega (arith, s .pre .3, s .pre .2 .count, l .loop .inv .short, ranking-length _ ok, wrote-long (l .loop .inv .wrote)))
+    (s .pre .0, t, s .pre .1 .is _ t,
+        omega (arith, s .pre .3, s .pre .2 .count, l .loop .inv .short, ranking-length _ ok,
+        wrote-long (l .loop .inv .wrote)))
 
 loop-again : tie.Need-loop-again Inv-loop μ-loop
 loop-again c =
@@ -45,7 +48,8 @@ loop-again c =
     let s = l .before .before .before in
     let ok = clean _ (s .pre .0) in
     let t = line-task ok (s .pre .2) (omega arith) (c .before .before .before .before .before .wide .ensures .0) in
-    lines-turn ok (omega (arith, s .pre .2 .count)) (t .0) (t .1) (c .before .before .write-line .ensures) (l .loop .inv)
+    lines-turn ok (omega (arith, s .pre .2 .count)) (t .0) (t .1) (c .before .before .write-line .ensures)
+        (l .loop .inv)
 
 same-length : tie.Need-same-length Inv-loop μ-loop
 same-length c = wrote-long (c .before .loop .inv .wrote)

@@ -12,7 +12,8 @@ judge-requires : tie.Need-judge-requires
 judge-requires c κs = sym (c .before .check .ensures) ∙ c .if1 .left
 
 returns-2 : tie.Need-returns-2
-returns-2 c = assessed _ (c .judge .result) (sym (c .before .before .check .ensures) ∙ c .before .if1 .left) (c .judge .ensures)
+returns-2 c = assessed _ (c .judge .result) (sym (c .before .before .check .ensures) ∙ c .before .if1 .left)
+    (c .judge .ensures)
 
 pub assess-spec : {M : Type 1} → statement M
 assess-spec = tie.close (tie.spec (λ c κs. search needs) returns judge-requires returns-2)

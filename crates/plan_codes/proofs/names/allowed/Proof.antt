@@ -1,4 +1,5 @@
--- `plan_codes::names::allowed` meets its contract: the marks agree with the rule at each value of a byte, which antt computes. Assumes nothing.
+-- `plan_codes::names::allowed` meets its contract: the marks agree with the rule at each value of a byte, which antt
+-- computes. Assumes nothing.
 use native.Mathlib.Omega.{arith}
 use Prim.Native.Nat.{ℕ, _/_, _%_, _^_}
 use mathlib.Core.Bool.{Bool}
@@ -19,4 +20,5 @@ unfolding nameAllowed
 returns c = at marked nameAllowed 256 tt (c .args .c) (omega arith)
 
 pub allowed-spec : {M : Type 1} → statement M
-allowed-spec = tie.close (tie.spec (λ c. omega arith) (λ c. omega arith) (λ c. omega arith) (λ c. omega arith) (λ c. omega arith) returns)
+allowed-spec = tie.close (tie.spec (λ c. omega arith) (λ c. omega arith) (λ c. omega arith) (λ c. omega arith)
+    (λ c. omega arith) returns)

@@ -9,4 +9,5 @@ told : {q p : Place} → q ≡ p → placeNum p ≡ placeNum q
 told e = ap placeNum (sym e)
 
 pub place-number-spec : {M : Type 1} → statement M
-place-number-spec = tie.close (tie.spec (λ c. c .match .keys1) (λ c. c .match .keys2) (λ c. c .match .keys3) (λ c. told (c .enum-told .given .1)) (λ c. told (c .enum-told2 .given .1)) (λ c. told (c .enum-told3 .given .1)))
+place-number-spec = tie.close (tie.spec (λ c. c .match .keys1) (λ c. c .match .keys2) (λ c. c .match .keys3)
+    (λ c. told (c .enum-told .given .1)) (λ c. told (c .enum-told2 .given .1)) (λ c. told (c .enum-told3 .given .1)))

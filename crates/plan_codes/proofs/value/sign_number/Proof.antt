@@ -9,4 +9,5 @@ told : {q p : Sign} → q ≡ p → signNum p ≡ signNum q
 told e = ap signNum (sym e)
 
 pub sign-number-spec : {M : Type 1} → statement M
-sign-number-spec = tie.close (tie.spec (λ c. c .match .keys1) (λ c. c .match .keys2) (λ c. told (c .enum-told .given .1)) (λ c. told (c .enum-told2 .given .1)))
+sign-number-spec = tie.close (tie.spec (λ c. c .match .keys1) (λ c. c .match .keys2)
+    (λ c. told (c .enum-told .given .1)) (λ c. told (c .enum-told2 .given .1)))

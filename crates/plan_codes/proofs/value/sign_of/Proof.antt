@@ -15,4 +15,5 @@ returns-2 : tie.Need-returns-2
 returns-2 c = absurd (omega (arith, refused _ (sym (c .before .before .parse .ensures) ∙ c .enum-told .given .1)))
 
 pub sign-of-spec : {M : Type 1} → statement M
-sign-of-spec = tie.close (tie.spec (λ c κs. tt) (λ c. c .match .keys1) (λ c κs. tt) (λ c. c .match .keys2) returns returns-2)
+sign-of-spec = tie.close (tie.spec (λ c κs. tt) (λ c. c .match .keys1) (λ c κs. tt)
+    (λ c. c .match .keys2) returns returns-2)

@@ -21,4 +21,5 @@ returns-2 c =
     simp (lt-ltb 383 v (refused v (sym (c .before .before .parse .ensures) ∙ c .enum-told .given .1)))
 
 pub value-bad-spec : {M : Type 1} → statement M
-value-bad-spec = tie.close (tie.spec (λ c κs. tt) (λ c. c .match .keys1) (λ c. omega arith) (λ c. c .match .keys2) returns returns-2)
+value-bad-spec = tie.close (tie.spec (λ c κs. tt) (λ c. c .match .keys1) (λ c. omega arith)
+    (λ c. c .match .keys2) returns returns-2)

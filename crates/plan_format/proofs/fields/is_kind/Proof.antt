@@ -22,4 +22,5 @@ returns-2 c =
     simp (le-ltb _ _ l)
 
 pub is-kind-spec : {M : Type 1} → statement M
-is-kind-spec = tie.close (tie.spec (λ c κs. c .before .pre .limits .long) (λ c κs. (omega arith, c .before .before .before .pre)) returns returns-2)
+is-kind-spec = tie.close (tie.spec (λ c κs. c .before .pre .limits .long)
+    (λ c κs. (omega arith, c .before .before .before .pre)) returns returns-2)

@@ -10,4 +10,5 @@ unfolding startFlag
 returns c = refl
 
 pub start-flag-spec : {M : Type 1} → statement M
-start-flag-spec = tie.close (tie.spec (λ c. omega arith) (λ c. omega arith) (λ c. omega arith) (λ c. omega arith) returns)
+start-flag-spec = tie.close (tie.spec (λ c. omega arith) (λ c. omega arith) (λ c. omega arith)
+    (λ c. omega arith) returns)

@@ -1,4 +1,5 @@
--- `plan_reader::items::item_at` meets its contract: each branch's test says which part of the plan has the position. Assumes nothing.
+-- `plan_reader::items::item_at` meets its contract: each branch's test says which part of the plan has the position.
+-- Assumes nothing.
 use mathlib.Core.Path.{ap, sym, _∙_}
 use native.Mathlib.Omega.{arith}
 use Rattle.plan_reader.specs.Items.{itemCount}

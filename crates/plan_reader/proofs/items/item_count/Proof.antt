@@ -9,4 +9,5 @@ unfolding itemCount
 returns c = search needs
 
 pub item-count-spec : {M : Type 1} → statement M
-item-count-spec = tie.close (tie.spec (λ c κs. search needs) (λ c κs. search needs) (λ c. search needs) (λ c κs. search needs) (λ c. search needs) returns)
+item-count-spec = tie.close (tie.spec (λ c κs. search needs) (λ c κs. search needs) (λ c. search needs)
+    (λ c κs. search needs) (λ c. search needs) returns)

@@ -9,4 +9,5 @@ unfolding badStart
 returns c = rw (c .before .flags .ensures, c .start-flag .ensures)
 
 pub bad-start-spec : {M : Type 1} → statement M
-bad-start-spec = tie.close (tie.spec (λ c κs. whole-head (c .before .pre .1)) (λ c κs. (c .before .before .pre .0, whole-head (c .before .before .pre .1))) returns)
+bad-start-spec = tie.close (tie.spec (λ c κs. whole-head (c .before .pre .1))
+    (λ c κs. (c .before .before .pre .0, whole-head (c .before .before .pre .1))) returns)
