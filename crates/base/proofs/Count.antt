@@ -35,7 +35,7 @@ count-rest zero m q l h = let e : m ≡ 0 = omega arith in rw e
 count-rest (suc n) m q l h =
     by-cases (ℕ-discrete m (suc n)) (λ (e : m ≡ suc n). rw e)
     (λ e. rw (h n (omega arith) (omega arith))
-        (omega (arith, count-rest n m q (omega arith) (λ i a z. h i a (omega arith)))))
+    (omega (arith, count-rest n m q (omega arith) (λ i a z. h i a (omega arith)))))
 
 pub count-none : (n : ℕ) (q : ℕ → Bool) → ((i : ℕ) → i < n → q i ≡ false) → countBelow n q ≡ 0
 unfolding countBelow
@@ -69,7 +69,7 @@ count-back (suc n) q =
     let z : suc n - 1 - n ≡ 0 = omega arith in
     let y : num (q (suc n - 1 - n)) ≡ num (q 0) = ap (λ (k : ℕ). num (q k)) z in
     let e = count-same n (λ m. q (suc n - 1 - m)) (λ m. q (suc (n - 1 - m)))
-        (λ i l. let o : suc n - 1 - i ≡ suc (n - 1 - i) = omega arith in ap q o) in
+    (λ i l. let o : suc n - 1 - i ≡ suc (n - 1 - i) = omega arith in ap q o) in
     omega (arith, shift n q, e, count-back n (λ i. q (suc i)), y)
 
 -- without one of them

@@ -64,7 +64,7 @@ bit-xor x y f =
     let b = y / 2 ^ f in
     let d = xor-digit (a % 2) (b % 2) (omega arith) (omega arith) in
     rw (xor-shr x y f, digit (bitXor (a / 2) (b / 2)) (differ (a % 2) (b % 2)) (bitXor a b) (xor-step a b) (d .0))
-        (d .1)
+    (d .1)
 
 xor-and : (a b : Bool) → xor a (a && b) ≡ (a && not b)
 xor-and true b = refl
@@ -93,7 +93,7 @@ bit-all f h =
     let e : 64 - f + f ≡ 64 = omega arith in
     let s : 2 ^ 64 - 1 ≡ (2 ^ (64 - f) - 1) * 2 ^ f + (2 ^ f - 1) = rw e at (ones-split (64 - f) f) in
     ap (λ (x : ℕ). eqb (x / 2 ^ f % 2) 1) s
-        ∙ rw (high (2 ^ (64 - f) - 1) f (ones-lt f), ones-low (64 - f) (omega arith))
+    ∙ rw (high (2 ^ (64 - f) - 1) f (ones-lt f), ones-low (64 - f) (omega arith))
 
 -- not x
 pub bit-not : (x f : ℕ) → f < 64 → bit (bitXor x ones) f ≡ not (bit x f)
@@ -109,8 +109,13 @@ unfolding bit
 one-other k f h =
     by-cases (decLt f k) (λ (l : f < k).
     let e : k ≡ (k - f - 1) + 1 + f = omega arith in
-    rw (e, pow-add 2 (k - f - 1 + 1) f, mul-div-cancel (2 ^ (k - f - 1 + 1)) (pow-pos f), pow-add 2 (k - f - 1) 1,
-        mul-mod-left (2 ^ (k - f - 1)) 2))
+    rw (
+      e,
+      pow-add 2 (k - f - 1 + 1) f,
+      mul-div-cancel (2 ^ (k - f - 1 + 1)) (pow-pos f),
+      pow-add 2 (k - f - 1) 1,
+      mul-mod-left (2 ^ (k - f - 1)) 2,
+    ))
     (λ l. rw (div-eq-of-lt (pow-lt {i = k} {j = f} (omega arith))))
 
 -- `1 << k`

@@ -25,5 +25,7 @@ pub equal : (a b : ℕ) → T (eqb a b) ↔ (a ≡ b)
 equal a b = (eqb→eq a b, λ e. rw e (eqb-refl b))
 
 pub unequal : (a b : ℕ) → T (not (eqb a b)) ↔ (a ≢ b)
-unequal a b = (λ t e. (not-test (eqb a b)) .1 t ((equal a b) .1 e),
-    λ k. (not-test (eqb a b)) .0 (λ t. k ((equal a b) .0 t)))
+unequal a b = (
+  λ t e. (not-test (eqb a b)) .1 t ((equal a b) .1 e),
+  λ k. (not-test (eqb a b)) .0 (λ t. k ((equal a b) .0 t)),
+)

@@ -21,10 +21,10 @@ unfolding bit
 same-bits zero x y lx ly h = omega arith
 same-bits (suc k) x y lx ly h =
     let low : x / 2 ^ 0 % 2 ≡ y / 2 ^ 0 % 2 =
-        same-digit (x / 2 ^ 0 % 2) (y / 2 ^ 0 % 2) (omega arith) (omega arith) _ refl (sym (h 0 (omega arith))) in
+    same-digit (x / 2 ^ 0 % 2) (y / 2 ^ 0 % 2) (omega arith) (omega arith) _ refl (sym (h 0 (omega arith))) in
     let half : x / 2 ≡ y / 2 = same-bits k (x / 2) (y / 2) (omega (arith, pow-suc 2 k)) (omega (arith, pow-suc 2 k))
     (λ f m. ap (λ (w : ℕ). eqb (w % 2) 1) (shr-shr x 1 f) ∙ h (1 + f) (omega arith)
-        ∙ sym (ap (λ (w : ℕ). eqb (w % 2) 1) (shr-shr y 1 f))) in
+    ∙ sym (ap (λ (w : ℕ). eqb (w % 2) 1) (shr-shr y 1 f))) in
     omega arith
 
 false-of : (b : Bool) → ¬ T b → b ≡ false
@@ -49,4 +49,4 @@ less-add x y l = omega (arith, xor-add-and x (bitAnd x y), inner, and-le-l x y)
     inner : bitAnd x (bitAnd x y) ≡ bitAnd x y
     inner = same-bits 64 _ _ (omega (arith, and-le-l x (bitAnd x y))) (omega (arith, and-le-l x y))
         (λ f m. bit-and x (bitAnd x y) f ∙ ap (λ (b : Bool). bit x f && b) (bit-and x y f) ∙ twice (bit x f) (bit y f)
-            ∙ sym (bit-and x y f))
+        ∙ sym (bit-and x y f))

@@ -1,4 +1,5 @@
--- What the C calls return whose answers are told by numbers: an equation for the number, and what it tells in 01's words. Definitions only.
+-- What the C calls return whose answers are told by numbers: an equation for the number, and what it tells in 01's
+-- words. Definitions only.
 use mathlib.Core.Path.{_≡_}
 use mathlib.Core.Logic.{inr, _↔_}
 use mathlib.Core.List.{List}
@@ -20,12 +21,14 @@ pub record VerdictNumber (b : List ℕ) (r : ℕ) : Type 0 where
   pub returns : r ≡ verdictNumber (answerOf b)
   pub judged : refusal b ≡ 0 → (v : Verdict) → (r ≡ verdictNumber (inr v)) ↔ Judged (planOf b) (startOf b) v
 
--- r is the number of the answer for the state; accepted, it is the number of COMPLETE exactly if the state shows the root complete
+-- r is the number of the answer for the state; accepted, it is the number of COMPLETE exactly if the state shows the
+-- root complete
 pub record StatusNumber (b s : List ℕ) (r : ℕ) : Type 0 where
   pub returns : r ≡ statusNumber (statusAnswer b s)
   pub complete : stateRefusal b s ≡ 0 → (r ≡ statusNumber (inr COMPLETE)) ↔ Complete (planOf b) (statusIn b s) 0
 
--- r is the number of the answer, and out′ has every byte that the listing leaves; 01's words hold of the text of an accepted plan, and of no other
+-- r is the number of the answer, and out′ has every byte that the listing leaves; 01's words hold of the text of an
+-- accepted plan, and of no other
 pub record ListingNumber (b out : List ℕ) (r : ℕ) (out′ : List ℕ) : Type 0 where
   pub returns : r ≡ listingNumber (listedOf b out)
   pub leaves : out′ ≡ listingLeft b out

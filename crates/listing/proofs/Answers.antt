@@ -83,7 +83,7 @@ module _ (b out : List ℕ) where
   text-answered {r} h =
       let w = said-value (listingRefusal b out) (length (textOf b)) r (h .returns) in
       wrote-same (printed-text b (accepted-plan (w .0)))
-          (record { bytes = h .leaves ∙ left-text (w .0); next = omega (arith, w .1) })
+      (record { bytes = h .leaves ∙ left-text (w .0); next = omega (arith, w .1) })
 
   pub refused-answered : {n : ℕ} {out′ : List ℕ} → 2048 ≤ length out → Lists b out (Refused n) out′
       → (n ≤ 14) × (refusedText n ≡ printed b) × (out′ ≡ out)

@@ -47,16 +47,18 @@ module _ (xs : List ℕ) (long : 5137 < length xs) where
       let y = second xs (omega arith) e in
       (sym (second front (omega (arith, front-length)) (sizes ∙ e)) ∙ y, λ z. omega arith))
       (λ (e : cause2 xs ≡ false).
-      let y = third xs (omega arith) e (λ q. omega (arith, short e)) in
-      (sym (third front (omega (arith, front-length)) (sizes ∙ e)
-          (λ q. omega (arith, front-length, length-same, short e))) ∙ y, λ z. omega arith))
+      let y = third xs (omega arith) e (λ q. omega (arith, short e)) in (
+        sym (third front (omega (arith, front-length)) (sizes ∙ e)
+            (λ q. omega (arith, front-length, length-same, short e))) ∙ y,
+        λ z. omega arith,
+      ))
       (either (cause2 xs))
 
 pub refusal-prefix : (xs : List ℕ) → refusal (take 5137 xs) ≡ refusal xs
 unfolding front
 refusal-prefix xs =
     by-cases (decLt 5137 (length xs)) (λ (l : 5137 < length xs). front-refused xs l .0)
-        (λ l. ap refusal (take-all 5137 xs (omega arith)))
+    (λ l. ap refusal (take-all 5137 xs (omega arith)))
 
 pub printed-prefix : (xs : List ℕ) → printed (take 5137 xs) ≡ printed xs
 unfolding front
@@ -65,5 +67,5 @@ printed-prefix xs =
     (λ (l : 5137 < length xs).
     let w = front-refused xs l in
     sym (printed-refused (take 5137 xs) (λ z. w .1 (sym (w .0) ∙ z))) ∙ ap refusedText (w .0)
-        ∙ printed-refused xs (w .1))
+    ∙ printed-refused xs (w .1))
     (λ l. ap printed (take-all 5137 xs (omega arith)))

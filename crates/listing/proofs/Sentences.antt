@@ -47,10 +47,10 @@ listing-only {b} e h =
     let own = is-listing b e in
     let v = verdict-exact (planOf b) (means-well-formed b e) (startOf b) (h .verdict) .1 (h .judged) in
     let d = plain-only (h .plain) ∙ ap decimal
-        (length-one ok (h .times) (own .times) 0 (ok .fits .limits .some-node)) in
+    (length-one ok (h .times) (own .times) 0 (ok .fits .limits .some-node)) in
     let w = longest-one ok (h .times) (own .times) in
     let l = lines-only (λ u a. w u (arranged-node b (h .arranged) u a)) (h .each)
-        ∙ ap (linesOf b) (arranged-only b w (h .arranged)) in
+    ∙ ap (linesOf b) (arranged-only b w (h .arranged)) in
     h .text
     ∙ ap (λ (u : Verdict). letters u ++ 32 ∷ h .digits ++ 10 ∷ h .lines) (sym v)
     ∙ ap (λ (xs : List ℕ). letters (own .verdict) ++ 32 ∷ xs ++ 10 ∷ h .lines) d
@@ -62,8 +62,12 @@ listing-is b e s = (listing-only e, λ q. rw q (is-listing b e))
 
 is-refusal : (n : ℕ) → IsRefusal n (refusedText n)
 unfolding refusedText
-is-refusal n = record { digits = decimal n; plain = plain n; text = sym (append-nil (refusedLetters ++ ending n))
-    ∙ ending-then refusedLetters n [] }
+is-refusal n = record {
+  digits = decimal n;
+  plain = plain n;
+  text = sym (append-nil (refusedLetters ++ ending n))
+      ∙ ending-then refusedLetters n [];
+}
 
 refusal-only : {n : ℕ} {s : List ℕ} → IsRefusal n s → s ≡ refusedText n
 unfolding is-refusal

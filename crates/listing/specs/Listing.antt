@@ -26,7 +26,8 @@ listingRefusal b out = first (refusal b) (cond (ltb (length out) 2048) 15 0)
 unfoldable pub listedOf : List ℕ → List ℕ → ℕ ⊎ ℕ
 listedOf b out = refusedOr (listingRefusal b out) (length (textOf b))
 
--- the bytes after the call: accepted, the text from the first byte, and then what was there; refused, all that was there
+-- the bytes after the call: accepted, the text from the first byte, and then what was there; refused, all that was
+-- there
 unfoldable pub listingLeft : List ℕ → List ℕ → List ℕ
 listingLeft b out = cond (eqb (listingRefusal b out) 0) (written out 0 (textOf b)) out
 
@@ -36,7 +37,8 @@ pub record Lists (b out : List ℕ) (r : Listed) (out′ : List ℕ) : Type 0 wh
   pub leaves : out′ ≡ listingLeft b out
   pub text : refusal b ≡ 0 → (s : List ℕ) → IsListing b s ↔ (s ≡ textOf b)
 
--- a call wrote all that the program prints from the first byte, and answered how much of out′ that is (`counts` follows from `fits`; `&out[..r]` asks for both);
+-- a call wrote all that the program prints from the first byte, and answered how much of out′ that is (`counts` follows
+-- from `fits`; `&out[..r]` asks for both);
 -- 01's words for an accepted plan or a refused one hold of it, and of nothing else
 pub record Prints (b out : List ℕ) (r : ℕ) (out′ : List ℕ) : Type 0 where
   pub wrote : Wrote out 0 (printed b) r out′

@@ -1,4 +1,5 @@
-// The listing of a plan: its verdict and length, then its tasks by their longest waits; and all that the program prints.
+// The listing of a plan: its verdict and length, then its tasks by their longest waits; and all that the program
+// prints.
 ghost use mathlib.Core.Path.{_≡_};
 ghost use Prim.Native.Nat.{_+_, _≤_};
 ghost use lib.ListN.{length};
@@ -40,7 +41,8 @@ fn write_word(out: &mut [u8], at: usize, verdict: Verdict) -> usize
 
 // Writes the listing of an accepted plan, whose verdict is known.
 fn write_text(plan: &[u8], verdict: Verdict, out: &mut [u8]) -> usize
-    requires { ⌜ (refusal (now plan) ≡ 0) × (wordOf verdict ≡ model.verdict (planOf (now plan)) (startOf (now plan))) × (2048 ≤ length (now out)) ⌝ }
+    requires { ⌜ (refusal (now plan) ≡ 0) × (wordOf verdict ≡ model.verdict (planOf (now plan)) (startOf (now plan)))
+        × (2048 ≤ length (now out)) ⌝ }
     ensures { λ r. ⌜ Wrote (now (out .entry)) 0 (textOf (now (plan .entry))) r (now (out .exit)) ⌝ }
 {
     let mut waits = no_times();

@@ -77,5 +77,5 @@ pub start-below : (b : List ℕ) → Clean b → (f : ℕ) → f < 64 → startF
 unfolding cause4 badStart
 start-below b c f l s =
     leb-false (flagCount b) f (not-passed (leb (flagCount b) f)
-        (λ t. true≢false (sym (and-of (leb (flagCount b) f) (startFlag b f) t s)
-        ∙ none-at 64 (badStart b) (c .starts) f l)))
+    (λ t. true≢false (sym (and-of (leb (flagCount b) f) (startFlag b f) t s)
+    ∙ none-at 64 (badStart b) (c .starts) f l)))

@@ -43,11 +43,18 @@ module _ (b : List ℕ) (p t f s : ℕ) where
       let w = found-at (condCount b) (conditionIs b p t f s) h in
       let i = w .0 in
       let x = and-both (eqb (condNode b i) t && eqb (placeOf (condValue b i)) p)
-          (eqb (flagOf (condValue b i)) f && eqb (signOf (condValue b i)) s) (w .2) in
+      (eqb (flagOf (condValue b i)) f && eqb (signOf (condValue b i)) s) (w .2) in
       let y = and-both (eqb (condNode b i) t) (eqb (placeOf (condValue b i)) p) (x .0) in
-      let z = and-both (eqb (flagOf (condValue b i)) f) (eqb (signOf (condValue b i)) s) (x .1) in
-      (i, record { below = w .1; node = eqb-true _ _ (y .0); place = eqb-true _ _ (y .1); flag = eqb-true _ _ (z .0);
-          sign = eqb-true _ _ (z .1) })
+      let z = and-both (eqb (flagOf (condValue b i)) f) (eqb (signOf (condValue b i)) s) (x .1) in (
+        i,
+        record {
+          below = w .1;
+          node = eqb-true _ _ (y .0);
+          place = eqb-true _ _ (y .1);
+          flag = eqb-true _ _ (z .0);
+          sign = eqb-true _ _ (z .1);
+        },
+      )
 
   pub has : (i : ℕ) → Is b p t f s i → hasCondition b p t f s ≡ true
   unfolding hasCondition conditionIs
@@ -90,13 +97,19 @@ module _ (b : List ℕ) (k : Place) (t f : ℕ) where
         let i = is b (placeNumber k) t f 0 h in
         let j = is b (placeNumber k) t f 1 y in
         let x = none-at (condCount b) (bothSigns b (i .0))
-            (none-at (condCount b) (λ i. someBelow (condCount b) (bothSigns b i)) signs (i .0) (i .1 .below)) (j .0)
-            (j .1 .below) in
+        (none-at (condCount b) (λ i. someBelow (condCount b) (bothSigns b i)) signs (i .0) (i .1 .below)) (j .0)
+        (j .1 .below) in
         true≢false
         (sym
         (both-signs-of b (i .0) (j .0)
-        (record { node = j .1 .node ∙ sym (i .1 .node); place = j .1 .place ∙ sym (i .1 .place); flag = j .1 .flag
-            ∙ sym (i .1 .flag); clear = i .1 .sign; set = j .1 .sign }))
+        (record {
+          node = j .1 .node ∙ sym (i .1 .node);
+          place = j .1 .place ∙ sym (i .1 .place);
+          flag = j .1 .flag
+              ∙ sym (i .1 .flag);
+          clear = i .1 .sign;
+          set = j .1 .sign;
+        }))
         ∙ x))
 
     pub sign-has : (v : Bool) → hasCondition b (placeNumber k) t f (signNumber v) ≡ true → signIn b k t f ≡ some v
@@ -109,15 +122,19 @@ module _ (b : List ℕ) (k : Place) (t f : ℕ) where
         → ConditionPair b t (valueOf f (signNumber v) (placeNumber k))
     condition-pair v e =
         let w = is b (placeNumber k) t f (signNumber v) (sign-is v e) in
-        record { at = w .0; below = w .1 .below; node = w .1 .node;
-            value = omega (arith, value-parts (condValue b (w .0)), w .1 .place, w .1 .flag, w .1 .sign) }
+        record {
+          at = w .0;
+          below = w .1 .below;
+          node = w .1 .node;
+          value = omega (arith, value-parts (condValue b (w .0)), w .1 .place, w .1 .flag, w .1 .sign);
+        }
 
     pub pair-condition : (v : Bool) → f < 64 → ConditionPair b t (valueOf f (signNumber v) (placeNumber k))
         → signIn b k t f ≡ some v
     pair-condition v l r =
         let w = parts (condValue b (r .at)) f (signNumber v) (placeNumber k) l (sign-small v) (r .value) in
         sign-has v (has b (placeNumber k) t f (signNumber v) (r .at)
-            (record { below = r .below; node = r .node; place = w .2; flag = w .0; sign = w .1 }))
+        (record { below = r .below; node = r .node; place = w .2; flag = w .0; sign = w .1 }))
 
 -- ---- orders
 module _ (b : List ℕ) (x y : ℕ) where
@@ -181,7 +198,7 @@ module _ (b : List ℕ) (c : Clean b) where
   unfolding cause6 badEntry
   kind-limit n l =
       let w = or-none (ltb 2 (kindOf b n) || (isGroup b n && ltb 0 (minutesOf b n)))
-          (isKind b n 0 && ltb 10080 (minutesOf b n)) (none-at (nodeCount b) (badEntry b) (c .entries) n l) in
+      (isKind b n 0 && ltb 10080 (minutesOf b n)) (none-at (nodeCount b) (badEntry b) (c .entries) n l) in
       ltb-false 2 (kindOf b n) (or-none (ltb 2 (kindOf b n)) (isGroup b n && ltb 0 (minutesOf b n)) (w .0) .0)
 
   pub group-of : (n : ℕ) → n < nodeCount b → kindAt (kindOf b n) ≢ task → isGroup b n ≡ true
@@ -199,11 +216,15 @@ module _ (b : List ℕ) (c : Clean b) where
   child-of g l h =
       let x = rw h at (none-at (nodeCount b) (childless b) (c .children) g l) in
       let w = found-at (nodeCount b) (λ n. eqb (parentOf b n) g) (not-false _ x) in
-      let e = eqb-true (parentOf b (w .0)) g (w .2) in
-      (w .0, by-cases (ℕ-discrete (w .0) 0)
-          (λ (z : w .0 ≡ 0). absurd (omega
-          (arith, ap (parentOf b) z, root-parent b (c .fits) (c .parents), c .fits .limits .nodes))) (λ z. omega arith),
-          w .1, e)
+      let e = eqb-true (parentOf b (w .0)) g (w .2) in (
+        w .0,
+        by-cases (ℕ-discrete (w .0) 0)
+            (λ (z : w .0 ≡ 0). absurd (omega
+            (arith, ap (parentOf b) z, root-parent b (c .fits) (c .parents), c .fits .limits .nodes)))
+            (λ z. omega arith),
+        w .1,
+        e,
+      )
 
   -- 9
   pub on-task : (p t f s i : ℕ) → Is b p t f s i → (t < nodeCount b) × (kindOf b t ≡ 0) × (f < flagCount b)
@@ -211,25 +232,37 @@ module _ (b : List ℕ) (c : Clean b) where
   on-task p t f s i r =
       let w = condition-fits b (c .fits) (c .conditions) i (r .below) in
       let x = kind-is b (condNode b i) 0 (w .0) in
-      let v = or-none (ltb 383 (condValue b i)) (leb (flagCount b) (flagOf (condValue b i))) (w .1) in
-      (omega (arith, x .0, r .node), ap (kindOf b) (sym (r .node)) ∙ x .1,
-          omega (arith, leb-false (flagCount b) (flagOf (condValue b i)) (v .1), r .flag))
+      let v = or-none (ltb 383 (condValue b i)) (leb (flagCount b) (flagOf (condValue b i))) (w .1) in (
+        omega (arith, x .0, r .node),
+        ap (kindOf b) (sym (r .node)) ∙ x .1,
+        omega (arith, leb-false (flagCount b) (flagOf (condValue b i)) (v .1), r .flag),
+      )
 
   -- 12
   pub inc-post : (t f s i : ℕ) → Is b 1 t f s i → (u : Bool) × (hasCondition b 2 t f (signNumber u) ≡ true)
   unfolding cause12 noPost
   inc-post t f s i r =
       let x = rw (eq-eqb (placeOf (condValue b i)) 1 (r .place)) at
-          (none-at (condCount b) (noPost b) (c .posts) i (r .below)) in
+      (none-at (condCount b) (noPost b) (c .posts) i (r .below)) in
       let w = found-at (condCount b) (postOf b i) (not-false _ x) in
       let q = post-of b i (w .0) (w .2) in
       by-cases (ℕ-discrete (signOf (condValue b (w .0))) 0)
-      (λ (z : signOf (condValue b (w .0)) ≡ 0).
-          (false, has b 2 t f 0 (w .0) (record
-          { below = w .1; node = q .node ∙ r .node; place = q .post; flag = q .flag ∙ r .flag; sign = z })))
-      (λ z. (true, has b 2 t f 1 (w .0)
-          (record { below = w .1; node = q .node ∙ r .node; place = q .post; flag = q .flag ∙ r .flag;
-          sign = sign-one (condValue b (w .0)) z })))
+      (λ (z : signOf (condValue b (w .0)) ≡ 0). (
+        false,
+        has b 2 t f 0 (w .0) (record
+            { below = w .1; node = q .node ∙ r .node; place = q .post; flag = q .flag ∙ r .flag; sign = z }),
+      ))
+      (λ z. (
+        true,
+        has b 2 t f 1 (w .0)
+            (record {
+              below = w .1;
+              node = q .node ∙ r .node;
+              place = q .post;
+              flag = q .flag ∙ r .flag;
+              sign = sign-one (condValue b (w .0)) z;
+            }),
+      ))
 
   -- 13
   pub good-pair : (x y : ℕ) → T (hasOrder b x y) → badPair b x y ≡ false
@@ -265,10 +298,15 @@ module _ (b : List ℕ) (c : Clean b) where
         orders = λ x y o.
             let s = siblings x y (good-pair x y o) in
             let u = child-is b (parentOf b x) x (s .2) in
-            let v = child-is b (parentOf b x) y (s .3) in
-            (s .0, (parentOf b x, kind-all-of (kindOf b (parentOf b x)) (s .1),
+            let v = child-is b (parentOf b x) y (s .3) in (
+              s .0,
+              (
+                parentOf b x,
+                kind-all-of (kindOf b (parentOf b x)) (s .1),
                 record { not-root = u .0; node = lt→ltb x (nodeCount b) (u .1); up = u .2 },
-                record { not-root = v .0; node = lt→ltb y (nodeCount b) (v .1); up = v .2 }));
+                record { not-root = v .0; node = lt→ltb y (nodeCount b) (v .1); up = v .2 },
+              ),
+            );
       }
 
 -- accepted bytes mean a plan

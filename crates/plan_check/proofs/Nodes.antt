@@ -23,8 +23,11 @@ module _ (b : List ℕ) where
 
   pub child-test : (g c : ℕ) → Child (planOf b) g c → isChild b g c ≡ true
   unfolding planOf isChild
-  child-test g c h = simp (lt-ltb 0 c (h .not-root), lt-ltb c (nodeCount b) (ltb→lt c (nodeCount b) (h .node)),
-      eq-eqb (parentOf b c) g (h .up))
+  child-test g c h = simp (
+    lt-ltb 0 c (h .not-root),
+    lt-ltb c (nodeCount b) (ltb→lt c (nodeCount b) (h .node)),
+    eq-eqb (parentOf b c) g (h .up),
+  )
 
   pub is-node : (n : ℕ) → n < nodeCount b → Node (planOf b) n
   unfolding planOf

@@ -7,7 +7,8 @@ use mathlib.Core.List.{List}
 use mathlib.Core.Option.{Option, some, none}
 use lib.Dec.{T, eqb, ltb}
 use Rattle.plan_codes.specs.Values.{valueOf, flagOf, signOf, placeOf}
-use Rattle.plan_format.specs.Format.{nodeCount, condCount, orderCount, flagCount, parentOf, kindOf, condNode, condValue, earlierOf, laterOf, startFlag}
+use Rattle.plan_format.specs.Format.{nodeCount, condCount, orderCount, flagCount, parentOf, kindOf, condNode, condValue}
+use Rattle.plan_format.specs.Format.{earlierOf, laterOf, startFlag}
 use Rattle.plan_rules.specs.Search.{someBelow}
 use Rattle.runs.specs.Plan.{Kind, task, all-of, any-of, Place, Plan, Accepted, kindNumber, placeNumber, signNumber}
 
@@ -24,7 +25,8 @@ unfoldable pub hasCondition : List ℕ → ℕ → ℕ → ℕ → ℕ → Bool
 hasCondition b p t f s = someBelow (condCount b) (conditionIs b p t f s)
 
 unfoldable pub signIn : List ℕ → Place → ℕ → ℕ → Option Bool
-signIn b k t f = cond (hasCondition b (placeNumber k) t f 1) (some true) (cond (hasCondition b (placeNumber k) t f 0) (some false) none)
+signIn b k t f = cond (hasCondition b (placeNumber k) t f 1) (some true)
+    (cond (hasCondition b (placeNumber k) t f 0) (some false) none)
 
 unfoldable pub orderIs : List ℕ → ℕ → ℕ → ℕ → Bool
 orderIs b x y j = eqb (earlierOf b j) x && eqb (laterOf b j) y
@@ -35,7 +37,12 @@ hasOrder b x y = someBelow (orderCount b) (orderIs b x y)
 unfoldable pub planOf : List ℕ → Plan
 planOf b =
     record {
-      tree = record { size = nodeCount b; here = λ n. ltb n (nodeCount b); kind = λ n. kindAt (kindOf b n); parent = parentOf b };
+      tree = record {
+        size = nodeCount b;
+        here = λ n. ltb n (nodeCount b);
+        kind = λ n. kindAt (kindOf b n);
+        parent = parentOf b;
+      };
       cond = record { flags = flagCount b; sign = signIn b };
       order = hasOrder b;
     }
@@ -64,6 +71,7 @@ pub record Means (b : List ℕ) (p : Plan) : Type 0 where
   pub flags : p .cond .flags ≡ flagCount b
   pub kind : (n : ℕ) → n < nodeCount b → kindNumber (p .tree .kind n) ≡ kindOf b n
   pub parent : (n : ℕ) → n < nodeCount b → p .tree .parent n ≡ parentOf b n
-  pub condition : (k : Place) (t f : ℕ) (v : Bool) → f < 64 → p .cond .sign k t f ≡ some v ↔ ConditionPair b t (valueOf f (signNumber v) (placeNumber k))
+  pub condition : (k : Place) (t f : ℕ) (v : Bool) → f < 64
+      → p .cond .sign k t f ≡ some v ↔ ConditionPair b t (valueOf f (signNumber v) (placeNumber k))
   pub order : (x y : ℕ) → T (p .order x y) ↔ OrderPair b x y
   pub accepted : Accepted p

@@ -2,7 +2,8 @@
 use Prim.Native.Nat.{ℕ}
 use mathlib.Core.Bool.{cond}
 use mathlib.Core.List.{List}
-use Rattle.plan_rules.specs.Rules.{cause4, cause5, cause6, cause7, cause8, cause9, cause10, cause11, cause12, cause13, cause14}
+use Rattle.plan_rules.specs.Rules.{cause4, cause5, cause6, cause7, cause8, cause9, cause10, cause11, cause12, cause13}
+use Rattle.plan_rules.specs.Rules.{cause14}
 
 -- from cause 13 on
 unfoldable pub fromOrders : List ℕ → ℕ
@@ -14,4 +15,5 @@ fromConditions b = cond (cause9 b) 9 (cond (cause10 b) 10 (cond (cause11 b) 11 (
 
 -- from cause 4 on
 unfoldable pub fromNodes : List ℕ → ℕ
-fromNodes b = cond (cause4 b) 4 (cond (cause5 b) 5 (cond (cause6 b) 6 (cond (cause7 b) 7 (cond (cause8 b) 8 (fromConditions b)))))
+fromNodes b = cond (cause4 b) 4
+    (cond (cause5 b) 5 (cond (cause6 b) 6 (cond (cause7 b) 7 (cond (cause8 b) 8 (fromConditions b)))))

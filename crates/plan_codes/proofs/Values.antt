@@ -60,8 +60,8 @@ says v c e =
     by-cases (decLe v 383)
     (λ (l : v ≤ 383).
     let k : parsed.Accepted (record { place = placeAt (placeOf v); sign = signAt (signOf v); flag = flagOf v })
-        ≡ parsed.Accepted c = parse-at v (v % 64) (v / 64 % 2) (v / 128) (omega arith) (omega arith) (omega arith)
-        (omega arith) ∙ e in
+    ≡ parsed.Accepted c = parse-at v (v % 64) (v / 64 % 2) (v / 128) (omega arith) (omega arith) (omega arith)
+    (omega arith) ∙ e in
     of-parts v c l (cc))
     (λ l. let z : _≡_ {A = ℕ} 0 1 = cc (over v (omega arith)) in absurd (omega arith))
 
@@ -71,7 +71,7 @@ refused v e =
     by-cases (decLe v 383)
     (λ (l : v ≤ 383).
     let z : _≡_ {A = ℕ} 0 1 = cc (parse-at v (v % 64) (v / 64 % 2) (v / 128) (omega arith) (omega arith) (omega arith)
-        (omega arith)) in absurd (omega arith))
+    (omega arith)) in absurd (omega arith))
     (λ l. omega arith)
 
 -- the numbers of an accepted value's cases make up the value

@@ -47,7 +47,8 @@ signAt s = cond (eqb s 0) Clear Set
 -- what a value says; over 383 it is refused
 unfoldable pub parsedOf : ℕ → Parsed
 parsedOf v =
-    cond (leb v 383) (parsed.Accepted (record { place = placeAt (placeOf v); sign = signAt (signOf v); flag = flagOf v })) parsed.Refused
+    cond (leb v 383) (parsed.Accepted
+    (record { place = placeAt (placeOf v); sign = signAt (signOf v); flag = flagOf v })) parsed.Refused
 
 -- the value is over 383, or its flag is none of the first `flags`
 unfoldable pub valueBad : ℕ → ℕ → Bool

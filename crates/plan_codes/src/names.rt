@@ -1,4 +1,5 @@
-// The characters that a name may have, told from a table of 256 marks, one for each value of a byte: the bits of four words.
+// The characters that a name may have, told from a table of 256 marks, one for each value of a byte: the bits of four
+// words.
 ghost use mathlib.Core.Path.{_≡_};
 ghost use Rattle.plan_codes.specs.Names.{nameAllowed};
 

@@ -19,7 +19,8 @@ use Rattle.plan_examples.specs.Plans.{planB}
 
 -- a plan of a single task, with the two bytes of its minutes
 bare : ℕ → ℕ → List ℕ
-bare low high = 1 ∷ 0 ∷ 0 ∷ 0 ∷ 0 ∷ 0 ∷ 1 ∷ 0 ∷ 0 ∷ 0 ∷ 0 ∷ 0 ∷ 0 ∷ 0 ∷ 0 ∷ 0 ∷ 66 ∷ 65 ∷ 82 ∷ 69 ∷ 255 ∷ 0 ∷ low ∷ high ∷ []
+bare low high = 1 ∷ 0 ∷ 0 ∷ 0 ∷ 0 ∷ 0 ∷ 1 ∷ 0 ∷ 0 ∷ 0 ∷ 0 ∷ 0 ∷ 0 ∷ 0 ∷ 0 ∷ 0 ∷ 66 ∷ 65 ∷ 82 ∷ 69 ∷ 255 ∷ 0 ∷ low ∷ high
+    ∷ []
 
 -- sizes N, 0, 0, 1 and no start flag
 sized : ℕ → List ℕ
@@ -75,5 +76,9 @@ right [] = true
 right (r ∷ rs) = eqb (refusal (r .bytes)) (r .expected) && right rs
 
 pub examples : right rows ≡ true
-unfolding planB bare sized tasks wide row rows right nameAllowed flagOf signOf placeOf valueBad u16At nodeCount condCount orderCount flagCount wholeLength startFlag nameChar entryAt parentOf kindOf minutesOf condNode condValue earlierOf laterOf isKind isGroup someBelow cause1 cause2 cause3 badStart cause4 badChar cause5 badEntry cause6 badParent cause7 childless cause8 badCondition cause9 notBelow notRising cause10 bothSigns cause11 postOf noPost cause12 isChild badPair badOrder cause13 cause14 refusal
+unfolding planB bare sized tasks wide row rows right nameAllowed flagOf signOf placeOf valueBad u16At nodeCount
+    condCount orderCount flagCount wholeLength startFlag nameChar entryAt parentOf kindOf minutesOf condNode condValue
+    earlierOf laterOf isKind isGroup someBelow cause1 cause2 cause3 badStart cause4 badChar cause5 badEntry cause6
+    badParent cause7 childless cause8 badCondition cause9 notBelow notRising cause10 bothSigns cause11 postOf noPost
+    cause12 isChild badPair badOrder cause13 cause14 refusal
 examples = refl

@@ -3,7 +3,8 @@ use Prim.Native.Nat.{ℕ, _+_, _-_}
 use mathlib.Core.Bool.{cond}
 use mathlib.Core.List.{List}
 use lib.Dec.{ltb}
-use Rattle.plan_format.specs.Format.{nodeCount, condCount, orderCount, parentOf, kindOf, minutesOf, condNode, condValue, earlierOf, laterOf}
+use Rattle.plan_format.specs.Format.{nodeCount, condCount, orderCount, parentOf, kindOf, minutesOf, condNode, condValue}
+use Rattle.plan_format.specs.Format.{earlierOf, laterOf}
 use Rattle.plan_reader.specs.declared.items.Node.{Node}
 use Rattle.plan_reader.specs.declared.items.Condition.{Condition}
 use Rattle.plan_reader.specs.declared.items.Order.{Order}

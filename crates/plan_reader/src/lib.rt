@@ -1,4 +1,5 @@
-// A reader hands over the nodes, conditions and orders of a plan (01: book) one after another: `item_at` does the work on the slice and the position. `table_all::fill_items` draws them all.
+// A reader hands over the nodes, conditions and orders of a plan (01: book) one after another: `item_at` does the work
+// on the slice and the position. `table_all::fill_items` draws them all.
 ghost use mathlib.Core.Path.{_≡_};
 ghost use Prim.Native.Nat.{_<_};
 ghost use Rattle.plan_format.specs.Format.{Whole};

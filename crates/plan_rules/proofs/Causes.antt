@@ -19,7 +19,7 @@ unfolding cause2
 limits b l h =
     let w = or-none _ (ltb (flagCount b) 1 || ltb 64 (flagCount b)) h in
     let n = or-none (ltb (nodeCount b) 1 || ltb 128 (nodeCount b)) (ltb 1024 (condCount b) || ltb 512 (orderCount b))
-        (w .0) in
+    (w .0) in
     let n0 = or-none (ltb (nodeCount b) 1) (ltb 128 (nodeCount b)) (n .0) in
     let n1 = or-none (ltb 1024 (condCount b)) (ltb 512 (orderCount b)) (n .1) in
     let v = or-none (ltb (flagCount b) 1) (ltb 64 (flagCount b)) (w .1) in
@@ -63,7 +63,7 @@ module _ (b : List ℕ) (fits : Whole b) where
     unfolding cause9 badCondition
     condition-fits i l =
         let w = or-none (not (isKind b (condNode b i) 0)) (valueBad (condValue b i) (flagCount b))
-            (none-at (condCount b) (badCondition b) conditions i l) in
+        (none-at (condCount b) (badCondition b) conditions i l) in
         (not-false _ (w .0), w .1)
 
     pub usable : Usable b
@@ -73,9 +73,13 @@ module _ (b : List ℕ) (fits : Whole b) where
           value = λ i l. ltb-false 383 (condValue b i)
               (or-none (ltb 383 (condValue b i)) (leb (flagCount b) (flagOf (condValue b i)))
               (condition-fits i l .1) .0);
-          node = λ i l. omega (arith, ltb-true (condNode b i) (nodeCount b)
-              (and-both (ltb (condNode b i) (nodeCount b)) (eqb (kindOf b (condNode b i)) 0)
-              (condition-fits i l .0) .0), fits .limits .nodes);
+          node = λ i l. omega (
+            arith,
+            ltb-true (condNode b i) (nodeCount b)
+                (and-both (ltb (condNode b i) (nodeCount b)) (eqb (kindOf b (condNode b i)) 0)
+                (condition-fits i l .0) .0),
+            fits .limits .nodes,
+          );
         }
 
 -- ---- two conditions
@@ -92,15 +96,25 @@ module _ (b : List ℕ) (i j : ℕ) where
   both-signs h =
       let w = and-both _ (eqb (signOf (condValue b i)) 0 && eqb (signOf (condValue b j)) 1) h in
       let x = and-three (eqb (condNode b j) (condNode b i)) (eqb (placeOf (condValue b j)) (placeOf (condValue b i)))
-          (eqb (flagOf (condValue b j)) (flagOf (condValue b i))) (w .0) in
+      (eqb (flagOf (condValue b j)) (flagOf (condValue b i))) (w .0) in
       let y = and-both (eqb (signOf (condValue b i)) 0) (eqb (signOf (condValue b j)) 1) (w .1) in
-      record { node = eqb-true _ _ (x .0); place = eqb-true _ _ (x .1); flag = eqb-true _ _ (x .2);
-          clear = eqb-true _ _ (y .0); set = eqb-true _ _ (y .1) }
+      record {
+        node = eqb-true _ _ (x .0);
+        place = eqb-true _ _ (x .1);
+        flag = eqb-true _ _ (x .2);
+        clear = eqb-true _ _ (y .0);
+        set = eqb-true _ _ (y .1);
+      }
 
   pub both-signs-of : BothSigns → bothSigns b i j ≡ true
   unfolding bothSigns
-  both-signs-of r = simp (eq-eqb _ _ (r .node), eq-eqb _ _ (r .place), eq-eqb _ _ (r .flag), eq-eqb _ _ (r .clear),
-      eq-eqb _ _ (r .set))
+  both-signs-of r = simp (
+    eq-eqb _ _ (r .node),
+    eq-eqb _ _ (r .place),
+    eq-eqb _ _ (r .flag),
+    eq-eqb _ _ (r .clear),
+    eq-eqb _ _ (r .set),
+  )
 
   pub record PostOf : Type 0 where
     pub node : condNode b j ≡ condNode b i
@@ -111,5 +125,5 @@ module _ (b : List ℕ) (i j : ℕ) where
   unfolding postOf
   post-of h =
       let w = and-three (eqb (condNode b j) (condNode b i)) (eqb (flagOf (condValue b j)) (flagOf (condValue b i)))
-          (eqb (placeOf (condValue b j)) 2) h in
+      (eqb (placeOf (condValue b j)) 2) h in
       record { node = eqb-true _ _ (w .0); flag = eqb-true _ _ (w .1); post = eqb-true _ _ (w .2) }

@@ -1,4 +1,5 @@
--- The causes 1 to 14 for which a plan (01: book) is refused, each a test of the bytes alone, and the first that applies.
+-- The causes 1 to 14 for which a plan (01: book) is refused, each a test of the bytes alone, and the first that
+-- applies.
 use Prim.Native.Nat.{ℕ, _+_, _-_, _*_}
 use mathlib.Core.Bool.{Bool, cond, not, _&&_, _||_}
 use mathlib.Core.List.{List}
@@ -6,7 +7,9 @@ use lib.ListN.{length}
 use lib.Dec.{eqb, ltb, leb}
 use Rattle.plan_codes.specs.Names.{nameAllowed}
 use Rattle.plan_codes.specs.Values.{flagOf, signOf, placeOf, valueBad}
-use Rattle.plan_format.specs.Format.{nodeCount, condCount, orderCount, flagCount, wholeLength, startFlag, nameChar, parentOf, kindOf, minutesOf, condNode, condValue, earlierOf, laterOf, isKind, isGroup}
+use Rattle.plan_format.specs.Format.{nodeCount, condCount, orderCount, flagCount, wholeLength, startFlag, nameChar}
+use Rattle.plan_format.specs.Format.{parentOf, kindOf, minutesOf, condNode, condValue, earlierOf, laterOf, isKind}
+use Rattle.plan_format.specs.Format.{isGroup}
 use Rattle.plan_rules.specs.Search.{someBelow}
 
 -- under 16 bytes
@@ -15,7 +18,8 @@ cause1 b = ltb (length b) 16
 
 -- a size beyond its limits
 unfoldable pub cause2 : List ℕ → Bool
-cause2 b = ((ltb (nodeCount b) 1 || ltb 128 (nodeCount b)) || (ltb 1024 (condCount b) || ltb 512 (orderCount b))) || (ltb (flagCount b) 1 || ltb 64 (flagCount b))
+cause2 b = ((ltb (nodeCount b) 1 || ltb 128 (nodeCount b)) || (ltb 1024 (condCount b) || ltb 512 (orderCount b))) ||
+    (ltb (flagCount b) 1 || ltb 64 (flagCount b))
 
 -- wrong length
 unfoldable pub cause3 : List ℕ → Bool
@@ -37,7 +41,8 @@ cause5 b = someBelow (4 * nodeCount b) (badChar b)
 
 -- kind over 2; group with minutes; task over 10,080 minutes
 unfoldable pub badEntry : List ℕ → ℕ → Bool
-badEntry b n = (ltb 2 (kindOf b n) || (isGroup b n && ltb 0 (minutesOf b n))) || (isKind b n 0 && ltb 10080 (minutesOf b n))
+badEntry b n = (ltb 2 (kindOf b n) || (isGroup b n && ltb 0 (minutesOf b n))) ||
+    (isKind b n 0 && ltb 10080 (minutesOf b n))
 
 unfoldable pub cause6 : List ℕ → Bool
 cause6 b = someBelow (nodeCount b) (badEntry b)
@@ -78,7 +83,8 @@ cause10 b = someBelow (condCount b - 1) (notRising (condNode b) (condValue b))
 -- one task, place and flag with both signs: i clear and j set
 unfoldable pub bothSigns : List ℕ → ℕ → ℕ → Bool
 bothSigns b i j =
-    (eqb (condNode b j) (condNode b i) && eqb (placeOf (condValue b j)) (placeOf (condValue b i)) && eqb (flagOf (condValue b j)) (flagOf (condValue b i)))
+    (eqb (condNode b j) (condNode b i) && eqb (placeOf (condValue b j)) (placeOf (condValue b i)) && eqb
+    (flagOf (condValue b j)) (flagOf (condValue b i)))
     && (eqb (signOf (condValue b i)) 0 && eqb (signOf (condValue b j)) 1)
 
 unfoldable pub cause11 : List ℕ → Bool
@@ -86,7 +92,8 @@ cause11 b = someBelow (condCount b) (λ i. someBelow (condCount b) (bothSigns b 
 
 -- j is a postcondition (01: leaving) of the task of i on its flag
 unfoldable pub postOf : List ℕ → ℕ → ℕ → Bool
-postOf b i j = eqb (condNode b j) (condNode b i) && eqb (flagOf (condValue b j)) (flagOf (condValue b i)) && eqb (placeOf (condValue b j)) 2
+postOf b i j = eqb (condNode b j) (condNode b i) && eqb (flagOf (condValue b j)) (flagOf (condValue b i)) && eqb
+    (placeOf (condValue b j)) 2
 
 -- incondition (01: hold) on a flag that the same task has no postcondition on
 unfoldable pub noPost : List ℕ → ℕ → Bool
@@ -99,9 +106,11 @@ cause12 b = someBelow (condCount b) (noPost b)
 unfoldable pub isChild : List ℕ → ℕ → ℕ → Bool
 isChild b g n = ltb 0 n && ltb n (nodeCount b) && eqb (parentOf b n) g
 
--- order whose nodes are not children of one all-of group, or whose earlier number is not the lower; the group can only be the parent of the earlier node
+-- order whose nodes are not children of one all-of group, or whose earlier number is not the lower; the group can only
+-- be the parent of the earlier node
 unfoldable pub badPair : List ℕ → ℕ → ℕ → Bool
-badPair b x y = not (isKind b (parentOf b x) 1 && isChild b (parentOf b x) x && isChild b (parentOf b x) y) || not (ltb x y)
+badPair b x y = not (isKind b (parentOf b x) 1 && isChild b (parentOf b x) x && isChild b (parentOf b x) y) || not
+    (ltb x y)
 
 unfoldable pub badOrder : List ℕ → ℕ → Bool
 badOrder b j = badPair b (earlierOf b j) (laterOf b j)

@@ -20,8 +20,10 @@ use plan_format::fields::parent;
 use plan_format::fields::start_flag;
 ghost use mathlib.Core.Path.{_≡_};
 ghost use Prim.Native.Nat.{_+_, _*_, _<_};
-ghost use Rattle.plan_format.specs.Format.{nodeCount, condCount, orderCount, condNode, condValue, earlierOf, laterOf, Whole};
-ghost use Rattle.plan_rules.specs.Rules.{badStart, badChar, badEntry, badParent, badCondition, notBelow, notRising, isChild, badPair, badOrder};
+ghost use Rattle.plan_format.specs.Format.{nodeCount, condCount, orderCount, condNode, condValue, earlierOf, laterOf};
+ghost use Rattle.plan_format.specs.Format.{Whole};
+ghost use Rattle.plan_rules.specs.Rules.{badStart, badChar, badEntry, badParent, badCondition, notBelow};
+ghost use Rattle.plan_rules.specs.Rules.{notRising, isChild, badPair, badOrder};
 
 pub fn bad_start(plan: &[u8], f: usize) -> bool
     requires { ⌜ (f < 64) × Whole (now plan) ⌝ }

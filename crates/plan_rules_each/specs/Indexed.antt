@@ -4,8 +4,10 @@ use mathlib.Core.Bool.{Bool}
 use mathlib.Core.List.{List}
 use Rattle.plan_format.specs.Format.{nodeCount, condCount, orderCount, condNode, condValue, earlierOf, laterOf}
 use Rattle.plan_rules_each.specs.declared.Rule.{Rule}
-use Rattle.plan_rules_each.specs.declared.Rule.the-variants.{Starts, Names, Entries, Parents, Conditions, RisingConditions, Orders, RisingOrders}
-use Rattle.plan_rules.specs.Rules.{badStart, badChar, badEntry, badParent, badCondition, badOrder, notRising, cause4, cause5, cause6, cause7, cause9, cause10, cause13, cause14}
+use Rattle.plan_rules_each.specs.declared.Rule.the-variants.{Starts, Names, Entries, Parents, Conditions}
+use Rattle.plan_rules_each.specs.declared.Rule.the-variants.{RisingConditions, Orders, RisingOrders}
+use Rattle.plan_rules.specs.Rules.{badStart, badChar, badEntry, badParent, badCondition, badOrder, notRising, cause4}
+use Rattle.plan_rules.specs.Rules.{cause5, cause6, cause7, cause9, cause10, cause13, cause14}
 
 -- how many indices a rule has
 abbrev pub countOf : Rule → List ℕ → ℕ

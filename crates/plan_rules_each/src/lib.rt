@@ -1,4 +1,5 @@
-// The rules that test each flag, character, node, condition or order by itself: one search for an index that breaks the rule.
+// The rules that test each flag, character, node, condition or order by itself: one search for an index that breaks the
+// rule.
 use plan_format::fields::conditions;
 use plan_format::fields::nodes;
 use plan_format::fields::orders;

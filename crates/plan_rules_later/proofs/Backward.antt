@@ -22,9 +22,9 @@ module _ (s : ℕ → Step) where
   given (suc m) k v p e =
       ⊎-elim
       (λ (t : (s m .writes && eqb (s m .at) k) ≡ true). let b = and-both (s m .writes) (eqb (s m .at) k) t in
-          (m, omega arith, b .0, eqb-true (s m .at) k (b .1), rw t at e))
+      (m, omega arith, b .0, eqb-true (s m .at) k (b .1), rw t at e))
       (λ (t : (s m .writes && eqb (s m .at) k) ≡ false). let w = given m k v p (rw t at e) in
-          (w .0, omega arith, w .2, w .3, w .4))
+      (w .0, omega arith, w .2, w .3, w .4))
       (either (s m .writes && eqb (s m .at) k))
 
   -- and keeps it while the steps have the same mark
@@ -39,8 +39,8 @@ module _ (s : ℕ → Step) where
       rw t
       (⊎-elim
       (λ (e : j ≡ m). absurd (true≢false
-          (sym (and-of (s m .writes) (eqb (s m .at) k) (ap (λ (i : ℕ). s i .writes) (sym e) ∙ w)
-          (eq-eqb (s m .at) k (ap (λ (i : ℕ). s i .at) (sym e) ∙ a))) ∙ t)))
+      (sym (and-of (s m .writes) (eqb (s m .at) k) (ap (λ (i : ℕ). s i .writes) (sym e) ∙ w)
+      (eq-eqb (s m .at) k (ap (λ (i : ℕ). s i .at) (sym e) ∙ a))) ∙ t)))
       (λ (q : j < m). stays j m k v q w a (λ i b c. h i b (omega arith)))
       (eq-or-lt-of-le (le-of-suc-le-suc l))))
       (either (s m .writes && eqb (s m .at) k))
@@ -87,8 +87,12 @@ module _
         (stays (backwards n s) (n - 1 - j) (n - 1 - i) (s i .ask) (s i .mark) (omega arith)
         (ap (λ (k : ℕ). s k .writes) e ∙ b .0)
         (ap (λ (k : ℕ). s k .at) e ∙ eqb-true _ _ (b .1))
-        (λ k u v. omega (arith, rises i (n - 1 - k) (omega arith) (omega arith),
-            rises (n - 1 - k) j (omega arith) (w .1), eqb-true (s j .mark) (s i .mark) (a .1)))))
+        (λ k u v. omega (
+          arith,
+          rises i (n - 1 - k) (omega arith) (omega arith),
+          rises (n - 1 - k) j (omega arith) (w .1),
+          eqb-true (s j .mark) (s i .mark) (a .1),
+        ))))
 
     place : (i : ℕ) → i < n → refuses (backwards n s) (n - 1 - i) ≡ judged n s i
     unfolding refuses backwards
@@ -102,6 +106,6 @@ module _
     pub pass-finds : someBelow n (refuses (backwards n s)) ≡ someBelow n (judged n s)
     pass-finds =
         some-same n (refuses (backwards n s)) (λ m. refuses (backwards n s) (n - 1 - (n - 1 - m)))
-            (λ m l. ap (λ (k : ℕ). refuses (backwards n s) k) (sym (turned n m l)))
+        (λ m l. ap (λ (k : ℕ). refuses (backwards n s) k) (sym (turned n m l)))
         ∙ some-back n (λ i. refuses (backwards n s) (n - 1 - i))
         ∙ some-same n (λ i. refuses (backwards n s) (n - 1 - i)) (judged n s) place

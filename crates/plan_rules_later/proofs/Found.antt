@@ -51,22 +51,32 @@ module _ (b : List ℕ) (i j : ℕ) where
   unfolding signStep
   sign-answered h =
       let w = and-three (eqb (signOf (condValue b j)) 1) (eqb (slotOf (condValue b j)) (slotOf (condValue b i)))
-          (eqb (condNode b j + 1) (condNode b i + 1)) h in
-      record { node = omega (arith, eqb-true (condNode b j + 1) (condNode b i + 1) (w .2)); slot = eqb-true _ _ (w .1);
-          set = eqb-true _ _ (w .0) }
+      (eqb (condNode b j + 1) (condNode b i + 1)) h in
+      record {
+        node = omega (arith, eqb-true (condNode b j + 1) (condNode b i + 1) (w .2));
+        slot = eqb-true _ _ (w .1);
+        set = eqb-true _ _ (w .0);
+      }
 
   sign-answer : SignAnswered → answers (signStep b) i j ≡ true
   unfolding signStep
-  sign-answer r = simp (eq-eqb _ _ (r .set), eq-eqb _ _ (r .slot), r .node,
-      eq-eqb (condNode b i + 1) (condNode b i + 1) refl)
+  sign-answer r = simp (
+    eq-eqb _ _ (r .set),
+    eq-eqb _ _ (r .slot),
+    r .node,
+    eq-eqb (condNode b i + 1) (condNode b i + 1) refl,
+  )
 
   post-answered : answers (postStep b) i j ≡ true → PostOf b i j
   unfolding postStep
   post-answered h =
       let w = and-three (eqb (placeOf (condValue b j)) 2) (eqb (flagOf (condValue b j)) (flagOf (condValue b i)))
-          (eqb (condNode b j + 1) (condNode b i + 1)) h in
-      record { node = omega (arith, eqb-true (condNode b j + 1) (condNode b i + 1) (w .2)); flag = eqb-true _ _ (w .1);
-          post = eqb-true _ _ (w .0) }
+      (eqb (condNode b j + 1) (condNode b i + 1)) h in
+      record {
+        node = omega (arith, eqb-true (condNode b j + 1) (condNode b i + 1) (w .2));
+        flag = eqb-true _ _ (w .1);
+        post = eqb-true _ _ (w .0);
+      }
 
   post-same : answers (postStep b) i j ≡ postOf b i j
   unfolding postStep postOf
@@ -74,7 +84,7 @@ module _ (b : List ℕ) (i j : ℕ) where
       same (answers (postStep b) i j) (postOf b i j)
       (λ y. let r = post-answered y in simp (eq-eqb _ _ (r .node), eq-eqb _ _ (r .flag), eq-eqb _ _ (r .post)))
       (λ y. let r = post-of b i j y in
-          simp (eq-eqb _ _ (r .post), eq-eqb _ _ (r .flag), r .node, eq-eqb (condNode b i + 1) (condNode b i + 1) refl))
+      simp (eq-eqb _ _ (r .post), eq-eqb _ _ (r .flag), r .node, eq-eqb (condNode b i + 1) (condNode b i + 1) refl))
 
 -- a clear condition is barred exactly if some condition has the other sign
 both-found : (b : List ℕ) (n i : ℕ) → judged n (signStep b) i ≡ someBelow n (bothSigns b i)
@@ -87,22 +97,22 @@ both-found b n i =
     let r = sign-answered b i (f .0) (f .2) in
     let p = slot-parts (condValue b i) (condValue b (f .0)) (r .slot) in
     some-yes n (bothSigns b i) (f .0) (f .1)
-        (both-signs-of b i (f .0) (record
-        { node = r .node; place = p .0; flag = p .1; clear = eqb-true _ _ (w .0); set = r .set })))
+    (both-signs-of b i (f .0) (record
+    { node = r .node; place = p .0; flag = p .1; clear = eqb-true _ _ (w .0); set = r .set })))
     (λ y.
     let f = found-at n (bothSigns b i) y in
     let r = both-signs b i (f .0) (f .2) in
     and-of (eqb (signOf (condValue b i)) 0) (someBelow n (answers (signStep b) i)) (eq-eqb _ _ (r .clear))
     (some-yes n (answers (signStep b) i) (f .0) (f .1)
-        (sign-answer b i (f .0) (record
-        { node = r .node; slot = slot-of (condValue b i) (condValue b (f .0)) (r .place) (r .flag); set = r .set }))))
+    (sign-answer b i (f .0) (record
+    { node = r .node; slot = slot-of (condValue b i) (condValue b (f .0)) (r .place) (r .flag); set = r .set }))))
 
 -- ---- cause 8
 module _ (b : List ℕ) (fits : Whole b) (parents : cause7 b ≡ false) where
   parent-lower : (n : ℕ) → n < nodeCount b → parentOf b n < nodeCount b → parentOf b n < n
   parent-lower n l m =
       by-cases (ℕ-discrete n 0) (λ (e : n ≡ 0). absurd
-          (omega (arith, root-parent b fits parents, ap (parentOf b) e, fits .limits .nodes)))
+      (omega (arith, root-parent b fits parents, ap (parentOf b) e, fits .limits .nodes)))
       (λ e. parent-group b fits parents n (omega arith) l .0)
 
   children : passRefuses Children b ≡ cause8 b
@@ -110,13 +120,13 @@ module _ (b : List ℕ) (fits : Whole b) (parents : cause7 b ≡ false) where
   children =
       pass-finds (nodeCount b) (childStep b) (λ i l. omega arith) (λ i j l m. omega arith)
       (λ i j l m q a. let e = eqb-true (parentOf b j) i (and-both (eqb (parentOf b j) i) true a .0) in
-          omega (arith, parent-lower j m (omega arith)))
+      omega (arith, parent-lower j m (omega arith)))
       ∙ some-same (nodeCount b) (judged (nodeCount b) (childStep b)) (childless b)
       (λ i l.
       or-false (isGroup b i && not (someBelow (nodeCount b) (answers (childStep b) i)))
       ∙ ap (λ (t : Bool). isGroup b i && not t)
-          (some-same (nodeCount b) (answers (childStep b) i) (λ n. eqb (parentOf b n) i)
-          (λ n k. and-true (eqb (parentOf b n) i))))
+      (some-same (nodeCount b) (answers (childStep b) i) (λ n. eqb (parentOf b n) i)
+      (λ n k. and-true (eqb (parentOf b n) i))))
 
 -- ---- causes 11 and 12
 module _ (b : List ℕ) (rising : cause10 b ≡ false) where
@@ -140,9 +150,9 @@ module _ (b : List ℕ) (rising : cause10 b ≡ false) where
   unfolding passRefuses cause11 signStep
   signs =
       pass-finds (condCount b) (signStep b) (λ i l. omega arith)
-          (λ i j l m. omega (arith, nodes-rise i j l m)) sign-later
+      (λ i j l m. omega (arith, nodes-rise i j l m)) sign-later
       ∙ some-same (condCount b) (judged (condCount b) (signStep b)) (λ i. someBelow (condCount b) (bothSigns b i))
-          (λ i l. both-found b (condCount b) i)
+      (λ i l. both-found b (condCount b) i)
 
   post-later : (i j : ℕ) → i < condCount b → j < condCount b → (eqb (placeOf (condValue b i)) 1 || false) ≡ true
       → answers (postStep b) i j ≡ true → i < j
@@ -156,12 +166,12 @@ module _ (b : List ℕ) (rising : cause10 b ≡ false) where
   unfolding passRefuses cause12 postStep noPost
   posts =
       pass-finds (condCount b) (postStep b) (λ i l. omega arith)
-          (λ i j l m. omega (arith, nodes-rise i j l m)) post-later
+      (λ i j l m. omega (arith, nodes-rise i j l m)) post-later
       ∙ some-same (condCount b) (judged (condCount b) (postStep b)) (noPost b)
       (λ i l.
       or-false (eqb (placeOf (condValue b i)) 1 && not (someBelow (condCount b) (answers (postStep b) i)))
       ∙ ap (λ (t : Bool). eqb (placeOf (condValue b i)) 1 && not t)
-          (some-same (condCount b) (answers (postStep b) i) (postOf b i) (λ j k. post-same b i j)))
+      (some-same (condCount b) (answers (postStep b) i) (postOf b i) (λ j k. post-same b i j)))
 
 -- ---- a pass finds its cause
 pub pass-is : (p : Pass) (b : List ℕ) → Whole b → Ready p b → passRefuses p b ≡ passCause p b

@@ -63,8 +63,10 @@ kept-holds s m t x e h w k b = rw (add-one m, ← e, w) (h k b)
 module _ (s : ℕ → Step) (m : ℕ) (t u : List ℕ) (x : Step) (e : x ≡ s m) (n : length t ≡ 256) (h : Holds s m t) where
   pub written : (i : ℕ) → x .writes ≡ true → i ≡ x .at → i < 256 → u ≡ set t i (x .mark)
       → (length u ≡ 256) × Holds s (m + 1) u
-  written i w a l q = (ap length q ∙ length-set t i (x .mark) ∙ n,
-      subst (λ (v : List ℕ). Holds s (m + 1) v) (sym q) (set-holds s m t x i e n h w a l))
+  written i w a l q = (
+    ap length q ∙ length-set t i (x .mark) ∙ n,
+    subst (λ (v : List ℕ). Holds s (m + 1) v) (sym q) (set-holds s m t x i e n h w a l),
+  )
 
   pub kept : x .writes ≡ false → u ≡ t → (length u ≡ 256) × Holds s (m + 1) u
   kept w q = (ap length q ∙ n, subst (λ (v : List ℕ). Holds s (m + 1) v) (sym q) (kept-holds s m t x e h w))

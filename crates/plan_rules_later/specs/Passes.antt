@@ -1,4 +1,5 @@
--- The rules that compare a place with later ones: what a pass over the nodes or the conditions does at each place, and which cause it finds.
+-- The rules that compare a place with later ones: what a pass over the nodes or the conditions does at each place, and
+-- which cause it finds.
 use Prim.Native.Nat.{ℕ, _+_, _*_}
 use mathlib.Core.Path.{_≡_}
 use mathlib.Core.Bool.{Bool, true, false}
@@ -20,11 +21,25 @@ slotOf v = 64 * placeOf v + flagOf v
 
 unfoldable pub signStep : List ℕ → ℕ → Step
 signStep b i =
-    record { needs = false; bars = eqb (signOf (condValue b i)) 0; ask = slotOf (condValue b i); writes = eqb (signOf (condValue b i)) 1; at = slotOf (condValue b i); mark = condNode b i + 1 }
+    record {
+      needs = false;
+      bars = eqb (signOf (condValue b i)) 0;
+      ask = slotOf (condValue b i);
+      writes = eqb (signOf (condValue b i)) 1;
+      at = slotOf (condValue b i);
+      mark = condNode b i + 1;
+    }
 
 unfoldable pub postStep : List ℕ → ℕ → Step
 postStep b i =
-    record { needs = eqb (placeOf (condValue b i)) 1; bars = false; ask = flagOf (condValue b i); writes = eqb (placeOf (condValue b i)) 2; at = flagOf (condValue b i); mark = condNode b i + 1 }
+    record {
+      needs = eqb (placeOf (condValue b i)) 1;
+      bars = false;
+      ask = flagOf (condValue b i);
+      writes = eqb (placeOf (condValue b i)) 2;
+      at = flagOf (condValue b i);
+      mark = condNode b i + 1;
+    }
 
 abbrev pub stepOf : Pass → List ℕ → ℕ → Step
 stepOf Children b = childStep b

@@ -30,10 +30,10 @@ summed x a b c d e f g x0 x1 x2 x3 x4 x5 x6 h0 h1 h2 h3 h4 h5 h6 = omega arith
 
 bits : (x : ℕ) → x < 256
     → x / 1 % 2 + 2 * (x / 2 % 2) + 4 * (x / 4 % 2) + 8 * (x / 8 % 2) + 16 * (x / 16 % 2) + 32 * (x / 32 % 2) + 64 *
-        (x / 64 % 2) + 128 * (x / 128 % 2) ≡ x
+    (x / 64 % 2) + 128 * (x / 128 % 2) ≡ x
 bits x l =
     summed x (x / 2) (x / 4) (x / 8) (x / 16) (x / 32) (x / 64) (x / 128 % 2) (x / 1 % 2) (x / 2 % 2) (x / 4 % 2)
-        (x / 8 % 2) (x / 16 % 2) (x / 32 % 2) (x / 64 % 2)
+    (x / 8 % 2) (x / 16 % 2) (x / 32 % 2) (x / 64 % 2)
     (omega arith) (omega arith) (omega arith) (omega arith) (omega arith) (omega arith) (omega arith)
 
 bit-num : (x k : ℕ) → num (bit x k) ≡ x / 2 ^ k % 2
@@ -54,9 +54,17 @@ module _ (s : List ℕ) (i : ℕ) (l : i < 8) where
   pub flag-byte : getD s i 0 < 256 → flagByte (flagShown s) i ≡ getD s i 0
   unfolding flagByte
   flag-byte b =
-      rw (flag-bit 0 (omega arith), flag-bit 1 (omega arith), flag-bit 2 (omega arith), flag-bit 3 (omega arith),
-          flag-bit 4 (omega arith), flag-bit 5 (omega arith), flag-bit 6 (omega arith), flag-bit 7 (omega arith))
-          (bits (getD s i 0) b)
+      rw (
+        flag-bit 0 (omega arith),
+        flag-bit 1 (omega arith),
+        flag-bit 2 (omega arith),
+        flag-bit 3 (omega arith),
+        flag-bit 4 (omega arith),
+        flag-bit 5 (omega arith),
+        flag-bit 6 (omega arith),
+        flag-bit 7 (omega arith),
+      )
+      (bits (getD s i 0) b)
 
 -- ---- making literals true leaves bytes
 byte-with : (x k : ℕ) (v : Bool) → x < 256 → k < 8 → byteWith x k v < 256
@@ -76,7 +84,7 @@ unfolding withFlag
 with-small bytes f v l h i =
     by-cases (ℕ-discrete i (f / 8))
     (λ (e : i ≡ f / 8). rw (e, getD-set-same bytes (f / 8) (byteWith (getD bytes (f / 8) 0) (f % 8) v) 0 l)
-        (byte-with (getD bytes (f / 8) 0) (f % 8) v (h (f / 8)) (omega arith)))
+    (byte-with (getD bytes (f / 8) 0) (f % 8) v (h (f / 8)) (omega arith)))
     (λ e. rw (getD-set-other bytes (f / 8) i (byteWith (getD bytes (f / 8) 0) (f % 8) v) 0 e) (h i))
 
 module _ (b : List ℕ) (q t : ℕ) (bytes : List ℕ) (long : 8 ≤ length bytes) (h : Small bytes) where
@@ -86,8 +94,8 @@ module _ (b : List ℕ) (q t : ℕ) (bytes : List ℕ) (long : 8 ≤ length byte
   literals-small (suc k) =
       ⊎-elim
       (λ (y : isOf b q t k ≡ true). rw y
-          (with-small (literals b q t k bytes) (flagOf (condValue b k)) (setAt b k)
-          (omega (arith, length-literals b q t bytes k, flag-small (condValue b k))) (literals-small k)))
+      (with-small (literals b q t k bytes) (flagOf (condValue b k)) (setAt b k)
+      (omega (arith, length-literals b q t bytes k, flag-small (condValue b k))) (literals-small k)))
       (λ (y : isOf b q t k ≡ false). rw y (literals-small k))
       (either (isOf b q t k))
 

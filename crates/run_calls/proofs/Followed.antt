@@ -60,13 +60,20 @@ module _ (b : List ℕ) where
   begun h {s} x =
       let e : roomRefusal b s ≡ 0 = sym (x .returns) in
       let f = fresh-started b s e in
-      record { well-formed = ap (stateRefusal b) (x .leaves) ∙ f .well-formed;
-          kept = rw (x .leaves) (fresh-kept b s h e); shows = ap (worldOf b) (x .leaves) ∙ f .at-first }
+      record {
+        well-formed = ap (stateRefusal b) (x .leaves) ∙ f .well-formed;
+        kept = rw (x .leaves) (fresh-kept b s h e);
+        shows = ap (worldOf b) (x .leaves) ∙ f .at-first;
+      }
 
   -- what the bytes show, and that they show it as demand 3 says
   shown : {s z : List ℕ} → stateRefusal b z ≡ 0 → Kept b s z → Shows b s (worldOf b z) z
-  shown {s} {z} ok k = record { well-formed = ok; states = refl; bytes = shown-is b s z ok k;
-      groups = group-byte b s z ok k }
+  shown {s} {z} ok k = record {
+    well-formed = ok;
+    states = refl;
+    bytes = shown-is b s z ok k;
+    groups = group-byte b s z ok k;
+  }
 
   pub list-follows : Bytes b → (s : List ℕ) (cs : List Call) (rs z : List ℕ) → Listed b s cs rs z → Follows b s cs rs z
   list-follows h s cs rs z x =
@@ -84,15 +91,24 @@ module _ (b : List ℕ) where
   make [] s = record { returns = []; leaves = s; made = no-calls }
   make (one e ∷ cs) s =
       let m = make cs (eventState b s e) in
-      record { returns = eventReturn b s e ∷ m .returns; leaves = m .leaves;
-          made = next-call (called b s e refl refl) (m .made) }
+      record {
+        returns = eventReturn b s e ∷ m .returns;
+        leaves = m .leaves;
+        made = next-call (called b s e refl refl) (m .made);
+      }
 
   pub list-made : refusal b ≡ 0 → (s : List ℕ) → 8 + nodeCount b ≤ length s → (cs : List Call)
       → (rs : List ℕ) × (z : List ℕ) × Listed b s cs rs z
   list-made acc s l cs =
-      let m = make cs (freshState b s) in
-      (m .returns, m .leaves, record { at-first = freshState b s;
-          freshened = record { returns = room-long b s acc l; leaves = refl }; called = m .made })
+      let m = make cs (freshState b s) in (
+        m .returns,
+        m .leaves,
+        record {
+          at-first = freshState b s;
+          freshened = record { returns = room-long b s acc l; leaves = refl };
+          called = m .made;
+        },
+      )
 
   -- ---- each call of a list
   -- the calls cs, then c, then ds, parted around c
@@ -110,8 +126,17 @@ module _ (b : List ℕ) where
   parted : (s : List ℕ) (cs : List Call) (c : Call) (ds : List Call) (rs z : List ℕ) → Calls b s (cs ++ (c ∷ ds)) rs z
       → Parted s cs c ds rs z
   parted s [] c ds rs z (next-call {s′ = s′} {r = r} {rs = ns} x y) =
-      record { earlier = []; returned = r; later = ns; between = s; left = s′; returns = refl; before = no-calls;
-          itself = next-call x no-calls; rest = y }
+      record {
+        earlier = [];
+        returned = r;
+        later = ns;
+        between = s;
+        left = s′;
+        returns = refl;
+        before = no-calls;
+        itself = next-call x no-calls;
+        rest = y;
+      }
   parted s (one e ∷ cs) c ds rs z (next-call {s′ = s′} {r = r} {rs = ns} x y) =
       let p = parted s′ cs c ds ns z y in
       record {
@@ -139,8 +164,11 @@ module _ (b : List ℕ) where
         later = p .later;
         left = p .left;
         returns = p .returns;
-        up-to = record { at-first = x .at-first; freshened = x .freshened;
-            called = calls-append (p .before) (p .itself) };
+        up-to = record {
+          at-first = x .at-first;
+          freshened = x .freshened;
+          called = calls-append (p .before) (p .itself);
+        };
         rest = p .rest;
         before = worldOf b (p .between);
         after = worldOf b (p .left);

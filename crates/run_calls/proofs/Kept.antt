@@ -116,7 +116,7 @@ module _ (b s z : List ℕ) (ok : stateRefusal b z ≡ 0) (h : Kept b s z) where
       by-cases (decLt k 8)
       (λ (m : k < 8). rw (lt-ltb k 8 m) (flag-byte z k m (h .small k m)))
       (λ m. let q : 8 + (k - 8) ≡ k = omega arith in
-          rw (le-ltb k 8 (omega arith)) (rw q at (status-byte (k - 8) (omega arith))))
+      rw (le-ltb k 8 (omega arith)) (rw q at (status-byte (k - 8) (omega arith))))
 
   pub shown-is : z ≡ overlay (shownByte (worldOf b z)) (8 + nodeCount b) s
   shown-is =
@@ -126,5 +126,5 @@ module _ (b s z : List ℕ) (ok : stateRefusal b z ≡ 0) (h : Kept b s z) where
       (λ k l.
       by-cases (decLt k n)
       (λ (m : k < n). sym (shown-at k m)
-          ∙ sym (at-overlay f s n k (omega (arith, h .same-length, has-room b z ok .room)) m))
+      ∙ sym (at-overlay f s n k (omega (arith, h .same-length, has-room b z ok .room)) m))
       (λ m. h .later k (omega arith) ∙ sym (past-overlay f s n k (omega arith))))

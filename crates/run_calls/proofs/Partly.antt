@@ -61,14 +61,14 @@ module _ (b at-first out : List ℕ) (cs : List Call) (i : ℕ) (s out′ : List
   pub partly-length : i ≤ length out → length out′ ≡ length out
   partly-length l =
       let q : length (h .returned ++ drop i out) ≡ i + length (drop i out) = length-append (h .returned) (drop i out)
-          ∙ ap (λ (k : ℕ). k + length (drop i out)) (h .long) in
+      ∙ ap (λ (k : ℕ). k + length (drop i out)) (h .long) in
       ap length (h .written) ∙ q ∙ omega (arith, length-drop i out)
 
   pub partly-more : i < length cs → i < length out → (e : Event) (r : ℕ) (s′ : List ℕ)
       → getD cs i (one (start 0)) ≡ one e → Called b s e r s′ → Partly b at-first out cs (i + 1) s′ (set out′ i r)
   partly-more l m e r s′ q c =
       let p : take (suc i) cs ≡ take i cs ++ (one e ∷ []) = take-suc cs i (one (start 0)) l
-          ∙ ap (λ (x : Call). take i cs ++ (x ∷ [])) q in
+      ∙ ap (λ (x : Call). take i cs ++ (x ∷ [])) q in
       record {
         returned = h .returned ++ (r ∷ []);
         long = length-append (h .returned) (r ∷ []) ∙ omega (arith, h .long);

@@ -1,5 +1,7 @@
--- Demand 3 over bytes: one claim over every accepted plan and over whole lists of calls with any numbers, refused calls anywhere among them, on any bytes that have room for a state.
--- Its hypotheses are the relations that `fresh`, `start`, `finish`, `assess` and `status` promise; what it says comes from the plan and the calls alone.
+-- Demand 3 over bytes: one claim over every accepted plan and over whole lists of calls with any numbers, refused calls
+-- anywhere among them, on any bytes that have room for a state.
+-- Its hypotheses are the relations that `fresh`, `start`, `finish`, `assess` and `status` promise; what it says comes
+-- from the plan and the calls alone.
 use Prim.Native.Nat.{ℕ, _+_, _≤_, _<_}
 use mathlib.Core.Path.{_≡_}
 use mathlib.Core.Logic.{_≢_, _↔_, inr}
@@ -26,20 +28,23 @@ use Rattle.run_calls.specs.Lists.{Calls, Listed}
 abbrev pub Bytes : List ℕ → Type 0
 Bytes b = (i : ℕ) → getD b i 0 < 256
 
--- the bytes z show the states a: they pass all checks, the first 8 + N are those of a, with 0 at each group, and each later byte is as it was in s, before fresh
+-- the bytes z show the states a: they pass all checks, the first 8 + N are those of a, with 0 at each group, and each
+-- later byte is as it was in s, before fresh
 pub record Shows (b s : List ℕ) (a : World) (z : List ℕ) : Type 0 where
   pub well-formed : stateRefusal b z ≡ 0
   pub states : worldOf b z ≡ a
   pub bytes : z ≡ overlay (shownByte a) (8 + nodeCount b) s
   pub groups : (g : ℕ) → g < nodeCount b → isKind b g 0 ≡ false → nodeByte z g ≡ 0
 
--- a list of calls returned what 01 works out from the plan and the calls, and the bytes after it show the states worked out
+-- a list of calls returned what 01 works out from the plan and the calls, and the bytes after it show the states worked
+-- out
 pub record Follows (b s : List ℕ) (cs : List Call) (rs : List ℕ) (z : List ℕ) : Type 0 where
   pub after : World
   pub worked : Worked (planOf b) (fresh (startOf b)) cs rs after
   pub shown : Shows b s after z
 
--- a call c of a list, after the calls cs and before ds: what it returned and the bytes that it left are those that 01 works out from the plan and the calls up to it
+-- a call c of a list, after the calls cs and before ds: what it returned and the bytes that it left are those that 01
+-- works out from the plan and the calls up to it
 pub record EachCall (b s : List ℕ) (cs : List Call) (c : Call) (ds : List Call) (rs z : List ℕ) : Type 0 where
   -- what the calls before it returned, what it returned itself, what the later ones did; the bytes after it
   pub earlier : List ℕ
@@ -58,20 +63,26 @@ pub record EachCall (b s : List ℕ) (cs : List Call) (c : Call) (ds : List Call
 
 pub record Demand3Of (b : List ℕ) : Type 0 where
   -- every list of calls can be made, on any bytes that have room for a state, and the plan has an answer
-  pub made : (s : List ℕ) → 8 + nodeCount b ≤ length s → (cs : List Call) → (rs : List ℕ) × (z : List ℕ) × Listed b s cs rs z
+  pub made : (s : List ℕ) → 8 + nodeCount b ≤ length s → (cs : List Call)
+      → (rs : List ℕ) × (z : List ℕ) × Listed b s cs rs z
   pub assessed : (r : Answer) × Assessed b r
-  -- each call of a list returns what 01 works out from the plan and the calls up to it, and the bytes then show the states worked out there
-  pub each : (s : List ℕ) (cs : List Call) (c : Call) (ds : List Call) (rs z : List ℕ) → Listed b s (cs ++ (c ∷ ds)) rs z → EachCall b s cs c ds rs z
+  -- each call of a list returns what 01 works out from the plan and the calls up to it, and the bytes then show the
+  -- states worked out there
+  pub each : (s : List ℕ) (cs : List Call) (c : Call) (ds : List Call) (rs z : List ℕ)
+      → Listed b s (cs ++ (c ∷ ds)) rs z → EachCall b s cs c ds rs z
   -- and so for the list as a whole
   pub follows : (s : List ℕ) (cs : List Call) (rs z : List ℕ) → Listed b s cs rs z → Follows b s cs rs z
   -- the answer is the one that 01 defines
-  pub answer : (r : Answer) → Assessed b r → (v : Verdict) × (said r ≡ inr v) × Judged (planOf b) (startOf b) v × ((u : Verdict) → Judged (planOf b) (startOf b) u → u ≡ v)
+  pub answer : (r : Answer) → Assessed b r
+      → (v : Verdict) × (said r ≡ inr v) × Judged (planOf b) (startOf b) v
+      × ((u : Verdict) → Judged (planOf b) (startOf b) u → u ≡ v)
   -- it is CLEAR exactly if no call in any list returns 21 or 22
   pub clear : (r : Answer) → Assessed b r
       → (said r ≡ inr CLEAR) ↔ ((s : List ℕ) (cs : List Call) (rs z : List ℕ) → Listed b s cs rs z → (n : ℕ) → Among n rs → (n ≢ 21) × (n ≢ 22))
   -- if it is DOOMED, the root is complete after no list: not in the states worked out, and `status` never says so
   pub doomed : (r : Answer) → Assessed b r → said r ≡ inr DOOMED → (s : List ℕ) (cs : List Call) (rs z : List ℕ) → Listed b s cs rs z
-      → ((a : World) → Worked (planOf b) (fresh (startOf b)) cs rs a → ¬ Complete (planOf b) (a .status) 0) × ((t : Progress) → Told b z t → status.said t ≢ inr COMPLETE)
+      → ((a : World) → Worked (planOf b) (fresh (startOf b)) cs rs a → ¬ Complete (planOf b) (a .status) 0)
+      × ((t : Progress) → Told b z t → status.said t ≢ inr COMPLETE)
 
 -- the whole claim: it holds of every accepted plan
 abbrev pub Demand3 : Type 0

@@ -1,4 +1,5 @@
--- The bytes of a state that shows given states: eight bytes of flags, then 0 waiting, 1 running or 2 done for each node.
+-- The bytes of a state that shows given states: eight bytes of flags, then 0 waiting, 1 running or 2 done for each
+-- node.
 use Prim.Native.Nat.{ℕ, _+_, _-_, _*_}
 use mathlib.Core.Bool.{Bool, cond}
 use lib.Dec.{ltb}

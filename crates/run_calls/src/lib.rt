@@ -17,7 +17,8 @@ fn least(a: usize, b: usize) -> usize
 
 // Starts or finishes the task.
 fn make(plan: &[u8], state: &mut [u8], finishes: bool, task: usize) -> u32
-    ensures { λ r. ⌜ Called (now (plan .entry)) (now (state .entry)) (cond finishes (execution.finish task) (execution.start task)) r (now (state .exit)) ⌝ }
+    ensures { λ r. ⌜ Called (now (plan .entry)) (now (state .entry))
+        (cond finishes (execution.finish task) (execution.start task)) r (now (state .exit)) ⌝ }
 {
     if finishes {
         return finish(plan, state, task);
@@ -25,7 +26,8 @@ fn make(plan: &[u8], state: &mut [u8], finishes: bool, task: usize) -> u32
     start(plan, state, task)
 }
 
-// Makes fresh, and then as many calls as all three slices have: call i finishes or starts task i, and its return is written. Where fresh refuses, nothing is written.
+// Makes fresh, and then as many calls as all three slices have: call i finishes or starts task i, and its return is
+// written. Where fresh refuses, nothing is written.
 pub fn replay(
     plan: &[u8],
     finishes: &[bool],
@@ -33,7 +35,8 @@ pub fn replay(
     state: &mut [u8],
     returns: &mut [u32],
 ) -> u32
-    ensures { λ r. ⌜ Replayed (now (plan .entry)) (now (finishes .entry)) (now (tasks .entry)) (now (state .entry)) (now (returns .entry)) r (now (state .exit)) (now (returns .exit)) ⌝ }
+    ensures { λ r. ⌜ Replayed (now (plan .entry)) (now (finishes .entry)) (now (tasks .entry)) (now (state .entry))
+        (now (returns .entry)) r (now (state .exit)) (now (returns .exit)) ⌝ }
 {
     let r = fresh(plan, state);
     if r != 0 {

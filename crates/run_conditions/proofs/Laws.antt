@@ -56,7 +56,7 @@ module _ (b : List ℕ) (q t : ℕ) (bytes : List ℕ) where
   length-literals (suc k) =
       ⊎-elim
       (λ (y : isOf b q t k ≡ true). rw y
-          (length-with (literals b q t k bytes) (flagOf (condValue b k)) (setAt b k) ∙ length-literals k))
+      (length-with (literals b q t k bytes) (flagOf (condValue b k)) (setAt b k) ∙ length-literals k))
       (λ (y : isOf b q t k ≡ false). rw y (length-literals k))
       (either (isOf b q t k))
 
@@ -72,8 +72,8 @@ module _ (b : List ℕ) (q t : ℕ) (bytes : List ℕ) where
     literals-other (suc k) h =
         ⊎-elim
         (λ (y : isOf b q t k ≡ true). rw y
-            (with-other (literals b q t k bytes) (flagOf (condValue b k)) (setAt b k) (inside k) f (h k (omega arith) y)
-            ∙ literals-other k (λ i l. h i (omega arith))))
+        (with-other (literals b q t k bytes) (flagOf (condValue b k)) (setAt b k) (inside k) f (h k (omega arith) y)
+        ∙ literals-other k (λ i l. h i (omega arith))))
         (λ (y : isOf b q t k ≡ false). rw y (literals-other k (λ i l. h i (omega arith))))
         (either (isOf b q t k))
 
@@ -88,13 +88,13 @@ module _ (b : List ℕ) (q t : ℕ) (bytes : List ℕ) where
         rw y
         (by-cases (ℕ-discrete f (flagOf (condValue b k)))
         (λ (z : f ≡ flagOf (condValue b k)). rw z
-            (with-same (literals b q t k bytes) (flagOf (condValue b k)) (setAt b k) (inside k))
-            ∙ h k (omega arith) y z)
+        (with-same (literals b q t k bytes) (flagOf (condValue b k)) (setAt b k) (inside k))
+        ∙ h k (omega arith) y z)
         (λ z. let n : j ≡ k → ⊥ = λ x. z (e ∙ ap (λ (i : ℕ). flagOf (condValue b i)) x) in
-            with-other (literals b q t k bytes) (flagOf (condValue b k)) (setAt b k) (inside k) f z
-            ∙ literals-same v k j (omega arith) o e (λ i m. h i (omega arith)))))
+        with-other (literals b q t k bytes) (flagOf (condValue b k)) (setAt b k) (inside k) f z
+        ∙ literals-same v k j (omega arith) o e (λ i m. h i (omega arith)))))
         (λ (y : isOf b q t k ≡ false). let n : j ≡ k → ⊥ = λ x. true≢false (sym o ∙ ap (isOf b q t) x ∙ y) in
-            rw y (literals-same v k j (omega arith) o e (λ i m. h i (omega arith))))
+        rw y (literals-same v k j (omega arith) o e (λ i m. h i (omega arith))))
         (either (isOf b q t k))
 
   -- a turn, by what the loop has at hand
@@ -131,7 +131,7 @@ module _ (b : List ℕ) (accepted : refusal b ≡ 0) (k : Place) (t : ℕ) where
       let w = of-is b (placeNumber k) t i y in
       sign-has b k t (flagOf (condValue b i)) (clean b accepted .signs) (setAt b i)
       (has b (placeNumber k) t (flagOf (condValue b i)) (signNumber (setAt b i)) i
-          (record { below = l; node = w .0; place = w .1; flag = refl; sign = is-sign b i }))
+      (record { below = l; node = w .0; place = w .1; flag = refl; sign = is-sign b i }))
 
   -- and a sign has its condition
   pub record Found (f : ℕ) (v : Bool) : Type 0 where
@@ -145,8 +145,13 @@ module _ (b : List ℕ) (accepted : refusal b ≡ 0) (k : Place) (t : ℕ) where
   found f v e =
       let w = is b (placeNumber k) t f (signNumber v) (sign-is b k t f v e) in
       let o = is-of b (placeNumber k) t (w .0) (w .1 .node) (w .1 .place) in
-      record { at = w .0; below = w .1 .below; of = o; flag = w .1 .flag;
-          sign = one-sign (rw (w .1 .flag) at (sign-at (w .0) (w .1 .below) o)) e }
+      record {
+        at = w .0;
+        below = w .1 .below;
+        of = o;
+        flag = w .1 .flag;
+        sign = one-sign (rw (w .1 .flag) at (sign-at (w .0) (w .1 .below) o)) e;
+      }
 
   -- the flags after the event's literals
   pub made-flag : (bytes : List ℕ) → 8 ≤ length bytes → (f : ℕ)
@@ -167,7 +172,7 @@ module _ (b : List ℕ) (accepted : refusal b ≡ 0) (k : Place) (t : ℕ) where
       at (some v) e =
           let w = found f v e in
           literals-same b (placeNumber k) t bytes long f v (condCount b) (w .at) (w .below) (w .of) (sym (w .flag))
-              (λ i l y z. one-sign (sign-here i l y z) e)
+          (λ i l y z. one-sign (sign-here i l y z) e)
 
 -- a condition is on a task
 pub on-task : (b : List ℕ) → refusal b ≡ 0 → (i : ℕ) → i < condCount b
@@ -178,7 +183,7 @@ on-task b e i l = let c = clean b e in kind-is b (condNode b i) 0 (condition-fit
 pub broken-turn : (b s clear set : List ℕ) (t i node f : ℕ) (sign kept o d : Bool) → node ≡ condNode b i
     → o ≡ isOf b 1 node i → f ≡ flagOf (condValue b i) → sign ≡ setAt b i
     → kept ≡ flagIn (cond sign set clear) f → d ≡ not (sameB sign kept)
-        → (o && not (eqb node t) && eqb (getD s (8 + node) 0) 1 && d) ≡ brokenAt b s clear set t i
+    → (o && not (eqb node t) && eqb (getD s (8 + node) 0) 1 && d) ≡ brokenAt b s clear set t i
 unfolding brokenAt nodeByte
 broken-turn b s clear set t i node f sign kept o d en eo ef es ek ed = rw (ed, ek, eo, en, ef, es)
 

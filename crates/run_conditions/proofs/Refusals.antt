@@ -63,8 +63,12 @@ module _ (b s : List ℕ) (ok : stateRefusal b s ≡ 0) (t : ℕ) where
       let i = w .0 in
       let f = flagOf (condValue b i) in
       let x = and-both (isOf b 0 t i) (not (sameB (setAt b i) (flagIn (take 8 s) f))) (w .2) in
-      record { on = f; sign = setAt b i; needs = sign-at b accepted pre t i (w .1) (x .0);
-          unmet = shown f (flag-small (condValue b i)) ∙ differ (setAt b i) (flagIn (take 8 s) f) (x .1) }
+      record {
+        on = f;
+        sign = setAt b i;
+        needs = sign-at b accepted pre t i (w .1) (x .0);
+        unmet = shown f (flag-small (condValue b i)) ∙ differ (setAt b i) (flagIn (take 8 s) f) (x .1);
+      }
 
   unmet-from : PreUnmet (planOf b) (flagShown s) (start t) → T (someBelow (condCount b) (unmetAt b (take 8 s) t))
   unfolding unmetAt planOf
@@ -74,7 +78,7 @@ module _ (b s : List ℕ) (ok : stateRefusal b s ≡ 0) (t : ℕ) where
       true-T _
       (some-yes (condCount b) (unmetAt b (take 8 s) t) (w .at) (w .below)
       (and-of (isOf b 0 t (w .at)) (not (sameB (setAt b (w .at)) (flagIn (take 8 s) (flagOf (condValue b (w .at))))))
-          (w .of)
+      (w .of)
       (rw (w .flag, w .sign) (differs (x .sign) (flagIn (take 8 s) (x .on)) e))))
 
   pub unmet-is : someBelow (condCount b) (unmetAt b (take 8 s) t) ≡ preUnmetB (planOf b) (flagShown s) (start t)
@@ -109,9 +113,9 @@ module _ (b s : List ℕ) (ok : stateRefusal b s ≡ 0) (t : ℕ) where
         let f = flagOf (condValue b i) in
         let v = setAt b i in
         let x3 = and-both (isOf b 1 (condNode b i) i && not (eqb (condNode b i) t) && eqb (nodeByte s (condNode b i)) 1)
-            (not (sameB v (flagIn (cond v (after true) (after false)) f))) (w .2) in
+        (not (sameB v (flagIn (cond v (after true) (after false)) f))) (w .2) in
         let x2 = and-both (isOf b 1 (condNode b i) i && not (eqb (condNode b i) t)) (eqb (nodeByte s (condNode b i)) 1)
-            (x3 .0) in
+        (x3 .0) in
         let x1 = and-both (isOf b 1 (condNode b i) i) (not (eqb (condNode b i) t)) (x2 .0) in
         let n = on-task b accepted i (w .1) in
         record {
@@ -138,15 +142,15 @@ module _ (b s : List ℕ) (ok : stateRefusal b s ≡ 0) (t : ℕ) where
         true-T _
         (some-yes (condCount b) test i (w .below)
         (and-of (isOf b 1 (condNode b i) i && not (eqb (condNode b i) t) && eqb (nodeByte s (condNode b i)) 1)
-            (not (sameB v (flagIn (cond v (after true) (after false)) f)))
+        (not (sameB v (flagIn (cond v (after true) (after false)) f)))
         (and-of (isOf b 1 (condNode b i) i && not (eqb (condNode b i) t)) (eqb (nodeByte s (condNode b i)) 1)
         (and-of (isOf b 1 (condNode b i) i) (not (eqb (condNode b i) t)) (is-of b 1 (condNode b i) i refl (d .1))
-            (rw (ne-eqb (condNode b i) t (λ z. x .another (of ∙ sym z ∙ d .0)))))
+        (rw (ne-eqb (condNode b i) t (λ z. x .another (of ∙ sym z ∙ d .0)))))
         (eq-eqb (nodeByte s (condNode b i)) 1
-            (byte-running b s ok (condNode b i) (n .0) (n .1) .1 (ap (statusIn b s) (d .0) ∙ x .runs))))
+        (byte-running b s ok (condNode b i) (n .0) (n .1) .1 (ap (statusIn b s) (d .0) ∙ x .runs))))
         (differs v (flagIn (cond v (after true) (after false)) f)
         (after-flag v f (flag-small (condValue b i)) ∙ ap (λ (z : ℕ). Option·getD (asserts (planOf b) e z) v) (w .flag)
-            ∙ ap (λ (o : Option Bool). Option·getD o v) (x .breaks) ∙ ap not (sym (w .sign))))))
+        ∙ ap (λ (o : Option Bool). Option·getD o v) (x .breaks) ∙ ap not (sym (w .sign))))))
 
     pub broken-is : someBelow (condCount b) test ≡ incBrokenB (planOf b) (statusIn b s) e
     broken-is = same-test _ _ (record { to = broken-to; from = broken-from })

@@ -1,4 +1,5 @@
-// The conditions of an event's task: the literals that it makes true, unmet preconditions, and inconditions of other running tasks that it breaks.
+// The conditions of an event's task: the literals that it makes true, unmet preconditions, and inconditions of other
+// running tasks that it breaks.
 use base::places::INC;
 use base::places::PRE;
 use base::statuses::RUNNING;
@@ -49,7 +50,8 @@ fn set_at(plan: &[u8], i: usize) -> bool
     sign_of(condition_value(plan, i)) == 1
 }
 
-// The flags with the literals of the task at the place made true: its inconditions at a start, its postconditions at a finish.
+// The flags with the literals of the task at the place made true: its inconditions at a start, its postconditions at a
+// finish.
 pub fn with_literals(plan: &[u8], place: u16, task: usize, flags: Flags) -> Flags
     requires { ⌜ refusal (now plan) ≡ 0 ⌝ }
     ensures { λ r. ⌜ r .bytes ≡ made (now (plan .entry)) place task (flags .bytes) ⌝ }
@@ -96,7 +98,8 @@ pub fn pre_unmet(plan: &[u8], flags: Flags, task: usize) -> bool
     false
 }
 
-// Condition i is an incondition of another running task, and the event turns its flag: `clear` and `set` are all clear and all set flags after the event.
+// Condition i is an incondition of another running task, and the event turns its flag: `clear` and `set` are all clear
+// and all set flags after the event.
 fn broken_at(plan: &[u8], state: &[u8], clear: Flags, set: Flags, task: usize, i: usize) -> bool
     requires { ⌜ (i < condCount (now plan)) × (stateRefusal (now plan) (now state) ≡ 0) ⌝ }
     ensures { λ r. ⌜ r ≡ brokenAt (now (plan .entry)) (now (state .entry)) (clear .bytes) (set .bytes) task i ⌝ }
@@ -111,7 +114,10 @@ fn broken_at(plan: &[u8], state: &[u8], clear: Flags, set: Flags, task: usize, i
 // 22: the event of the task that makes its literals at the place true breaks an incondition of another running task.
 pub fn inc_broken(plan: &[u8], state: &[u8], place: u16, task: usize) -> bool
     requires { ⌜ stateRefusal (now plan) (now state) ≡ 0 ⌝ }
-    ensures { λ r. ⌜ r ≡ someBelow (condCount (now (plan .entry))) (brokenAt (now (plan .entry)) (now (state .entry)) (made (now (plan .entry)) place task (replicate 8 (allByte false))) (made (now (plan .entry)) place task (replicate 8 (allByte true))) task) ⌝ }
+    ensures { λ r. ⌜ r ≡ someBelow (condCount (now (plan .entry)))
+        (brokenAt (now (plan .entry)) (now (state .entry))
+        (made (now (plan .entry)) place task (replicate 8 (allByte false)))
+        (made (now (plan .entry)) place task (replicate 8 (allByte true))) task) ⌝ }
 {
     let clear = with_literals(plan, place, task, Flags::all(false));
     let set = with_literals(plan, place, task, Flags::all(true));

@@ -68,7 +68,7 @@ module _ (b s : List ℕ) (ok : stateRefusal b s ≡ 0) where
   counted g n h =
       count-others (nodeCount b) (countedChild tallies.Begun b s g) n (node-is b n (h .node))
       ∙ ap (λ (x : Bool). num (x && begunB (planOf b) (statusIn b s) n) + countBelow (nodeCount b) (others g n))
-          (child-test b g n h)
+      (child-test b g n h)
 
   rival-to : (g n : ℕ) → Child (planOf b) g n
       → num (begunB (planOf b) (statusIn b s) n) < childrenCounted tallies.Begun b s g
@@ -79,7 +79,7 @@ module _ (b s : List ℕ) (ok : stateRefusal b s ≡ 0) where
       let x = and-both (not (eqb (w .0) n)) (isChild b g (w .0) && begunB (planOf b) (statusIn b s) (w .0)) (w .2) in
       let y = and-both (isChild b g (w .0)) (begunB (planOf b) (statusIn b s) (w .0)) (x .1) in
       by-branch (w .0) (is-child b g (w .0) (y .0)) (eqb-false (w .0) n (not-true _ (x .0)))
-          (begins (w .0) (w .1) .to (true-T _ (y .1)))
+      (begins (w .0) (w .1) .to (true-T _ (y .1)))
 
   rival-from : (g n : ℕ) → Child (planOf b) g n → Rival (planOf b) (statusIn b s) g n
       → num (begunB (planOf b) (statusIn b s) n) < childrenCounted tallies.Begun b s g
@@ -92,7 +92,7 @@ module _ (b s : List ℕ) (ok : stateRefusal b s ≡ 0) where
         some-counted (nodeCount b) (others g n) c l
             (and-of (not (eqb c n)) (isChild b g c && begunB (planOf b) (statusIn b s) c) (rw (ne-eqb c n ne))
             (and-of (isChild b g c) (begunB (planOf b) (statusIn b s) c) (child-test b g c hc)
-                (T-true _ (begins c l .from x)))),
+            (T-true _ (begins c l .from x)))),
       )
 
   rival-at : (g n : ℕ) → Picks (planOf b .tree .kind g) → Child (planOf b) g n → Rival (planOf b) (statusIn b s) g n
@@ -120,9 +120,15 @@ module _ (b s : List ℕ) (ok : stateRefusal b s ≡ 0) where
     unfolding rivalAt
     rival-here u y =
         let w = and-both (isKind b g 2)
-            (ltb (num (begunB (planOf b) (statusIn b s) n)) (childrenCounted tallies.Begun b s g)) y in
-        record { group = g; own = n; picks = any-group (w .0); own-child = child; above = u;
-            rival = rival-to g n child (ltb-true _ _ (w .1)) }
+        (ltb (num (begunB (planOf b) (statusIn b s) n)) (childrenCounted tallies.Begun b s g)) y in
+        record {
+          group = g;
+          own = n;
+          picks = any-group (w .0);
+          own-child = child;
+          above = u;
+          rival = rival-to g n child (ltb-true _ _ (w .1));
+        }
 
     -- without a rival here, one is further up
     pub rival-up : rivalAt b s g n ≡ false → BranchBegun (planOf b) (statusIn b s) n
@@ -131,10 +137,16 @@ module _ (b s : List ℕ) (ok : stateRefusal b s ≡ 0) where
     rival-up y x =
         ⊎-elim
         (λ (o : x .own ≡ n). absurd (true≢false
-            (sym (rival-at (x .group) (x .own) (x .picks) (x .own-child) (x .rival)) ∙ ap (rivalAt b s (x .group)) o
-            ∙ ap (λ (k : ℕ). rivalAt b s k n) (sym (x .own-child .up) ∙ ap (parentOf b) o ∙ sym e) ∙ y)))
-        (λ u. record { group = x .group; own = x .own; picks = x .picks; own-child = x .own-child; above = rw e u;
-            rival = x .rival })
+        (sym (rival-at (x .group) (x .own) (x .picks) (x .own-child) (x .rival)) ∙ ap (rivalAt b s (x .group)) o
+        ∙ ap (λ (k : ℕ). rivalAt b s k n) (sym (x .own-child .up) ∙ ap (parentOf b) o ∙ sym e) ∙ y)))
+        (λ u. record {
+          group = x .group;
+          own = x .own;
+          picks = x .picks;
+          own-child = x .own-child;
+          above = rw e u;
+          rival = x .rival;
+        })
         (up-or-here b (x .above))
 
   pub none-at-root : BranchBegun (planOf b) (statusIn b s) 0 → ⊥

@@ -67,8 +67,11 @@ module _ (b : List ℕ) (t : ℕ) where
         (λ z. let o = getD-set-other m g a 1 0 z in
         ⊎-elim
         (λ x. inl (o ∙ x .0, x .1))
-        (λ x. inr (o ∙ x .0, λ u. let y = x .1 u in
-            (⊎-elim (λ w. absurd (y .1 w)) (λ w. rw e w) (up-or-here b (y .0)), z)))
+        (λ x. inr (
+          o ∙ x .0,
+          λ u. let y = x .1 u in
+              (⊎-elim (λ w. absurd (y .1 w)) (λ w. rw e w) (up-or-here b (y .0)), z),
+        ))
         (h .1 a q)),
   )
 
@@ -79,6 +82,6 @@ module _ (b : List ℕ) (t : ℕ) where
       ⊎-elim
       (λ x. x .0 ∙ ap num (sym (T-true (underB (planOf b) a t) (r-under (planOf b) w a t .from (x .1)))))
       (λ x. x .0 ∙ ap num (sym (not-passed (underB (planOf b) a t)
-          (λ y. let u = x .1 (r-under (planOf b) w a t .to (true-T (underB (planOf b) a t) y)) in
-          u .1 (omega (arith, under-le (planOf b) w (u .0)))))))
+      (λ y. let u = x .1 (r-under (planOf b) w a t .to (true-T (underB (planOf b) a t) y)) in
+      u .1 (omega (arith, under-le (planOf b) w (u .0)))))))
       (h .1 a q)

@@ -62,10 +62,10 @@ module _ (b s : List ℕ) (ok : stateRefusal b s ≡ 0) (t : ℕ) (marks : List 
       let w = found-at (orderCount b) (openAt b s marks) (T-true _ y) in
       let j = w .0 in
       let x = and-both (eqb (getD marks (laterOf b j) 0) 1) (not (completeB (planOf b) (statusIn b s) (earlierOf b j)))
-          (w .2) in
+      (w .2) in
       let n = order-nodes b accepted j (w .1) in
       let u = one-num (underB (planOf b) (laterOf b j) t)
-          (ap (λ (k : ℕ). eqb k 1) (sym (right (laterOf b j) (small (laterOf b j) (n .1)))) ∙ x .0) in
+      (ap (λ (k : ℕ). eqb k 1) (sym (right (laterOf b j) (small (laterOf b j) (n .1)))) ∙ x .0) in
       record {
         earlier = earlierOf b j;
         later = laterOf b j;
@@ -83,13 +83,13 @@ module _ (b s : List ℕ) (ok : stateRefusal b s ≡ 0) (t : ℕ) (marks : List 
       let j = w .at in
       let n = order-nodes b accepted j (w .below) in
       let u = T-true (underB (planOf b) (laterOf b j) t)
-          (r-under (planOf b) (well-formed b s ok) (laterOf b j) t .from (rw (w .later) (x .above))) in
+      (r-under (planOf b) (well-formed b s ok) (laterOf b j) t .from (rw (w .later) (x .above))) in
       true-T _
       (some-yes (orderCount b) (openAt b s marks) j (w .below)
       (and-of (eqb (getD marks (laterOf b j) 0) 1) (not (completeB (planOf b) (statusIn b s) (earlierOf b j)))
       (ap (λ (k : ℕ). eqb k 1) (right (laterOf b j) (small (laterOf b j) (n .1)) ∙ ap num u))
       (refuted (completeB (planOf b) (statusIn b s) (earlierOf b j))
-          (λ z. x .incomplete (rw (w .earlier) at (completes (earlierOf b j) (n .0) .to z))))))
+      (λ z. x .incomplete (rw (w .earlier) at (completes (earlierOf b j) (n .0) .to z))))))
 
   opens : Reflects (orderOpenB (planOf b) (statusIn b s) t) (OrderOpen (planOf b) (statusIn b s) t)
   unfolding appliesB

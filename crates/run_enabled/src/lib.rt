@@ -1,4 +1,5 @@
-// Refusals 19 and 20 of a start: another branch of an any-of group above the task is begun (01: taken); an order's earlier node is not complete.
+// Refusals 19 and 20 of a start: another branch of an any-of group above the task is begun (01: taken); an order's
+// earlier node is not complete.
 use base::kinds::ANY_OF;
 use base::no_nodes;
 use base::wide;
@@ -26,7 +27,8 @@ ghost use Rattle.run_enabled.specs.Enabling.{rivalAt, openAt};
 
 // The parent g of node n is an any-of group, and another branch of it than n is begun.
 fn rival_begun(plan: &[u8], state: &[u8], begun: &[u8; 128], g: usize, n: usize) -> bool
-    requires { ⌜ (0 < n) × ((n < nodeCount (now plan)) × ((g ≡ parentOf (now plan) n) × (stateRefusal (now plan) (now state) ≡ 0))) ⌝ }
+    requires { ⌜ (0 < n) × ((n < nodeCount (now plan))
+        × ((g ≡ parentOf (now plan) n) × (stateRefusal (now plan) (now state) ≡ 0))) ⌝ }
     requires { ⌜ Counted Begun (now plan) (now state) (now begun) ⌝ }
     ensures { λ r. ⌜ r ≡ rivalAt (now (plan .entry)) (now (state .entry)) g n ⌝ }
 {
@@ -42,7 +44,8 @@ fn rival_begun(plan: &[u8], state: &[u8], begun: &[u8; 128], g: usize, n: usize)
 pub fn branch_begun(plan: &[u8], state: &[u8], begun: &[u8; 128], task: usize) -> bool
     requires { ⌜ (task < nodeCount (now plan)) × (stateRefusal (now plan) (now state) ≡ 0) ⌝ }
     requires { ⌜ Counted Begun (now plan) (now state) (now begun) ⌝ }
-    ensures { λ r. ⌜ r ≡ branchBegunB (planOf (now (plan .entry))) (statusIn (now (plan .entry)) (now (state .entry))) task ⌝ }
+    ensures { λ r. ⌜ r ≡ branchBegunB (planOf (now (plan .entry)))
+        (statusIn (now (plan .entry)) (now (state .entry))) task ⌝ }
 {
     let mut n = task;
     while 0 < n {
@@ -58,7 +61,8 @@ pub fn branch_begun(plan: &[u8], state: &[u8], begun: &[u8; 128], task: usize) -
 // A mark at each node above the task.
 pub fn path(plan: &[u8], task: usize) -> [u8; 128]
     requires { ⌜ (task < nodeCount (now plan)) × (refusal (now plan) ≡ 0) ⌝ }
-    ensures { λ r. ⌜ (length r ≡ 128) × ((a : ℕ) → a < 128 → getD r a 0 ≡ num (underB (planOf (now (plan .entry))) a task)) ⌝ }
+    ensures { λ r. ⌜ (length r ≡ 128) × ((a : ℕ) → a < 128
+        → getD r a 0 ≡ num (underB (planOf (now (plan .entry))) a task)) ⌝ }
 {
     let mut marks = no_nodes();
     let mut n = task;
@@ -85,7 +89,8 @@ fn open_at(plan: &[u8], state: &[u8], ends: &[u8; 128], marks: &[u8; 128], j: us
 pub fn order_open(plan: &[u8], state: &[u8], ends: &[u8; 128], marks: &[u8; 128]) -> bool
     requires { ⌜ stateRefusal (now plan) (now state) ≡ 0 ⌝ }
     requires { ⌜ Counted Ends (now plan) (now state) (now ends) ⌝ }
-    ensures { λ r. ⌜ r ≡ someBelow (orderCount (now (plan .entry))) (openAt (now (plan .entry)) (now (state .entry)) (now (marks .entry))) ⌝ }
+    ensures { λ r. ⌜ r ≡ someBelow (orderCount (now (plan .entry)))
+        (openAt (now (plan .entry)) (now (state .entry)) (now (marks .entry))) ⌝ }
 {
     let n = orders(plan);
     let mut j = 0;

@@ -34,5 +34,7 @@ module _ (b s : List ℕ) where
 
     pub told-unfinished : completeB (planOf b) (statusIn b s) 0 ≡ false → Told b s Unfinished
     unfolding statusAnswer
-    told-unfinished y = record { returns = rw (ok, y);
-        complete = (λ q. clash cc, λ x. absurd (true≢false (sym (T-true _ (root .from (x .1))) ∙ y))) }
+    told-unfinished y = record {
+      returns = rw (ok, y);
+      complete = (λ q. clash cc, λ x. absurd (true≢false (sym (T-true _ (root .from (x .1))) ∙ y)));
+    }

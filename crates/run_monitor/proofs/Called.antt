@@ -25,8 +25,11 @@ called b s e q h = record {
   returns = q;
   leaves = h;
   answered = λ ok.
-      rw (q ∙ sym (first-none (stateRefusal b s) (eventRefusal b s e) ok), ap (worldOf b) h
-          ∙ event-steps b s ok e .shows)
+      rw (
+        q ∙ sym (first-none (stateRefusal b s) (eventRefusal b s e) ok),
+        ap (worldOf b) h
+            ∙ event-steps b s ok e .shows,
+      )
       (answered (planOf b) (well-formed b s ok) (worldOf b s) (one e));
 }
 
@@ -44,9 +47,9 @@ status-of Finish t = refl
 
 pub called-0 : (b s : List ℕ) (m : Move) (t : ℕ) → stateRefusal b s ≡ 0 → eventRefusal b s (eventOf m t) ≡ 0
     → (q : ℕ) → q ≡ placeNumber (eventPlace (eventOf m 0)) → (x : ℕ) → x ≡ statusByte (statusOf (eventOf m 0))
-        → (s′ : List ℕ) → s′ ≡ withEvent b q t x s → Called b s (eventOf m t) 0 s′
+    → (s′ : List ℕ) → s′ ≡ withEvent b q t x s → Called b s (eventOf m t) 0 s′
 called-0 b s m t ok z q eq x ex s′ h =
     let w = accepted b s (eventOf m t) ok z in
     let y : withEvent b q t x s ≡ afterEvent b s (eventOf m t) =
-        rw (eq, ex, place-is m t, status-of m t, node-of m t) in
+    rw (eq, ex, place-is m t, status-of m t, node-of m t) in
     called b s (eventOf m t) (w .0) (h ∙ y ∙ w .1)

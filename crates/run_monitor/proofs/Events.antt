@@ -115,9 +115,9 @@ module _ (b s : List ℕ) (ok : stateRefusal b s ≡ 0) (k : Place) (t x : ℕ) 
             (λ f l. not-passed (leb (flagCount b) f && flagIn next f) (λ y.
             let a = and-both (leb (flagCount b) f) (flagIn next f) y in
             let z : flagIn next f ≡ flagIn s f = flag-next f l
-                ∙ ap (λ (o : Option Bool). Option·getD o (flagIn s f)) (no-sign f (leb-true (flagCount b) f (a .0))) in
+            ∙ ap (λ (o : Option Bool). Option·getD o (flagIn s f)) (no-sign f (leb-true (flagCount b) f (a .0))) in
             true≢false (sym (and-of (leb (flagCount b) f) (flagIn s f) (a .0) (sym z ∙ a .1))
-                ∙ none-at 64 (badFlag b s) (m .0) f l))),
+            ∙ none-at 64 (badFlag b s) (m .0) f l))),
         none-all (nodeCount b) (badByte b next) (λ n l.
             by-cases (ℕ-discrete n t)
             (λ (e : n ≡ t). rw (e, task, byte-own) (le-ltb 2 x small))
@@ -156,29 +156,34 @@ module _ (b s : List ℕ) (ok : stateRefusal b s ≡ 0) (e : Event) where
   unfolding returned step worldOf
   same z y =
       let fs : statusIn b (afterEvent b s e) ≡ moved (statusIn b s) e =
-          fun-ext (λ n. status-next b s ok (eventPlace e) (nodeOf e) (statusByte (statusOf e)) y n
-          ∙ ap (λ (a : Status). cond (eqb n (nodeOf e)) a (statusIn b s n)) (status-byte (statusOf e) .0)) in
+      fun-ext (λ n. status-next b s ok (eventPlace e) (nodeOf e) (statusByte (statusOf e)) y n
+      ∙ ap (λ (a : Status). cond (eqb n (nodeOf e)) a (statusIn b s n)) (status-byte (statusOf e) .0)) in
       let ff : flagShown (afterEvent b s e) ≡ (λ f. Option·getD (asserts (planOf b) e f) (flagShown s f)) =
-          fun-ext (λ f. shown-next b s ok (eventPlace e) (nodeOf e) (statusByte (statusOf e)) y f
-          ∙ ap (λ (o : Option Bool). Option·getD o (flagShown s f)) (sym (event-does b s ok e f))) in
+      fun-ext (λ f. shown-next b s ok (eventPlace e) (nodeOf e) (statusByte (statusOf e)) y f
+      ∙ ap (λ (o : Option Bool). Option·getD o (flagShown s f)) (sym (event-does b s ok e f))) in
       let n : refusalOf (planOf b) (worldOf b s) (one e) ≡ none =
-          code-none (refusalOf (planOf b) (worldOf b s) (one e)) z in
+      code-none (refusalOf (planOf b) (worldOf b s) (one e)) z in
       rw n (cc (fs, ff))
 
   moves : eventRefusal b s e ≡ 0 → Stepped b s e
   moves z =
       let y = answer-task b s ok (nodeOf e) e refl z in
       let q = sym (accepted b s e ok z .1) in
-      record { well-formed = ap (stateRefusal b) q
-          ∙ still-well b s ok (eventPlace e) (nodeOf e) (statusByte (statusOf e)) y (status-byte (statusOf e) .1);
-          shows = ap (worldOf b) q ∙ same z y }
+      record {
+        well-formed = ap (stateRefusal b) q
+            ∙ still-well b s ok (eventPlace e) (nodeOf e) (statusByte (statusOf e)) y (status-byte (statusOf e) .1);
+        shows = ap (worldOf b) q ∙ same z y;
+      }
 
   refused : (eventRefusal b s e ≡ 0 → ⊥) → Stepped b s e
   unfolding step returned
   refused n =
       let q = refused-22 b s e ok n .1 in
-      record { well-formed = ap (stateRefusal b) (sym q) ∙ ok; shows = ap (worldOf b) (sym q)
-          ∙ sym (settled (refusalOf (planOf b) (worldOf b s) (one e)) (worldOf b s) _ n) }
+      record {
+        well-formed = ap (stateRefusal b) (sym q) ∙ ok;
+        shows = ap (worldOf b) (sym q)
+            ∙ sym (settled (refusalOf (planOf b) (worldOf b s) (one e)) (worldOf b s) _ n);
+      }
 
   pub event-steps : Stepped b s e
   event-steps = by-cases (ℕ-discrete (eventRefusal b s e) 0) (λ z. moves z) (λ n. refused n)

@@ -34,5 +34,6 @@ eventState b s e = cond (eqb (eventReturn b s e) 0) (afterEvent b s e) s
 pub record Called (b s : List ℕ) (e : Event) (r : ℕ) (s′ : List ℕ) : Type 0 where
   pub returns : r ≡ eventReturn b s e
   pub leaves : s′ ≡ eventState b s e
-  -- on a state that passes 1 to 16, in 01's words: no refusal applies, 0, and the event happens; or the first that applies, and nothing does
+  -- on a state that passes 1 to 16, in 01's words: no refusal applies, 0, and the event happens; or the first that
+  -- applies, and nothing does
   pub answered : stateRefusal b s ≡ 0 → Answered (planOf b) (worldOf b s) (one e) r (worldOf b s′)

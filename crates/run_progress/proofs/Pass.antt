@@ -59,7 +59,7 @@ module _ (k : Tally) (b s : List ℕ) (ok : stateRefusal b s ≡ 0) where
   unfolding part childrenCounted
   from-back m g l h =
       sym (count-rest (nodeCount b) m (λ i. countedChild k b s g (nodeCount b - 1 - i)) l
-          (λ i a z. not-counted g (nodeCount b - 1 - i) (omega arith)))
+      (λ i a z. not-counted g (nodeCount b - 1 - i) (omega arith)))
       ∙ count-back (nodeCount b) (countedChild k b s g)
 
   -- all children of the node of turn m have been counted
@@ -98,8 +98,8 @@ module _ (k : Tally) (b s : List ℕ) (ok : stateRefusal b s ≡ 0) where
             ap (λ (v : List ℕ). getD v h 0) e
             ∙ by-cases (ℕ-discrete h g)
             (λ (z : h ≡ g). let o = ap num (and-of (isChild b g c) (countedAt k b s g c) child y) in
-                rw z (getD-set-same t g (getD t g 0 + 1) 0 (omega (arith, held .0, parent-small))
-                ∙ omega (arith, held .1 g parent-small, more g, o)))
+            rw z (getD-set-same t g (getD t g 0 + 1) 0 (omega (arith, held .0, parent-small))
+            ∙ omega (arith, held .1 g parent-small, more g, o)))
             (λ z. getD-set-other t g h (getD t g 0 + 1) 0 z ∙ held .1 h q ∙ sym (kept h z)),
       )
 
@@ -111,8 +111,8 @@ module _ (k : Tally) (b s : List ℕ) (ok : stateRefusal b s ≡ 0) where
             ap (λ (v : List ℕ). getD v h 0) e
             ∙ by-cases (ℕ-discrete h g)
             (λ (z : h ≡ g). let o = ap num (not-passed (isChild b g c && countedAt k b s g c)
-                (λ x. true≢false (sym (and-both (isChild b g c) (countedAt k b s g c) x .1) ∙ y))) in
-                rw z (omega (arith, held .1 g parent-small, more g, o)))
+            (λ x. true≢false (sym (and-both (isChild b g c) (countedAt k b s g c) x .1) ∙ y))) in
+            rw z (omega (arith, held .1 g parent-small, more g, o)))
             (λ z. held .1 h q ∙ sym (kept h z)),
       )
 

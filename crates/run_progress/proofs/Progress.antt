@@ -59,8 +59,12 @@ module _ (b s : List ℕ) (ok : stateRefusal b s ≡ 0) (n : ℕ) (l : n < nodeC
       → ⊥
   unfolding childrenCounted countedChild
   child-counted k c h e z =
-      omega (arith, z, some-counted (nodeCount b) (λ c. isChild b n c && countedAt k b s n c) c (node-is b c (h .node))
-          (and-of (isChild b n c) (countedAt k b s n c) (child-test b n c h) e))
+      omega (
+        arith,
+        z,
+        some-counted (nodeCount b) (λ c. isChild b n c && countedAt k b s n c) c (node-is b c (h .node))
+            (and-of (isChild b n c) (countedAt k b s n c) (child-test b n c h) e),
+      )
 
   completes : (c : ℕ) → Child (planOf b) n c
       → Reflects (completeB (planOf b) (statusIn b s) c) (Complete (planOf b) (statusIn b s) c)
@@ -86,7 +90,7 @@ module _ (b s : List ℕ) (ok : stateRefusal b s ≡ 0) (n : ℕ) (l : n < nodeC
       let kn = plan-kind b n ∙ kind-task (kindOf b n) k in
       let d = byte-done b s ok n l k in
       by-complete _ (r-map (λ e. task-done kn (d .0 e), λ x. d .1 (complete-task (planOf b) kn x))
-          (r-eq (nodeByte s n) 2))
+      (r-eq (nodeByte s n) 2))
 
   pub all-complete : kindOf b n ≡ 1 → eqb (childrenCounted Ends b s n) 0 ≡ completeB (planOf b) (statusIn b s) n
   unfolding countedAt sameB
@@ -137,8 +141,12 @@ module _ (b s : List ℕ) (ok : stateRefusal b s ≡ 0) (n : ℕ) (l : n < nodeC
         λ z.
             let w = counted-child tallies.Begun z in
             let x = begins (w .0) (w .1) .to (true-T _ (w .2)) in
-            record { who = x .who; is-task = x .is-task;
-                beneath = under-trans (planOf b) (child-under (planOf b) (w .1)) (x .beneath); begun = x .begun },
+            record {
+              who = x .who;
+              is-task = x .is-task;
+              beneath = under-trans (planOf b) (child-under (planOf b) (w .1)) (x .beneath);
+              begun = x .begun;
+            },
         λ x. through x (branch (planOf b) (x .beneath)),
       ) (nonzero (childrenCounted tallies.Begun b s n)))
     where

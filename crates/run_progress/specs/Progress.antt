@@ -1,4 +1,5 @@
--- What the pass over the nodes counts: children that are begun; complete children of an any-of group, incomplete ones of another.
+-- What the pass over the nodes counts: children that are begun; complete children of an any-of group, incomplete ones
+-- of another.
 use Prim.Native.Nat.{ℕ, _<_}
 use mathlib.Core.Path.{_≡_}
 use mathlib.Core.Bool.{Bool, _&&_}

@@ -1,4 +1,5 @@
-// Which nodes are complete and which are begun (01: taken): one pass over the nodes from the last to the first, which counts children.
+// Which nodes are complete and which are begun (01: taken): one pass over the nodes from the last to the first, which
+// counts children.
 use base::kinds::ALL_OF;
 use base::kinds::ANY_OF;
 use base::kinds::TASK;
@@ -18,15 +19,19 @@ ghost use Rattle.runs.specs.Model.Monitor.{completeB, begunB};
 ghost use Rattle.run_state.specs.State.{stateRefusal, statusIn};
 ghost use Rattle.run_progress.specs.Progress.{countedAt, childrenCounted, Counted};
 
-// Which children of a group are counted: those that are begun; or, for an any-of group the complete ones, for another those that are not.
+// Which children of a group are counted: those that are begun; or, for an any-of group the complete ones, for another
+// those that are not.
 pub enum Tally {
     Begun,
     Ends,
 }
 
 pub fn is_complete(plan: &[u8], state: &[u8], ends: &[u8; 128], n: usize) -> bool
-    requires { ⌜ (n < nodeCount (now plan)) × ((stateRefusal (now plan) (now state) ≡ 0) × (getD (now ends) n 0 ≡ childrenCounted Tally.Ends (now plan) (now state) n)) ⌝ }
-    ensures { λ r. ⌜ r ≡ completeB (planOf (now (plan .entry))) (statusIn (now (plan .entry)) (now (state .entry))) n ⌝ }
+    requires { ⌜ (n < nodeCount (now plan))
+        × ((stateRefusal (now plan) (now state) ≡ 0)
+        × (getD (now ends) n 0 ≡ childrenCounted Tally.Ends (now plan) (now state) n)) ⌝ }
+    ensures { λ r. ⌜ r ≡ completeB (planOf (now (plan .entry)))
+        (statusIn (now (plan .entry)) (now (state .entry))) n ⌝ }
 {
     if is_kind(plan, n, TASK) {
         return state[8 + n] == DONE;
@@ -38,7 +43,9 @@ pub fn is_complete(plan: &[u8], state: &[u8], ends: &[u8; 128], n: usize) -> boo
 }
 
 pub fn is_begun(plan: &[u8], state: &[u8], begun: &[u8; 128], n: usize) -> bool
-    requires { ⌜ (n < nodeCount (now plan)) × ((stateRefusal (now plan) (now state) ≡ 0) × (getD (now begun) n 0 ≡ childrenCounted Tally.Begun (now plan) (now state) n)) ⌝ }
+    requires { ⌜ (n < nodeCount (now plan))
+        × ((stateRefusal (now plan) (now state) ≡ 0)
+        × (getD (now begun) n 0 ≡ childrenCounted Tally.Begun (now plan) (now state) n)) ⌝ }
     ensures { λ r. ⌜ r ≡ begunB (planOf (now (plan .entry))) (statusIn (now (plan .entry)) (now (state .entry))) n ⌝ }
 {
     if is_kind(plan, n, TASK) {
@@ -56,7 +63,9 @@ fn is_counted(
     g: usize,
     n: usize,
 ) -> bool
-    requires { ⌜ (n < nodeCount (now plan)) × ((stateRefusal (now plan) (now state) ≡ 0) × (getD (now table) n 0 ≡ childrenCounted tally (now plan) (now state) n)) ⌝ }
+    requires { ⌜ (n < nodeCount (now plan))
+        × ((stateRefusal (now plan) (now state) ≡ 0)
+        × (getD (now table) n 0 ≡ childrenCounted tally (now plan) (now state) n)) ⌝ }
     ensures { λ r. ⌜ r ≡ countedAt tally (now (plan .entry)) (now (state .entry)) g n ⌝ }
 {
     match tally {

@@ -59,8 +59,8 @@ none-kind (suc (suc (suc k))) l e = absurd (omega arith)
 
 start-chain : (a b c d e f : Bool) →
     code (orElse a no-task (λ u. orElse b wrong-status
-        (λ u. orElse c branch-begun (λ u. orElse d order-open
-        (λ u. orElse e pre-unmet (λ u. orElse f inc-broken (λ u. none)))))))
+    (λ u. orElse c branch-begun (λ u. orElse d order-open
+    (λ u. orElse e pre-unmet (λ u. orElse f inc-broken (λ u. none)))))))
     ≡ cond a 17 (cond b 18 (first (first (cond c 19 (cond d 20 0)) (cond e 21 0)) (cond f 22 0)))
 start-chain true b c d e f = refl
 start-chain false true c d e f = refl
@@ -101,7 +101,7 @@ module _ (b s : List ℕ) (ok : stateRefusal b s ≡ 0) where
 
   chain-of : (e : Event) → eventRefusal b s e
       ≡ cond (not (taskB (planOf b) (nodeOf e))) 17
-          (cond (not (statusB (statusIn b s (nodeOf e)) (asks e))) 18 (first (beginRefusal b s e) (broken e)))
+      (cond (not (statusB (statusIn b s (nodeOf e)) (asks e))) 18 (first (beginRefusal b s e) (broken e)))
   unfolding returned refusalOf firstOf appliesB worldOf negate treeRefusal beginRefusal
   chain-of (start t) = start-chain (not (taskB (planOf b) t)) (not (statusB (statusIn b s t) waiting))
       (branchBegunB (planOf b) (statusIn b s) t) (orderOpenB (planOf b) (statusIn b s) t)
@@ -161,13 +161,13 @@ module _ (b s : List ℕ) (ok : stateRefusal b s ≡ 0) where
   -- the test of 22, by what the function has at hand
   pub broken-by : (t : ℕ) (e : Event) → nodeOf e ≡ t → (q : ℕ) → q ≡ placeNumber (eventPlace e) → (r : Bool)
       → r ≡ someBelow (condCount b) (brokenAt b s (made b q t (replicate 8 (allByte false)))
-          (made b q t (replicate 8 (allByte true))) t) → r ≡ incBrokenB (planOf b) (statusIn b s) e
+      (made b q t (replicate 8 (allByte true))) t) → r ≡ incBrokenB (planOf b) (statusIn b s) e
   broken-by t e of q k r h =
       let g : (f : ℕ) → asserts (planOf b) e f ≡ signIn b (eventPlace e) t f = λ f. event-does e f
-          ∙ ap (λ (n : ℕ). signIn b (eventPlace e) n f) of in
+      ∙ ap (λ (n : ℕ). signIn b (eventPlace e) n f) of in
       h ∙ ap (λ (q : ℕ). someBelow (condCount b)
-          (brokenAt b s (made b q t (replicate 8 (allByte false))) (made b q t (replicate 8 (allByte true))) t)) k
-          ∙ broken-is b s ok t (eventPlace e) e of g
+      (brokenAt b s (made b q t (replicate 8 (allByte false))) (made b q t (replicate 8 (allByte true))) t)) k
+      ∙ broken-is b s ok t (eventPlace e) e of g
 
 -- ---- the parts
 module _ (b s : List ℕ) (t : ℕ) where

@@ -1,4 +1,5 @@
--- The events that moves are, and the refusals 17 to 22 of an event, in terms of the states that 01 works out (`returned` of runs).
+-- The events that moves are, and the refusals 17 to 22 of an event, in terms of the states that 01 works out
+-- (`returned` of runs).
 use Prim.Native.Nat.{ℕ}
 use mathlib.Core.List.{List}
 use Rattle.plan_check.specs.Meaning.{planOf}

@@ -69,10 +69,10 @@ module _ (b s : List ℕ) (r : Roomy b s) where
   shows-flag f =
       by-cases (decLt f (flagCount b))
       (λ (l : f < flagCount b). let m : f < 64 = omega (arith, r .plan .fits .limits .flags) in
-          rw (lt-ltb f (flagCount b) l, lt-ltb f 64 m) (fresh-flag f m))
+      rw (lt-ltb f (flagCount b) l, lt-ltb f 64 m) (fresh-flag f m))
       (λ l. rw (le-ltb f (flagCount b) (omega arith))
-          (by-cases (decLt f 64) (λ (m : f < 64). rw (lt-ltb f 64 m, fresh-flag f m) (start-past f (omega arith) m))
-          (λ m. rw (le-ltb f 64 (omega arith)))))
+      (by-cases (decLt f 64) (λ (m : f < 64). rw (lt-ltb f 64 m, fresh-flag f m) (start-past f (omega arith) m))
+      (λ m. rw (le-ltb f 64 (omega arith)))))
 
   shows : worldOf b written ≡ calls.fresh (startOf b)
   unfolding worldOf

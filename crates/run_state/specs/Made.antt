@@ -19,7 +19,8 @@ setAt b i = eqb (signOf (condValue b i)) 1
 unfoldable pub literals : List ℕ → ℕ → ℕ → ℕ → List ℕ → List ℕ
 literals b q t zero bytes = bytes
 literals b q t (suc k) bytes =
-    cond (isOf b q t k) (withFlag (literals b q t k bytes) (flagOf (condValue b k)) (setAt b k)) (literals b q t k bytes)
+    cond (isOf b q t k) (withFlag (literals b q t k bytes) (flagOf (condValue b k)) (setAt b k))
+    (literals b q t k bytes)
 
 -- and among all
 unfoldable pub made : List ℕ → ℕ → ℕ → List ℕ → List ℕ

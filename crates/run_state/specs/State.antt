@@ -1,4 +1,5 @@
--- A state (01: record): eight bytes of flags, then a byte for each node of its plan. When it is refused, and what it shows.
+-- A state (01: record): eight bytes of flags, then a byte for each node of its plan. When it is refused, and what it
+-- shows.
 use Prim.Native.Nat.{ℕ, _+_}
 use mathlib.Core.Bool.{Bool, false, cond, not, _&&_, _||_}
 use mathlib.Core.List.{List}

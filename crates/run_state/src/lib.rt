@@ -44,7 +44,8 @@ fn byte_bad(plan: &[u8], state: &[u8], n: usize) -> bool
 
 fn bytes_bad(plan: &[u8], state: &[u8]) -> bool
     requires { ⌜ Whole (now plan) × (8 + nodeCount (now plan) ≤ length (now state)) ⌝ }
-    ensures { λ r. ⌜ r ≡ someBelow (nodeCount (now (plan .entry))) (badByte (now (plan .entry)) (now (state .entry))) ⌝ }
+    ensures { λ r. ⌜ r ≡ someBelow (nodeCount (now (plan .entry)))
+        (badByte (now (plan .entry)) (now (state .entry))) ⌝ }
 {
     let n = nodes(plan);
     let mut i = 0;

@@ -20,9 +20,13 @@ use Rattle.run_trials.proofs.Tests.{showsB, leftB, holdsB, allHoldB, al
 
 -- every starred row of 01 holds
 pub starred-hold : AllHold starred
-unfolding computing nameAllowed flagOf signOf placeOf valueBad u16At nodeCount condCount orderCount flagCount wholeLength startFlag nameChar entryAt parentOf kindOf minutesOf
-    condNode condValue earlierOf laterOf isKind isGroup someBelow cause1 cause2 cause3 badStart cause4 badChar cause5 badEntry cause6 badParent cause7 childless cause8
-    badCondition cause9 notBelow notRising cause10 bothSigns cause11 postOf noPost cause12 isChild badPair badOrder cause13 cause14 refusal planOf startOf kindAt conditionIs
-    hasCondition signIn orderIs hasOrder flagByte shownByte two twos eight names nodes conditionNodes conditionValues earlierNodes laterNodes bytesOf
+unfolding computing nameAllowed flagOf signOf placeOf valueBad u16At nodeCount condCount orderCount flagCount
+    wholeLength startFlag nameChar entryAt parentOf kindOf minutesOf
+    condNode condValue earlierOf laterOf isKind isGroup someBelow cause1 cause2 cause3 badStart cause4 badChar cause5
+    badEntry cause6 badParent cause7 childless cause8
+    badCondition cause9 notBelow notRising cause10 bothSigns cause11 postOf noPost cause12 isChild badPair badOrder
+    cause13 cause14 refusal planOf startOf kindAt conditionIs
+    hasCondition signIn orderIs hasOrder flagByte shownByte two twos eight names nodes conditionNodes conditionValues
+    earlierNodes laterNodes bytesOf
     statusBytes stateBytes showsB leftB holdsB allHoldB
 starred-hold = all-hold starred tt

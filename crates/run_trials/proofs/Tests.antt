@@ -59,7 +59,7 @@ unfoldable pub holdsB : List ℕ → Trial → Bool
 holdsB b t = both (both (areBytes b) (λ u. eqb (refusal b) 0))
     (λ u. both (decide (Verdict-discrete (verdict (planOf b) (startOf b)) (t .verdict)))
     (λ u. both (showsB b (t .marks))
-        (λ u. both (sameList (returns (planOf b) (fresh (startOf b)) (t .calls)) (t .returned)) (λ u. leftB b t))))
+    (λ u. both (sameList (returns (planOf b) (fresh (startOf b)) (t .calls)) (t .returned)) (λ u. leftB b t))))
 
 shown-by : (b : List ℕ) (n f : ℕ) (v : Bool) (m : Mark) → f < flagCount b → Marked (planOf b) n f v m
     → ShownBy b n f v m
@@ -71,12 +71,13 @@ unfolding showsB
 shows-of b acc [] t = tt
 shows-of b acc (shown n f v m ∷ l) t =
     let r : Reflects (both (both (ltb n (nodeCount b)) (λ u. ltb f (flagCount b)))
-        (λ u. both (markedB (planOf b) n f v m) (λ u. showsB b l)))
-        (((n < nodeCount b) × (f < flagCount b)) × (T (markedB (planOf b) n f v m) × T (showsB b l)))
+    (λ u. both (markedB (planOf b) n f v m) (λ u. showsB b l)))
+    (((n < nodeCount b) × (f < flagCount b)) × (T (markedB (planOf b) n f v m) × T (showsB b l)))
     = r-both _ _ (r-both _ _ (r-lt _ _) (r-lt _ _)) (r-both _ _ (r-T _) (r-T _)) in
-    let ((k, j), (x, y)) = r .to t in
-    (shown-by b n f v m j (marks-exact (planOf b) (means-well-formed b acc) n f (is-node b n k) v m .to x),
-        shows-of b acc l y)
+    let ((k, j), (x, y)) = r .to t in (
+      shown-by b n f v m j (marks-exact (planOf b) (means-well-formed b acc) n f (is-node b n k) v m .to x),
+      shows-of b acc l y,
+    )
 
 module _ (b : List ℕ) (t : Trial) (x : T (holdsB b t)) where
   abbrev p-returns : List ℕ
@@ -98,9 +99,9 @@ module _ (b : List ℕ) (t : Trial) (x : T (holdsB b t)) where
   passed =
       let r : Reflects (holdsB b t) ((T (areBytes b) × (refusal b ≡ 0)) × ((verdict (planOf b) (startOf b) ≡ t .verdict)
       × (T (showsB b (t .marks)) × ((p-returns ≡ t .returned)
-          × ((k : ℕ) → k < 8 + nodeCount b → shownByte p-after k ≡ getD (t .left) k 0)))))
+      × ((k : ℕ) → k < 8 + nodeCount b → shownByte p-after k ≡ getD (t .left) k 0)))))
       = r-both _ _ (r-both _ _ (r-T _) (r-eq _ _))
-          (r-both _ _ (r-decide _) (r-both _ _ (r-T _) (r-both _ _ (r-list _ _) (r-all _ _ _ (λ k. r-eq _ _))))) in
+      (r-both _ _ (r-decide _) (r-both _ _ (r-T _) (r-both _ _ (r-list _ _) (r-all _ _ _ (λ k. r-eq _ _))))) in
       let ((a, c), (d, (e, (f, g)))) = r .to x in
       record { small = a; accepted = c; judged = d; shows = e; returned = f; left = g }
 
@@ -114,9 +115,11 @@ module _ (b : List ℕ) (t : Trial) (x : T (holdsB b t)) where
         shows = shows-of b (w .accepted) (t .marks) (w .shows);
         called = λ s rs z l.
             let g = list-follows b (bytes-of b (T-true (areBytes b) (w .small))) s (t .calls) rs z l in
-            let (e, q) = worked-only (planOf b) (means-well-formed b (w .accepted)) (g .worked) in
-            (e ∙ w .returned, g .shown .bytes ∙ ap (λ (a : World). overlay (shownByte a) (8 + nodeCount b) s) q
-                ∙ overlay-same (shownByte p-after) (λ k. getD (t .left) k 0) (8 + nodeCount b) s (w .left));
+            let (e, q) = worked-only (planOf b) (means-well-formed b (w .accepted)) (g .worked) in (
+              e ∙ w .returned,
+              g .shown .bytes ∙ ap (λ (a : World). overlay (shownByte a) (8 + nodeCount b) s) q
+                  ∙ overlay-same (shownByte p-after) (λ k. getD (t .left) k 0) (8 + nodeCount b) s (w .left),
+            );
       }
 
 unfoldable pub allHoldB : List Trial → Bool
@@ -129,6 +132,6 @@ unfolding allHoldB
 all-hold [] x = tt
 all-hold (t ∷ l) x =
     let r : Reflects (both (holdsB (bytesOf (t .plan)) t) (λ u. allHoldB l))
-        (T (holdsB (bytesOf (t .plan)) t) × T (allHoldB l)) = r-both _ _ (r-T _) (r-T _) in
+    (T (holdsB (bytesOf (t .plan)) t) × T (allHoldB l)) = r-both _ _ (r-T _) (r-T _) in
     let (a, c) = r .to x in
     (holds-of (bytesOf (t .plan)) t a, all-hold l c)

@@ -136,12 +136,14 @@ twins os = under-root (a-task (needs 0 off ∷ leaves 0 on ∷ []) ∷ z-task (n
 
 -- A leaves flag 0 set, C leaves it clear, Z needs it clear
 abbrev three : List Order → Written
-three os = under-root (a-task (leaves 0 on ∷ []) ∷ work 0 (short C) 3 (leaves 0 off ∷ []) ∷ z-task (needs 0 off ∷ []) ∷ []) os
+three os = under-root (a-task (leaves 0 on ∷ []) ∷ work 0 (short C) 3 (leaves 0 off ∷ []) ∷ z-task
+    (needs 0 off ∷ []) ∷ []) os
 
 -- A before a choice before Z, C one of its two branches, the other without conditions
 abbrev picked : Written
 picked = under-root
-    (a-task (leaves 0 on ∷ []) ∷ choice (name P I C K) ∷ work 2 (short C) 3 (leaves 0 off ∷ []) ∷ work 2 (name N O N E) 7 [] ∷ z-task (needs 0 off ∷ []) ∷ [])
+    (a-task (leaves 0 on ∷ []) ∷ choice (name P I C K) ∷ work 2 (short C) 3 (leaves 0 off ∷ []) ∷ work 2
+    (name N O N E) 7 [] ∷ z-task (needs 0 off ∷ []) ∷ [])
     (then 1 2 ∷ then 2 5 ∷ [])
 
 -- ---- rows: plan, verdict, marks, calls, what they return, the state after them
@@ -154,20 +156,26 @@ waits n = replicate n waiting
 
 abbrev pub starred : List Trial
 starred =
-    trial (B none-set in-order) CLEAR [] (begin coms ∷ begin 5 ∷ end 77 ∷ begin 256 ∷ []) (number no-task ∷ number no-task ∷ number no-task ∷ number no-task ∷ [])
+    trial (B none-set in-order) CLEAR [] (begin coms ∷ begin 5 ∷ end 77 ∷ begin 256 ∷ [])
+    (number no-task ∷ number no-task ∷ number no-task ∷ number no-task ∷ [])
     (stateBytes none-set (waits 5))
     ∷ trial (B none-set in-order) CLEAR [] (begin radi ∷ []) (number order-open ∷ []) (stateBytes none-set (waits 5))
     ∷ trial (B none-set in-order) CLEAR [] (begin cast ∷ begin cast ∷ []) (ok ∷ number wrong-status ∷ []) (stateBytes (only 0) (waiting ∷ running ∷ waits 3))
-    ∷ trial (B none-set in-order) CLEAR [] (begin cast ∷ end cast ∷ begin satl ∷ begin radi ∷ []) (ok ∷ ok ∷ ok ∷ number branch-begun ∷ [])
+    ∷ trial (B none-set in-order) CLEAR [] (begin cast ∷ end cast ∷ begin satl ∷ begin radi ∷ [])
+    (ok ∷ ok ∷ ok ∷ number branch-begun ∷ [])
     (stateBytes (only 1) (waiting ∷ done ∷ waiting ∷ waiting ∷ running ∷ []))
-    ∷ trial (B none-set in-order) CLEAR [] (begin cast ∷ end cast ∷ begin satl ∷ begin radi ∷ end radi ∷ end satl ∷ begin radi ∷ [])
-    (ok ∷ ok ∷ ok ∷ number branch-begun ∷ number wrong-status ∷ ok ∷ number branch-begun ∷ []) (stateBytes none-set (waiting ∷ done ∷ waiting ∷ waiting ∷ done ∷ []))
+    ∷ trial (B none-set in-order) CLEAR []
+    (begin cast ∷ end cast ∷ begin satl ∷ begin radi ∷ end radi ∷ end satl ∷ begin radi ∷ [])
+    (ok ∷ ok ∷ ok ∷ number branch-begun ∷ number wrong-status ∷ ok ∷ number branch-begun ∷ [])
+    (stateBytes none-set (waiting ∷ done ∷ waiting ∷ waiting ∷ done ∷ []))
     ∷ trial (B none-set []) OPEN [] (begin cast ∷ begin radi ∷ []) (ok ∷ number pre-unmet ∷ []) (stateBytes (only 0) (waiting ∷ running ∷ waits 3))
     ∷ trial (B (only 0) in-order) DOOMED [] (begin cast ∷ []) (number pre-unmet ∷ []) (stateBytes (only 0) (waits 5))
     ∷ trial holder OPEN [] (begin 1 ∷ begin 2 ∷ end 2 ∷ []) (ok ∷ ok ∷ number inc-broken ∷ []) (stateBytes (only 0) (waiting ∷ running ∷ running ∷ []))
-    ∷ trial holder OPEN [] (begin 1 ∷ begin 2 ∷ end 2 ∷ end 1 ∷ end 2 ∷ []) (ok ∷ ok ∷ number inc-broken ∷ ok ∷ ok ∷ []) (stateBytes none-set (waiting ∷ done ∷ done ∷ []))
+    ∷ trial holder OPEN [] (begin 1 ∷ begin 2 ∷ end 2 ∷ end 1 ∷ end 2 ∷ []) (ok ∷ ok ∷ number inc-broken ∷ ok ∷ ok ∷ [])
+    (stateBytes none-set (waiting ∷ done ∷ done ∷ []))
     ∷ trial (twins []) OPEN (shown 0 0 off must-pre ∷ []) [] [] (stateBytes none-set (waits 3))
-    ∷ trial (twins (then 1 2 ∷ [])) DOOMED [] (begin 1 ∷ end 1 ∷ begin 2 ∷ []) (ok ∷ ok ∷ number pre-unmet ∷ []) (stateBytes (only 0) (waiting ∷ done ∷ waiting ∷ []))
+    ∷ trial (twins (then 1 2 ∷ [])) DOOMED [] (begin 1 ∷ end 1 ∷ begin 2 ∷ []) (ok ∷ ok ∷ number pre-unmet ∷ [])
+    (stateBytes (only 0) (waiting ∷ done ∷ waiting ∷ []))
     ∷ trial (three (then 1 2 ∷ then 2 3 ∷ [])) CLEAR [] [] [] (stateBytes none-set (waits 4))
     ∷ trial (three (then 2 3 ∷ [])) OPEN [] [] [] (stateBytes none-set (waits 4))
     ∷ trial picked OPEN [] (begin 1 ∷ end 1 ∷ begin 4 ∷ end 4 ∷ begin 5 ∷ []) (ok ∷ ok ∷ ok ∷ ok ∷ number pre-unmet ∷ [])

@@ -24,7 +24,8 @@ use Rattle.run_trials.specs.Written.{Written, bytesOf, eight}
 pub data Shown : Type 0 where
   shown : ℕ → ℕ → Bool → Mark → Shown
 
--- a plan, its verdict, marks that its summaries show; a list of calls, what they return, and the first bytes of the state after them
+-- a plan, its verdict, marks that its summaries show; a list of calls, what they return, and the first bytes of the
+-- state after them
 pub record Trial : Type 0 where
   pub plan : Written
   pub verdict : Verdict
@@ -50,13 +51,15 @@ abbrev pub AllShown : List ℕ → List Shown → Type 0
 AllShown b [] = Unit {0}
 AllShown b (shown n f v m ∷ l) = ShownBy b n f v m × AllShown b l
 
--- the plan's bytes b are accepted; whatever `assess` answers for them, it is the verdict; whatever fresh and the calls return and leave, on any bytes s with room, it is what
+-- the plan's bytes b are accepted; whatever `assess` answers for them, it is the verdict; whatever fresh and the calls
+-- return and leave, on any bytes s with room, it is what
 -- the trial says, the bytes after 8 + N as they were
 pub record HoldsOf (b : List ℕ) (t : Trial) : Type 0 where
   pub accepted : refusal b ≡ 0
   pub judged : (r : Answer) → Assessed b r → said r ≡ inr (t .verdict)
   pub shows : AllShown b (t .marks)
-  pub called : (s rs z : List ℕ) → Listed b s (t .calls) rs z → (rs ≡ t .returned) × (z ≡ overlay (λ k. getD (t .left) k 0) (8 + nodeCount b) s)
+  pub called : (s rs z : List ℕ) → Listed b s (t .calls) rs z
+      → (rs ≡ t .returned) × (z ≡ overlay (λ k. getD (t .left) k 0) (8 + nodeCount b) s)
 
 abbrev pub Holds : Trial → Type 0
 Holds t = HoldsOf (bytesOf (t .plan)) t

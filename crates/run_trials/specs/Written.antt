@@ -34,7 +34,8 @@ twos (n ∷ l) = two n ++ twos l
 
 -- eight bytes of flags
 unfoldable pub eight : (ℕ → Bool) → List ℕ
-eight F = flagByte F 0 ∷ flagByte F 1 ∷ flagByte F 2 ∷ flagByte F 3 ∷ flagByte F 4 ∷ flagByte F 5 ∷ flagByte F 6 ∷ flagByte F 7 ∷ []
+eight F = flagByte F 0 ∷ flagByte F 1 ∷ flagByte F 2 ∷ flagByte F 3 ∷ flagByte F 4 ∷ flagByte F 5 ∷ flagByte F 6 ∷
+    flagByte F 7 ∷ []
 
 unfoldable pub names : List Entry → List ℕ
 names [] = []

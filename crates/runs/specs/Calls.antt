@@ -1,4 +1,5 @@
--- The monitor's calls on a plan: refusals 17 to 22 and the states, as 01 words them, for any numbers and any states, reachable or not. Definitions only.
+-- The monitor's calls on a plan: refusals 17 to 22 and the states, as 01 words them, for any numbers and any states,
+-- reachable or not. Definitions only.
 use mathlib.Core.Path.{_≡_}
 use mathlib.Core.Logic.{_≢_, _⊎_}
 use mathlib.Core.Bool.{Bool, not}
@@ -7,7 +8,8 @@ use mathlib.Core.List.{List, [], _∷_}
 use Prim.Native.Nat.{ℕ}
 use lib.Dec.{T}
 use Rattle.runs.specs.Plan.{task, Picks, inc, Plan, Node, Child, Under}
-use Rattle.runs.specs.Execution.{Status, waiting, running, done, State, Event, start, finish, History, nodeOf, moved, Complete, Rival, preOf}
+use Rattle.runs.specs.Execution.{Status, waiting, running, done, State, Event, start, finish, History, nodeOf}
+use Rattle.runs.specs.Execution.{moved, Complete, Rival, preOf}
 use Rattle.runs.specs.Execution.{asserts}
 
 -- a call asks for an event of any number
@@ -115,7 +117,8 @@ abbrev pub None : (Refusal → Type 0) → List Refusal → Type 0
 None A [] = Unit {0}
 None A (q ∷ l) = (¬ A q) × None A l
 
--- One call from the states a: it returns 0 and its events happen, if no check applies; otherwise it returns the first that does and changes nothing.
+-- One call from the states a: it returns 0 and its events happen, if no check applies; otherwise it returns the first
+-- that does and changes nothing.
 pub data Answered (p : Plan) (a : World) (c : Call) : ℕ → World → Type 0 where
   accepted : None (Applies p a c) (checks c) → Answered p a c 0 (happenAll p a (events c))
   refused : (r : Refusal) → First (Applies p a c) r (checks c) → Answered p a c (number r) a
@@ -123,7 +126,8 @@ pub data Answered (p : Plan) (a : World) (c : Call) : ℕ → World → Type 0 w
 -- A list of calls, the first call first: its returns, and the states after it.
 pub data Worked (p : Plan) : World → List Call → List ℕ → World → Type 0 where
   no-calls : {a : World} → Worked p a [] [] a
-  next-call : {a b z : World} {c : Call} {cs : List Call} {n : ℕ} {ns : List ℕ} → Answered p a c n b → Worked p b cs ns z → Worked p a (c ∷ cs) (n ∷ ns) z
+  next-call : {a b z : World} {c : Call} {cs : List Call} {n : ℕ} {ns : List ℕ} → Answered p a c n b
+      → Worked p b cs ns z → Worked p a (c ∷ cs) (n ∷ ns) z
 
 -- the state's byte for a task (01: record)
 abbrev pub statusByte : Status → ℕ

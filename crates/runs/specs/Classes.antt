@@ -1,4 +1,5 @@
--- Classes of events, and runs by the classes of their events: what the rules by children are about. Nothing here has to be believed. Definitions only.
+-- Classes of events, and runs by the classes of their events: what the rules by children are about. Nothing here has to
+-- be believed. Definitions only.
 use mathlib.Core.Path.{_≡_}
 use mathlib.Core.Bool.{Bool}
 use mathlib.Core.Option.{none, some}

@@ -1,4 +1,5 @@
--- Demand 3 on the level of plans, as one claim over whole lists of calls, with any numbers and refused calls anywhere. Definitions only.
+-- Demand 3 on the level of plans, as one claim over whole lists of calls, with any numbers and refused calls anywhere.
+-- Definitions only.
 use mathlib.Core.Path.{_≡_}
 use mathlib.Core.Logic.{_≢_, _↔_}
 use mathlib.Core.Bool.{Bool}
@@ -26,10 +27,13 @@ module _ (p : Plan) (F : ℕ → Bool) where
 pub record Demand3 (p : Plan) (F : ℕ → Bool) : Type 0 where
   -- every list of calls has its returns and the states after it, and no others
   pub worked : (cs : List Call) → (ns : List ℕ) × (a : World) × Worked p (fresh F) cs ns a
-  pub unique : {cs : List Call} {ns ms : List ℕ} {a b : World} → Worked p (fresh F) cs ns a → Worked p (fresh F) cs ms b → (ns ≡ ms) × (a ≡ b)
+  pub unique : {cs : List Call} {ns ms : List ℕ} {a b : World} → Worked p (fresh F) cs ns a → Worked p (fresh F) cs ms b
+      → (ns ≡ ms) × (a ≡ b)
   -- what is no task waits, and a flag past the plan's keeps its start bit
-  pub others : {cs : List Call} {ns : List ℕ} {a : World} → Worked p (fresh F) cs ns a → (x : ℕ) → ¬ Task p x → a .status x ≡ waiting
-  pub beyond : {cs : List Call} {ns : List ℕ} {a : World} → Worked p (fresh F) cs ns a → (f : ℕ) → p .cond .flags ≤ f → a .flag f ≡ F f
+  pub others : {cs : List Call} {ns : List ℕ} {a : World} → Worked p (fresh F) cs ns a → (x : ℕ) → ¬ Task p x
+      → a .status x ≡ waiting
+  pub beyond : {cs : List Call} {ns : List ℕ} {a : World} → Worked p (fresh F) cs ns a → (f : ℕ) → p .cond .flags ≤ f
+      → a .flag f ≡ F f
   -- the plan has one verdict
   pub judged : (v : Verdict) × Judged p F v × ((u : Verdict) → Judged p F u → u ≡ v)
   -- CLEAR exactly if no call in any list returns 21 or 22

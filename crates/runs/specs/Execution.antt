@@ -1,4 +1,5 @@
--- Executions of a node: the events of its tasks, the states that they leave, what is enabled, and what they assert of the flags. Definitions only.
+-- Executions of a node: the events of its tasks, the states that they leave, what is enabled, and what they assert of
+-- the flags. Definitions only.
 -- A history has its newest event first: `e ∷ h` is the history h and then the event e.
 use mathlib.Core.Path.{_≡_}
 use mathlib.Core.Logic.{_≢_}
@@ -7,7 +8,8 @@ use mathlib.Core.Option.{Option, none, some}
 use mathlib.Core.List.{List, [], _∷_}
 use Prim.Native.Nat.{ℕ}
 use lib.Dec.{T, eqb}
-use Rattle.runs.specs.Plan.{task, all-of, Picks, pre, inc, post, Tree, Conditions, Plan, ChildOf, UnderOf, Child, Under}
+use Rattle.runs.specs.Plan.{task, all-of, Picks, pre, inc, post, Tree, Conditions, Plan, ChildOf, UnderOf, Child}
+use Rattle.runs.specs.Plan.{Under}
 
 pub data Status : Type 0 where
   waiting running done : Status
@@ -101,7 +103,8 @@ module _ (p : Plan) where
     pub execution : Execution n h
     pub complete : Complete (statusAfter h) n
 
--- the sign of an event's precondition on a flag, and of what it asserts there: a start makes its inconditions true, a finish its postconditions
+-- the sign of an event's precondition on a flag, and of what it asserts there: a start makes its inconditions true, a
+-- finish its postconditions
 -- (01's need, hold, leaving; to touch a flag is to assert something of it)
 abbrev pub preOf : Conditions → Event → ℕ → Option Bool
 preOf c (start t) f = c .sign pre t f

@@ -1,5 +1,6 @@
 -- And/or plans after Clement and Durfee (1999), and the claims of 01 about them.
--- What must be believed is in Plan, Execution, Summary, Verdict, Calls and Demand3, which hold definitions and nothing else.
+-- What must be believed is in Plan, Execution, Summary, Verdict, Calls and Demand3, which hold definitions and nothing
+-- else.
 pub mod Plan
 pub mod Execution
 pub mod Summary

@@ -1,4 +1,5 @@
--- Plans: a tree of tasks, all-of and any-of groups; conditions of the tasks; orders among the children of a group. Definitions only.
+-- Plans: a tree of tasks, all-of and any-of groups; conditions of the tasks; orders among the children of a group.
+-- Definitions only.
 use mathlib.Core.Path.{_≡_}
 use mathlib.Core.Logic.{_≢_}
 use mathlib.Core.Bool.{Bool, true, false}
@@ -48,7 +49,8 @@ pub record Conditions : Type 0 where
   -- place, task, flag: the sign of the task's condition there, if it has one
   pub sign : Place → ℕ → ℕ → Option Bool
 
--- The meaning of 01's book, but for names, minutes and start flags. Its three parts are apart: what rests on one of them is the same for all plans
+-- The meaning of 01's book, but for names, minutes and start flags. Its three parts are apart: what rests on one of
+-- them is the same for all plans
 -- that share it.
 pub record Plan : Type 0 where
   pub tree : Tree
@@ -88,7 +90,8 @@ module _ (p : Plan) where
     pub not-before : ¬ Before a b
     pub not-after : ¬ Before b a
 
-  -- What the theory asks of a plan; refusals 7, 8, 9, 12 and 13 leave it (`Accepted`, below). The rank stands for the node's number, so that orders
+  -- What the theory asks of a plan; refusals 7, 8, 9, 12 and 13 leave it (`Accepted`, below). The rank stands for the
+  -- node's number, so that orders
   -- may also run against the numbers.
   pub record WellFormed : Type 0 where
     pub root-node : Node 0
@@ -100,23 +103,29 @@ module _ (p : Plan) where
     pub some-branch : (g : ℕ) → Node g → p .tree .kind g ≡ any-of → (c : ℕ) × Child g c
     pub some-part : (g : ℕ) → 0 < g → Node g → p .tree .kind g ≡ all-of → (c : ℕ) × Child g c
     pub order-group : (a b : ℕ) → T (p .order a b) → (g : ℕ) × (p .tree .kind g ≡ all-of) × Child g a × Child g b
-    pub on-task : (k : Place) (t f : ℕ) (v : Bool) → p .cond .sign k t f ≡ some v → (t < p .tree .size) × (p .tree .kind t ≡ task) × (f < p .cond .flags)
-    pub inc-post : (t f : ℕ) (v : Bool) → p .cond .sign inc t f ≡ some v → (u : Bool) × (p .cond .sign post t f ≡ some u)
+    pub on-task : (k : Place) (t f : ℕ) (v : Bool) → p .cond .sign k t f ≡ some v
+        → (t < p .tree .size) × (p .tree .kind t ≡ task) × (f < p .cond .flags)
+    pub inc-post : (t f : ℕ) (v : Bool) → p .cond .sign inc t f ≡ some v
+        → (u : Bool) × (p .cond .sign post t f ≡ some u)
     pub rank : ℕ → ℕ
     pub rank-below : (n : ℕ) → Node n → rank n < p .tree .size
     pub rank-rises : (a b : ℕ) → T (p .order a b) → rank a < rank b
 
-  -- What refusals 7, 8, 9, 12 and 13 leave, in 01's words. (10, 11 and 14 are no matter here: `sign` gives one sign, `order` has no repetitions.)
+  -- What refusals 7, 8, 9, 12 and 13 leave, in 01's words. (10, 11 and 14 are no matter here: `sign` gives one sign,
+  -- `order` has no repetitions.)
   pub record Accepted : Type 0 where
     pub nodes : (n : ℕ) → (Node n → n < p .tree .size) × (n < p .tree .size → Node n)
     pub some-node : 0 < p .tree .size
     -- 7: a parent is a group of a lower number
-    pub parent-lower : (n : ℕ) → 0 < n → n < p .tree .size → (p .tree .parent n < n) × (p .tree .kind (p .tree .parent n) ≢ task)
+    pub parent-lower : (n : ℕ) → 0 < n → n < p .tree .size
+        → (p .tree .parent n < n) × (p .tree .kind (p .tree .parent n) ≢ task)
     -- 8: a group has a child
     pub has-child : (g : ℕ) → g < p .tree .size → p .tree .kind g ≢ task → (c : ℕ) × Child g c
     -- 9: a condition is on a task and a flag of the plan
-    pub on-task : (k : Place) (t f : ℕ) (v : Bool) → p .cond .sign k t f ≡ some v → (t < p .tree .size) × (p .tree .kind t ≡ task) × (f < p .cond .flags)
+    pub on-task : (k : Place) (t f : ℕ) (v : Bool) → p .cond .sign k t f ≡ some v
+        → (t < p .tree .size) × (p .tree .kind t ≡ task) × (f < p .cond .flags)
     -- 12: a hold is on a flag that the task has a leaving on
-    pub inc-post : (t f : ℕ) (v : Bool) → p .cond .sign inc t f ≡ some v → (u : Bool) × (p .cond .sign post t f ≡ some u)
+    pub inc-post : (t f : ℕ) (v : Bool) → p .cond .sign inc t f ≡ some v
+        → (u : Bool) × (p .cond .sign post t f ≡ some u)
     -- 13: an order is between children of one all-of group, the earlier number the lower
     pub orders : (a b : ℕ) → T (p .order a b) → (a < b) × ((g : ℕ) × (p .tree .kind g ≡ all-of) × Child g a × Child g b)

@@ -6,7 +6,8 @@ use mathlib.Core.Option.{none, some}
 use mathlib.Core.List.{_∷_}
 use Prim.Native.Nat.{ℕ, zero, suc}
 use Rattle.runs.specs.Plan.{task, all-of, any-of, Place, pre, inc, post, Plan, Child, Under, Before, Unordered}
-use Rattle.runs.specs.Execution.{running, Event, History, nodeOf, statusAfter, Execution, Completed, preOf, asserts, lastAsserted, Earlier}
+use Rattle.runs.specs.Execution.{running, Event, History, nodeOf, statusAfter, Execution, Completed, preOf}
+use Rattle.runs.specs.Execution.{asserts, lastAsserted, Earlier}
 
 module _ (p : Plan) where
   -- in some whole free run of n; in every one
@@ -39,11 +40,13 @@ module _ (p : Plan) where
       pub at : Earlier until h
       pub runs : statusAfter until who ≡ running
 
-    -- 01's "clash": after the history h the event e has a precondition whose opposite was asserted last, or asserts the opposite of an incondition of
+    -- 01's "clash": after the history h the event e has a precondition whose opposite was asserted last, or asserts the
+    -- opposite of an incondition of
     -- another running task
     pub data Clobbers (h : History) (e : Event) : Type 0 where
       precondition : preOf (p .cond) e f ≡ some v → lastAsserted p h f ≡ some (not v) → Clobbers h e
-      incondition : (t : ℕ) → nodeOf e ≢ t → p .cond .sign inc t f ≡ some v → statusAfter h t ≡ running → asserts p e f ≡ some (not v) → Clobbers h e
+      incondition : (t : ℕ) → nodeOf e ≢ t → p .cond .sign inc t f ≡ some v → statusAfter h t ≡ running
+          → asserts p e f ≡ some (not v) → Clobbers h e
 
     -- in some free run, whole or not
     pub record Clobbered (n : ℕ) : Type 0 where
@@ -63,15 +66,20 @@ module _ (p : Plan) where
     pub beneath : Under p c who
     pub has : (p .cond .sign i who f ≡ some v) ⊎ (p .cond .sign j who f ≡ some v)
 
-  -- 01's rule by pairs for mark 6 at an all-of group: a child has it; or for unordered c and d, a task under c needs or holds the literal and one under
-  -- d holds or leaves the opposite; or d stands before c, d may leave the opposite, c may need the literal, and each child standing between them has a
+  -- 01's rule by pairs for mark 6 at an all-of group: a child has it; or for unordered c and d, a task under c needs or
+  -- holds the literal and one under
+  -- d holds or leaves the opposite; or d stands before c, d may leave the opposite, c may need the literal, and each
+  -- child standing between them has a
   -- whole free run that does not touch the flag
   pub data ClobberByPairs (f : ℕ) (v : Bool) (n : ℕ) : Type 0 where
     in-child : (c : ℕ) → Child p n c → MayClobber f v c → ClobberByPairs f v n
-    unordered-pair : (c d : ℕ) → Child p n c → Child p n d → Unordered p c d → TaskWith pre inc f v c → TaskWith inc post f (not v) d
+    unordered-pair : (c d : ℕ) → Child p n c → Child p n d → Unordered p c d → TaskWith pre inc f v c
+        → TaskWith inc post f (not v) d
         → ClobberByPairs f v n
-    passed-on : (c d : ℕ) → Child p n c → Child p n d → Before p d c → May d (ExternalPost f (not v)) → May c (ExternalPre f v)
-        → ((b : ℕ) → Child p n b → Before p d b → Before p b c → May b (λ h. lastAsserted p h f ≡ none)) → ClobberByPairs f v n
+    passed-on : (c d : ℕ) → Child p n c → Child p n d → Before p d c → May d (ExternalPost f (not v))
+        → May c (ExternalPre f v)
+        → ((b : ℕ) → Child p n b → Before p d b → Before p b c → May b (λ h. lastAsserted p h f ≡ none))
+        → ClobberByPairs f v n
 
   -- no task under b touches the flag
   abbrev pub Silent : ℕ → ℕ → Type 0

@@ -1,5 +1,7 @@
--- Tests that compute, put together. What need not be computed stands under a λ, for an argument is computed before a call. Definitions only.
--- They are shut where they are used, so that laws about them find their arguments; a proof by computation names them on its `unfolding` line.
+-- Tests that compute, put together. What need not be computed stands under a λ, for an argument is computed before a
+-- call. Definitions only.
+-- They are shut where they are used, so that laws about them find their arguments; a proof by computation names them on
+-- its `unfolding` line.
 use mathlib.Core.Bool.{Bool, true, false, not}
 use mathlib.Core.List.{List, [], _∷_}
 use mathlib.Core.Option.{Option, none, some}

@@ -61,10 +61,10 @@ module _ (b : List ℕ) (ok : refusal b ≡ 0) (n : ℕ) (l : n < nodeCount b) w
       let v = eqb (i / 8 % 2) 1 in
       let m = markAt (i % 8) in
       let at : i % 16 ≡ wordIndex v m =
-          omega (arith, sign-of (i / 8 % 2) (omega arith), byte-mark (i % 8) (omega arith)) in
+      omega (arith, sign-of (i / 8 % 2) (omega arith), byte-mark (i % 8) (omega arith)) in
       let on : i / 16 ≡ i / 8 / 2 = omega arith in
       rw (at, on) (digit-is (markedB (planOf b) n (i / 8 / 2) v m) (w .says v m (i / 8 / 2) (omega arith))
-          (exact (i / 8 / 2) v m))
+      (exact (i / 8 / 2) v m))
 
   byte-at : (f : ℕ) (v : Bool) (m : Mark)
       → summaryByte b n (8 * (2 * f + signNumber v) + byteOf m) ≡ cond (markedB (planOf b) n f v m) 1 0
@@ -79,7 +79,7 @@ module _ (b : List ℕ) (ok : refusal b ≡ 0) (n : ℕ) (l : n < nodeCount b) w
 
   pub byte-tells : (out : List ℕ) → 16 * flagCount b ≤ length out → (f : ℕ) → f < flagCount b → (v : Bool) (m : Mark)
       → Tells (getD (overlay (summaryByte b n) (16 * flagCount b) out) (8 * (2 * f + signNumber v) + byteOf m) 0)
-          (Marked (planOf b) n f v m)
+      (Marked (planOf b) n f v m)
   byte-tells out long f k v m =
       rw (
         at-overlay (summaryByte b n) out (16 * flagCount b) (8 * (2 * f + signNumber v) + byteOf m) long
@@ -126,8 +126,11 @@ module _ (b : List ℕ) (n : ℕ) (out : List ℕ) where
   -- the whole call, refused and accepted
   pub summary-refused : {r : ℕ} → r ≡ summaryRefusal b n out → (r ≡ 0 → ⊥) → Summarised b n out r out
   unfolding summaryLeft
-  summary-refused e k = record { returns = e; leaves = rw (ne-eqb (summaryRefusal b n out) 0 (λ z. k (e ∙ z)));
-      marks = λ z. absurd (k z) }
+  summary-refused e k = record {
+    returns = e;
+    leaves = rw (ne-eqb (summaryRefusal b n out) 0 (λ z. k (e ∙ z)));
+    marks = λ z. absurd (k z);
+  }
 
   pub summary-written : summaryRefusal b n out ≡ 0
       → Summarised b n out 0 (overlay (summaryByte b n) (16 * flagCount b) out)

@@ -1,4 +1,5 @@
--- The summary call (01: sheet): what it returns, every byte that it leaves, and what each byte of a mark tells. Definitions only.
+-- The summary call (01: sheet): what it returns, every byte that it leaves, and what each byte of a mark tells.
+-- Definitions only.
 use mathlib.Core.Path.{_≡_}
 use mathlib.Core.Logic.{_⊎_}
 use mathlib.Core.Bool.{Bool, cond, not}
@@ -16,7 +17,8 @@ use Rattle.runs.specs.Model.Marks.{markedB}
 
 -- 1 to 14; 15: under 16 V bytes; 17: no node
 unfoldable pub summaryRefusal : List ℕ → ℕ → List ℕ → ℕ
-summaryRefusal b n out = first (refusal b) (cond (ltb (length out) (16 * flagCount b)) 15 (cond (not (ltb n (nodeCount b))) 17 0))
+summaryRefusal b n out = first (refusal b)
+    (cond (ltb (length out) (16 * flagCount b)) 15 (cond (not (ltb n (nodeCount b))) 17 0))
 
 -- the mark of byte i: entry i / 8 is 2 f + sign, and its eight bytes are the marks
 unfoldable pub summaryByte : List ℕ → ℕ → ℕ → ℕ

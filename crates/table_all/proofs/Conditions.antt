@@ -40,8 +40,10 @@ pub record Noted (b conds : List ℕ) (i : ℕ) : Type 0 where
   pub says : (t w f : ℕ) → t < 128 → w < 6 → f < 64 → Says (getD conds (t * 6 + w) 0) f (Occurs b i t (f + 64 * w))
 
 pub noted-none : {b conds : List ℕ} → Zeros 768 conds → Noted b conds 0
-noted-none z = record { long = z .long;
-    says = λ t w f l m k. says-none (z .zero (t * 6 + w) (omega arith)) (λ a. omega (arith, a .below)) }
+noted-none z = record {
+  long = z .long;
+  says = λ t w f l m k. says-none (z .zero (t * 6 + w) (omega arith)) (λ a. omega (arith, a .below));
+}
 
 -- one of the first i + 1 is one of the first i or the next
 occurs-more : (b : List ℕ) (i t v : ℕ)
@@ -67,7 +69,7 @@ module _ {b c c′ : List ℕ} {i x v : ℕ} (ex : x ≡ condNode b i) (ev : v �
       let s = says-set {A = Occurs b i t (f + 64 * w)} (v % 64) refl (h .says t w f l m k) in
       let g : getD c′ (t * 6 + w) 0 ≡ bitOr (getD c (t * 6 + w) 0) (2 ^ (v % 64)) =
       rw (e, q) (getD-set-same c (t * 6 + w) (bitOr (getD c (t * 6 + w) 0) (2 ^ (v % 64))) 0
-          (omega (arith, h .long))) in
+      (omega (arith, h .long))) in
       says-eq g
       (says-map {B = Occurs b (i + 1) t (f + 64 * w)} (
         λ a. occurs-more b i t (f + 64 * w) .0 (⊎-elim (λ y. inl y) (λ z. inr (omega arith, omega arith)) a),
@@ -79,7 +81,7 @@ module _ {b c c′ : List ℕ} {i x v : ℕ} (ex : x ≡ condNode b i) (ev : v �
       → Says (getD c′ (t * 6 + w) 0) f (Occurs b (i + 1) t (f + 64 * w))
   there t w f l m k n =
       let g : getD c′ (t * 6 + w) 0 ≡ getD c (t * 6 + w) 0 =
-          rw e (getD-set-other c (x * 6 + v / 64) (t * 6 + w) (bitOr (getD c (x * 6 + v / 64) 0) (2 ^ (v % 64))) 0 n) in
+      rw e (getD-set-other c (x * 6 + v / 64) (t * 6 + w) (bitOr (getD c (x * 6 + v / 64) 0) (2 ^ (v % 64))) 0 n) in
       says-eq g
       (says-map {B = Occurs b (i + 1) t (f + 64 * w)} (
         λ a. occurs-more b i t (f + 64 * w) .0 (inl a),
@@ -115,5 +117,5 @@ noted-all {b} r h =
                 record { at = w .at; below = w .below; node = w .node; value = w .value ∙ sym (word-value k v f) },
           )
           (h .says t (2 * placeNumber k + signNumber v) f
-              (omega (arith, a .accepted .nodes t .0 m, a .size, clean b r .fits .limits .nodes)) (word-small k v) l);
+          (omega (arith, a .accepted .nodes t .0 m, a .size, clean b r .fits .limits .nodes)) (word-small k v) l);
     }

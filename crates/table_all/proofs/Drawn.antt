@@ -39,8 +39,11 @@ pub record Drawn (b k o c : List ℕ) (i : ℕ) : Type 0 where
 drawn : (b k o c : List ℕ) (i x y z : ℕ) → x ≡ nodesTo b i → y ≡ ordersTo b i → z ≡ condsTo b i → Kinds b k x
     → Tabled b o y → Noted b c z → Drawn b k o c i
 drawn b k o c i x y z e f g h t n =
-    record { kinds = subst (λ (m : ℕ). Kinds b k m) e h; codes = subst (λ (m : ℕ). Tabled b o m) f t;
-    words = subst (λ (m : ℕ). Noted b c m) g n }
+    record {
+      kinds = subst (λ (m : ℕ). Kinds b k m) e h;
+      codes = subst (λ (m : ℕ). Tabled b o m) f t;
+      words = subst (λ (m : ℕ). Noted b c m) g n;
+    }
 
 pub drawn-none : (b : List ℕ) {k o c : List ℕ} → length k ≡ 128 → Zeros 16384 o → Zeros 768 c → Drawn b k o c 0
 drawn-none b {k} {o} {c} l z w =
@@ -67,7 +70,7 @@ module _ (b : List ℕ) (u : Clean b) {i : ℕ} (r : Item) (e : r ≡ itemOf b i
   fits-at (a-condition j f m) =
       let v = usable b (u .fits) (u .conditions) in
       subst (λ (x : Item). Fits i x) (sym (e ∙ item-condition b f m))
-          (omega (arith, v .node j m), omega (arith, v .value j m))
+      (omega (arith, v .node j m), omega (arith, v .value j m))
   fits-at (an-order j f m) = let s = sorted b u in
       subst (λ (x : Item). Fits i x) (sym (e ∙ item-order b j f)) (s .lower j m, s .small j m)
 
@@ -85,7 +88,7 @@ module _ (b : List ℕ) (u : Clean b) {i : ℕ} (r : Item) (e : r ≡ itemOf b i
         let n : nodesTo b i ≡ i = omega arith in
         drawn b k′ o′ c′ (i + 1) (i + 1) (ordersTo b i) (condsTo b i) (omega arith) (omega arith) (omega arith)
         (rw (w .0) (kinds-more {b = b} {c = k} (omega (arith, u .fits .limits .nodes)) refl
-            (subst (λ (x : ℕ). Kinds b k x) n (d .kinds))))
+        (subst (λ (x : ℕ). Kinds b k x) n (d .kinds))))
         (rw (w .1 .0) (d .codes)) (rw (w .1 .1) (d .words))
     more-at (a-condition j f m) =
         let w = stored (e ∙ item-condition b f m) in
@@ -94,13 +97,13 @@ module _ (b : List ℕ) (u : Clean b) {i : ℕ} (r : Item) (e : r ≡ itemOf b i
         drawn b k′ o′ c′ (i + 1) (nodesTo b i) (ordersTo b i) (j + 1) (omega arith) (omega arith) (omega arith)
         (rw (w .1 .0) (d .kinds)) (rw (w .1 .1) (d .codes))
         (noted-more {b = b} {c = c} {i = j} refl refl (omega (arith, v .node j m)) (omega (arith, v .value j m))
-            (subst (λ (x : ℕ). Noted b c x) n (d .words)) (w .0))
+        (subst (λ (x : ℕ). Noted b c x) n (d .words)) (w .0))
     more-at (an-order j f m) =
         let w = stored (e ∙ item-order b j f) in
         let n : ordersTo b i ≡ j = omega arith in
         drawn b k′ o′ c′ (i + 1) (nodesTo b i) (j + 1) (condsTo b i) (omega arith) (omega arith) (omega arith)
         (rw (w .1 .0) (d .kinds)) (tabled-more (sorted b u) m (subst (λ (x : ℕ). Tabled b o x) n (d .codes)) (w .0))
-            (rw (w .1 .1) (d .words))
+        (rw (w .1 .1) (d .words))
 
     pub drawn-more : i < itemCount b → Drawn b k′ o′ c′ (i + 1)
     drawn-more l = more-at (kind-of b i l)

@@ -32,5 +32,7 @@ kinds-more {c = c} {i = i} {v = v} l e h =
 pub kinds-all : {b kinds : List ℕ} → refusal b ≡ 0 → Kinds b kinds (nodeCount b) → RepresentsKinds kinds (planOf b)
 kinds-all {b} r h =
     let a = means b r in
-    record { is = λ i m. let l : i < nodeCount b = omega (arith, a .accepted .nodes i .0 m, a .size) in h .is i l
-        ∙ sym (a .kind i l) }
+    record {
+      is = λ i m. let l : i < nodeCount b = omega (arith, a .accepted .nodes i .0 m, a .size) in h .is i l
+          ∙ sym (a .kind i l);
+    }

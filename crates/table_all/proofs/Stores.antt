@@ -32,7 +32,7 @@ module _ (at : ℕ) {i : Item} where
 
     pub stored-condition : (c′ : List ℕ) {t : ℕ} {x : Condition} → i ≡ item.Condition x → t ≡ x .node
         → c′ ≡ set c (t * 6 + x .value / 64) (bitOr (getD c (t * 6 + x .value / 64) 0) (2 ^ (x .value % 64)))
-            → Stored at i k k o o c c′
+        → Stored at i k k o o c c′
     unfolding Stored
     stored-condition c′ e f g = subst (λ (j : Item). Stored at j k k o o c c′) (sym e) (rw f at g, (refl, refl))
 

@@ -35,7 +35,8 @@ Fits at (item.Order x) = (x .earlier < x .later) × (x .later < 128)
 unfoldable pub Stored : ℕ → Item → List ℕ → List ℕ → List ℕ → List ℕ → List ℕ → List ℕ → Type 0
 Stored at (item.Node x) k k′ o o′ c c′ = (k′ ≡ set k at (x .kind)) × ((o′ ≡ o) × (c′ ≡ c))
 Stored at (item.Condition x) k k′ o o′ c c′ =
-    (c′ ≡ set c (x .node * 6 + x .value / 64) (bitOr (getD c (x .node * 6 + x .value / 64) 0) (2 ^ (x .value % 64)))) × ((k′ ≡ k) × (o′ ≡ o))
+    (c′ ≡ set c (x .node * 6 + x .value / 64) (bitOr (getD c (x .node * 6 + x .value / 64) 0) (2 ^ (x .value % 64))))
+    × ((k′ ≡ k) × (o′ ≡ o))
 Stored at (item.Order x) k k′ o o′ c c′ = Linked o o′ (x .later) (Leading o (x .earlier)) × ((k′ ≡ k) × (c′ ≡ c))
 
 -- the tables that are filled from the items

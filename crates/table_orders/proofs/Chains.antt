@@ -101,7 +101,7 @@ module _ (b : List ℕ) (i : ℕ) where
     pub chain-ends : {x y : ℕ} → Ends x y → ChainTo b (i + 1) x y
     chain-ends {x} {y} w =
         let o : OrderTo b (i + 1) (earlierOf b i) y =
-            record { at = i; below = omega arith; earlier = refl; later = sym (w .0) } in
+        record { at = i; below = omega arith; earlier = refl; later = sym (w .0) } in
         ⊎-elim (λ e. rw e (one o)) (λ q. more (chain-weaken q) o) (w .1)
 
 -- chains through all orders are the plan's

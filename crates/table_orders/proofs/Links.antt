@@ -23,9 +23,9 @@ linked o a c l m e =
       back = λ d i q. rw q (getD-set-same s (c * 128 + a) 2 0 (omega arith));
       kept = λ x y i j n k.
           getD-set-other s (c * 128 + a) (x * 128 + y) 2 0
-              (λ (z : x * 128 + y ≡ c * 128 + a). k (omega arith) (omega arith))
+          (λ (z : x * 128 + y ≡ c * 128 + a). k (omega arith) (omega arith))
           ∙ getD-set-other o (a * 128 + c) (x * 128 + y) 1 0
-              (λ (z : x * 128 + y ≡ a * 128 + c). n (omega arith) (omega arith));
+          (λ (z : x * 128 + y ≡ a * 128 + c). n (omega arith) (omega arith));
     }
 
 -- the same links, said in another way
@@ -101,7 +101,7 @@ pub within-all : {o o′ o″ : List ℕ} {a b c : ℕ} → a < b → b < 128 �
     → Linked o′ o″ b (λ z. z ≡ a) → Linked o o″ b (Leading o a)
 within-all {o} {a = a} {b = b} {c = c} l m e h k =
     linked-same {P = λ z. (z ≡ a) ⊎ Within o a c z} {Q = Leading o a}
-        (λ z q. ⊎-elim (λ x. inl x) (λ w. inr (omega (arith, w .0), w .1)) q)
+    (λ z q. ⊎-elim (λ x. inl x) (λ w. inr (omega (arith, w .0), w .1)) q)
     (λ z i q. ⊎-elim (λ x. inl x) (λ w. inr (omega (arith, w .0), w .1)) q)
     (linked-more {P = Within o a c} {Q = λ z. (z ≡ a) ⊎ Within o a c z} m (λ z w. inr w) (inl refl)
-        (λ z q. ⊎-elim (λ x. inr x) (λ w. inl w) q) h k)
+    (λ z q. ⊎-elim (λ x. inr x) (λ w. inl w) q) h k)

@@ -33,21 +33,32 @@ tabled-none {b} {order} h =
       long = h .long;
       coded = λ x y l m.
           let z : code order x y ≡ 0 = h .zero (x * 128 + y) (omega arith) in
-          record { before = (λ e. absurd (omega arith), λ q. absurd (chain-none b q));
-              after = (λ e. absurd (omega arith), λ q. absurd (chain-none b q)) };
+          record {
+            before = (λ e. absurd (omega arith), λ q. absurd (chain-none b q));
+            after = (λ e. absurd (omega arith), λ q. absurd (chain-none b q));
+          };
     }
 
 module _ (b : List ℕ) (i : ℕ) (s : Sorted b) (k : i ≤ orderCount b) where
   coded-before : {v x y : ℕ} → v ≡ 1 → ChainTo b i x y → Coded b i v x y
   coded-before e q =
-      record { before = (λ z. q, λ z. e);
-          after = (λ z. absurd (omega arith),
-          λ z. absurd (omega (arith, chain-rises b i s k q, chain-rises b i s k z))) }
+      record {
+        before = (λ z. q, λ z. e);
+        after = (
+          λ z. absurd (omega arith),
+          λ z. absurd (omega (arith, chain-rises b i s k q, chain-rises b i s k z)),
+        );
+      }
 
   coded-after : {v x y : ℕ} → v ≡ 2 → ChainTo b i y x → Coded b i v x y
   coded-after e q =
-      record { before = (λ z. absurd (omega arith),
-          λ z. absurd (omega (arith, chain-rises b i s k q, chain-rises b i s k z))); after = (λ z. q, λ z. e) }
+      record {
+        before = (
+          λ z. absurd (omega arith),
+          λ z. absurd (omega (arith, chain-rises b i s k q, chain-rises b i s k z)),
+        );
+        after = (λ z. q, λ z. e);
+      }
 
 module _ {b o o′ : List ℕ} {i : ℕ} (s : Sorted b) (l : i < orderCount b) (t : Tabled b o i)
     (h : Linked o o′ (laterOf b i) (Leading o (earlierOf b i))) where
@@ -68,8 +79,10 @@ module _ {b o o′ : List ℕ} {i : ℕ} (s : Sorted b) (l : i < orderCount b) (
       (λ w.
       absurd
       (n (w .0)
-      (⊎-elim (λ e. inl e) (λ r. inr (chain-rises b i s (omega arith) r,
-          t .coded x (earlierOf b i) m small .before .1 r)) (w .1))))
+      (⊎-elim (λ e. inl e) (λ r. inr (
+        chain-rises b i s (omega arith) r,
+        t .coded x (earlierOf b i) m small .before .1 r,
+      )) (w .1))))
       (chain-split b i s l q)
 
   same : (x y : ℕ) → x < 128 → y < 128 → (y ≡ laterOf b i → Leading o (earlierOf b i) x → ⊥)
@@ -105,11 +118,11 @@ module _ {b o o′ : List ℕ} {i : ℕ} (s : Sorted b) (l : i < orderCount b) (
         coded = λ x y m m′.
             ⊎-elim
             (λ w. coded-before b (i + 1) s (omega arith) (rw (w .0) (h .ahead x m (w .1)))
-                (rw (w .0) (chained m (w .1))))
+            (rw (w .0) (chained m (w .1))))
             (λ n.
             ⊎-elim
             (λ w. coded-after b (i + 1) s (omega arith) (rw (w .0) (h .back y m′ (w .1)))
-                (rw (w .0) (chained m′ (w .1))))
+            (rw (w .0) (chained m′ (w .1))))
             (λ k. same x y m m′ n k)
             (decide y x))
             (decide x y);
@@ -119,7 +132,7 @@ pub tabled-all : {b order : List ℕ} → refusal b ≡ 0 → Tabled b order (or
 tabled-all {b} r t =
     let a = means b r in
     let small : (n : ℕ) → Node (planOf b) n
-        → n < 128 = λ n h. omega (arith, a .accepted .nodes n .0 h, a .size, clean b r .fits .limits .nodes) in
+    → n < 128 = λ n h. omega (arith, a .accepted .nodes n .0 h, a .size, clean b r .fits .limits .nodes) in
     record {
       before = λ x y m m′. let c = t .coded x y (small x m) (small y m′) .before in
           (λ e. chain-before b r (c .0 e), λ q. c .1 (before-chain b r q));

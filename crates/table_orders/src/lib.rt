@@ -16,7 +16,8 @@ fn link(order: &mut [u8; 16384], a: usize, c: usize)
     order[c * 128 + a] = AFTER;
 }
 
-// Puts a, and all that the table has before a, before b. Orders rise by (earlier, later), and earlier is the lower number: from the first to the last, all that comes before `earlier` is known at each.
+// Puts a, and all that the table has before a, before b. Orders rise by (earlier, later), and earlier is the lower
+// number: from the first to the last, all that comes before `earlier` is known at each.
 pub fn link_all(order: &mut [u8; 16384], a: usize, b: usize)
     requires { ⌜ (a < b) × (b < 128) × (length (now order) ≡ 16384) ⌝ }
     ensures { λ r. ⌜ Linked (now (order .entry)) (now (order .exit)) b (Leading (now (order .entry)) a) ⌝ }

@@ -38,8 +38,10 @@ decimal-digit n l =
 -- more: those of n / 10, and the last
 pub decimal-more : (n : ℕ) → 10 ≤ n → decimal n ≡ decimal (n / 10) ++ ((48 + n % 10) ∷ [])
 unfolding decimal decimalBy
-decimal-more n l = rw (unless-is (n / 10) (decimalBy n) (omega arith),
-    enough n (suc (n / 10)) (n / 10) (omega arith) (omega arith))
+decimal-more n l = rw (
+  unless-is (n / 10) (decimalBy n) (omega arith),
+  enough n (suc (n / 10)) (n / 10) (omega arith) (omega arith),
+)
 
 pub length-digit : (n : ℕ) → n < 10 → length (decimal n) ≡ 1
 length-digit n l = ap length (decimal-digit n l)
@@ -53,7 +55,7 @@ length-limit zero n l = omega (arith, length-digit n l)
 length-limit (suc k) n l =
     by-cases (decLt n 10) (λ (q : n < 10). omega (arith, length-digit n q))
     (λ q. let e : 10 ^ suc (suc k) ≡ 10 ^ suc k * 10 = pow-suc 10 (suc k) in
-        omega (arith, length-more n (omega arith), length-limit k (n / 10) (omega arith)))
+    omega (arith, length-more n (omega arith), length-limit k (n / 10) (omega arith)))
 
 -- ---- they are plain
 value-more : (s : List ℕ) (v x : ℕ) → valueFrom v (s ++ (x ∷ [])) ≡ 10 * valueFrom v s + (x - 48)
@@ -136,4 +138,4 @@ plain-only {n} {s = x ∷ y ∷ s} p =
     let z : x ≡ 48 → ⊥ = λ e. omega (arith, p .no-leading-zero e) in
     let t = decimal-then (y ∷ s) (10 * 0 + (x - 48)) (omega arith) (λ i l. p .digits (suc i) (omega arith)) in
     sym (ap decimal (sym (p .value)) ∙ t
-        ∙ ap (λ (xs : List ℕ). xs ++ y ∷ s) (decimal-of (10 * 0 + (x - 48)) x (w .0) (w .1) (omega arith)))
+    ∙ ap (λ (xs : List ℕ). xs ++ y ∷ s) (decimal-of (10 * 0 + (x - 48)) x (w .0) (w .1) (omega arith)))

@@ -37,7 +37,8 @@ abbrev pub unlessZero : ℕ → (ℕ → List ℕ) → List ℕ
 unlessZero zero f = []
 unlessZero (suc n) f = f (suc n)
 
--- the digits of n / 10, where that is not 0, and the last digit (48 is the digit 0); k is the number of digits that are worked out
+-- the digits of n / 10, where that is not 0, and the last digit (48 is the digit 0); k is the number of digits that are
+-- worked out
 unfoldable pub decimalBy : ℕ → ℕ → List ℕ
 decimalBy zero n = []
 decimalBy (suc k) n = unlessZero (n / 10) (decimalBy k) ++ ((48 + n % 10) ∷ [])

@@ -13,6 +13,9 @@ use Rattle.text_lines.specs.Lines.{nameOf, ending, lineOf, linesOf}
 
 -- RADI 12, SATL 12, CAST 0
 pub lines-of-B : linesOf planB (ranking planB)
-    ≡ 82 ∷ 65 ∷ 68 ∷ 73 ∷ 32 ∷ 49 ∷ 50 ∷ 10 ∷ 83 ∷ 65 ∷ 84 ∷ 76 ∷ 32 ∷ 49 ∷ 50 ∷ 10 ∷ 67 ∷ 65 ∷ 83 ∷ 84 ∷ 32 ∷ 48 ∷ 10 ∷ []
-unfolding planB u16At nodeCount condCount orderCount nameChar entryAt parentOf kindOf minutesOf earlierOf laterOf isKind isChild kindAt decimalBy decimal greatest waitBy lengthAs lengthBy lengthOf waitWithin waitsTo longestWait inserted rankedTo ranking nameOf ending lineOf linesOf
+    ≡ 82 ∷ 65 ∷ 68 ∷ 73 ∷ 32 ∷ 49 ∷ 50 ∷ 10 ∷ 83 ∷ 65 ∷ 84 ∷ 76 ∷ 32 ∷ 49 ∷ 50 ∷ 10 ∷ 67 ∷ 65 ∷ 83 ∷ 84 ∷ 32 ∷ 48 ∷ 10 ∷
+    []
+unfolding planB u16At nodeCount condCount orderCount nameChar entryAt parentOf kindOf minutesOf earlierOf laterOf isKind
+    isChild kindAt decimalBy decimal greatest waitBy lengthAs lengthBy lengthOf waitWithin waitsTo longestWait inserted
+    rankedTo ranking nameOf ending lineOf linesOf
 lines-of-B = refl

@@ -47,8 +47,12 @@ module _ {b : List ℕ} (ok : Clean b) where
   lines-short : (xs : List ℕ) → ((u : ℕ) → Among u xs → u < nodeCount b) → length (linesOf b xs) ≤ 13 * length xs
   unfolding linesOf
   lines-short [] h = omega arith
-  lines-short (x ∷ xs) h = omega (arith, length-append (lineOf b x) (linesOf b xs), line-limit x (h x (here refl)),
-      lines-short xs (λ u a. h u (there a)))
+  lines-short (x ∷ xs) h = omega (
+    arith,
+    length-append (lineOf b x) (linesOf b xs),
+    line-limit x (h x (here refl)),
+    lines-short xs (λ u a. h u (there a)),
+  )
 
   -- the first i lines
   lines-next : (i : ℕ) → i < length (ranking b)
@@ -102,7 +106,7 @@ four b i j k l e f g m =
     (next-byte b j k 2 f (omega arith)
     ∙ ap (λ (xs : List ℕ). getD b j 0 ∷ xs)
     (next-byte b k l 1 g (omega arith)
-        ∙ ap (λ (xs : List ℕ). getD b k 0 ∷ xs) (next-byte b l (suc l) 0 refl (omega arith))))
+    ∙ ap (λ (xs : List ℕ). getD b k 0 ∷ xs) (next-byte b l (suc l) 0 refl (omega arith))))
 
 pub name-bytes : (b : List ℕ) (t n : ℕ) → n ≡ 4 → 20 + 4 * t ≤ length b → take n (drop (16 + 4 * t) b) ≡ nameOf b t
 unfolding nameOf nameChar
@@ -118,13 +122,19 @@ pub record LinesTo (b out out′ : List ℕ) (at a i : ℕ) : Type 0 where
 module _ {b : List ℕ} (ok : Clean b) where
   pub lines-limit : length (linesOf b (ranking b)) ≤ 1651
   unfolding ranking
-  lines-limit = omega (arith, lines-short ok (rankedTo b (nodeCount b)) (λ u a. ranked-task b u (nodeCount b) a .0),
-      ranking-length b ok)
+  lines-limit = omega (
+    arith,
+    lines-short ok (rankedTo b (nodeCount b)) (λ u a. ranked-task b u (nodeCount b) a .0),
+    ranking-length b ok,
+  )
 
   pub lines-none : {out : List ℕ} {at : ℕ} → LinesTo b out out at at 0
   unfolding linesOf
-  lines-none {out} {at} = record { inside = omega arith;
-      wrote = record { bytes = sym (written-none out at); next = omega arith }; short = omega arith }
+  lines-none {out} {at} = record {
+    inside = omega arith;
+    wrote = record { bytes = sym (written-none out at); next = omega arith };
+    short = omega arith;
+  }
 
   -- the task of line i
   pub line-task : {ranked : List ℕ} {k i t : ℕ} → Ranking b ranked k → i < k → t ≡ getD ranked i 0
@@ -132,9 +142,11 @@ module _ {b : List ℕ} (ok : Clean b) where
   unfolding ranking
   line-task {ranked} {k} {i} {t} r l e =
       let q : t ≡ getD (rankedTo b (nodeCount b)) i 0 = e ∙ sym (getD-take k ranked i 0 l)
-          ∙ ap (λ (xs : List ℕ). getD xs i 0) (r .is) in
-      (rw (← q) at (ranked-task b (getD (rankedTo b (nodeCount b)) i 0) (nodeCount b)
-          (among-at (rankedTo b (nodeCount b)) i (omega (arith, r .count))) .0), q)
+      ∙ ap (λ (xs : List ℕ). getD xs i 0) (r .is) in (
+        rw (← q) at (ranked-task b (getD (rankedTo b (nodeCount b)) i 0) (nodeCount b)
+            (among-at (rankedTo b (nodeCount b)) i (omega (arith, r .count))) .0),
+        q,
+      )
 
   pub lines-turn : {out out′ out″ : List ℕ} {at a a′ i t : ℕ} → i < length (ranking b) → t < nodeCount b
       → t ≡ getD (ranking b) i 0 → Wrote out′ a (lineOf b t) a′ out″ → LinesTo b out out′ at a i

@@ -81,14 +81,14 @@ module _ (b : List ℕ) (ok : refusal b ≡ 0) where
         → DOOMED ≡ verdict (planOf b) (startOf b)
     judged-doomed l g m = doomed-verdict (planOf b) (means-well-formed b ok) (startOf b)
         (some-fails (planOf b) (startOf b) must-clobber must-pre l
-            (g (planOf b) (startOf b) w s must-clobber must-pre refl refl) m)
+        (g (planOf b) (startOf b) w s must-clobber must-pre refl refl) m)
 
     pub judged-open : {x y : ℕ} → x < 2 ^ 64 → FailsWord words start 6 0 x → (x ≡ 0 → ⊥) → FailsWord words start 7 1 y
         → y ≡ 0
         → OPEN ≡ verdict (planOf b) (startOf b)
     judged-open k f n g e = open-verdict (planOf b) (means-well-formed b ok) (startOf b) (may-if k f n)
         (none-fails (planOf b) (startOf b) must-clobber must-pre
-            (g (planOf b) (startOf b) w s must-clobber must-pre refl refl) must-small e)
+        (g (planOf b) (startOf b) w s must-clobber must-pre refl refl) must-small e)
 
 -- ---- the whole answer
 abbrev word-in : verdicts.Verdict → ℕ ⊎ verdicts.Verdict → verdicts.Verdict

@@ -44,8 +44,10 @@ start-none b g = says-none refl (λ x. omega (arith, x .0))
 pub start-all : (b : List ℕ) {word : ℕ} → ((g : ℕ) → g < 64 → Says word g (SetBelow b (flagCount b) g))
     → StartWord (startOf b) word
 unfolding startOf
-start-all b s = record { says =
-    λ f l. says-map (λ x. rw (lt-ltb f (flagCount b) (x .0)) (x .1), λ e. from f e) (s f l) }
+start-all b s = record {
+  says =
+      λ f l. says-map (λ x. rw (lt-ltb f (flagCount b) (x .0)) (x .1), λ e. from f e) (s f l);
+}
   where
     split : (x y : Bool) → (x && y) ≡ true → (x ≡ true) × (y ≡ true)
     split true y e = (refl, e)

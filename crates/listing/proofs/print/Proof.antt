@@ -14,20 +14,22 @@ use Rattle.listing.proofs.print.Tie as tie
 
 end-line-requires : tie.Need-end-line-requires
 end-line-requires c κs =
-    let l : 2048 ≤ length (now (c .before .before .before .before .before .before .before .before .before .before .args .out)) = search needs in
+    let l : 2048 ≤ length (now (c .before .before .before .before .before .before .before .before .before .before .args
+    .out)) = search needs in
     let n = c .before .before .before .before .before .listed .given in
     let w = refused-answered _ _ l (rw (n .1) at
-        (c .before .before .before .before .before .before .before .listing .ensures)) in
+    (c .before .before .before .before .before .before .before .listing .ensures)) in
     let b = c .before .write-bytes .ensures in
     omega (arith, l, b .next, wrote-long b, ap length (w .2), ending-limit (n .0 .0) (omega (arith, w .0)))
 
 returns : tie.Need-returns
 returns c =
-    let l : 2048 ≤ length (now (c .before .before .before .before .before .before .before .before .before .before .before .args .out)) = search needs in
+    let l : 2048 ≤ length (now (c .before .before .before .before .before .before .before .before .before .before
+    .before .args .out)) = search needs in
     let w = refused-answered _ _ l (rw (c .before .before .before .before .before .before .listed .given .1) at
-        (c .before .before .before .before .before .before .before .before .listing .ensures)) in
+    (c .before .before .before .before .before .before .before .before .listing .ensures)) in
     prints _ l (wrote-same (refused-is _ ∙ w .1)
-        (wrote-then (rw (w .2) at (c .before .before .write-bytes .ensures)) (c .end-line .ensures)))
+    (wrote-then (rw (w .2) at (c .before .before .write-bytes .ensures)) (c .end-line .ensures)))
 
 returns-2 : tie.Need-returns-2
 returns-2 c =

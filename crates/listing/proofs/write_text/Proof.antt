@@ -15,33 +15,57 @@ use Rattle.listing.proofs.write_text.Tie as tie
 
 end-line-requires : tie.Need-end-line-requires
 end-line-requires c κs =
-    let s = c .before .before .before .before .before .before .before .before .before .before .before .before .before .before in
+    let s = c .before .before .before .before .before .before .before .before .before .before .before .before .before
+    .before in
     let w = c .before .before .before .write-word .ensures in
     let e = ap (λ (x : ℕ). length (ending x))
-        (c .before .before .before .before .before .before .before .before .before .longest-waits .ensures .1) in
-    omega (arith, s .pre .2, w .next, wrote-long w, letters-limit (wordOf (s .args .verdict)),
-        root-limit (clean _ (s .pre .0)), e)
+    (c .before .before .before .before .before .before .before .before .before .longest-waits .ensures .1) in
+    omega (
+      arith,
+      s .pre .2,
+      w .next,
+      wrote-long w,
+      letters-limit (wordOf (s .args .verdict)),
+      root-limit (clean _ (s .pre .0)),
+      e,
+    )
 
 write-lines-requires : tie.Need-write-lines-requires
 write-lines-requires c κs =
-    let s = c .before .before .before .before .before .before .before .before .before .before .before .before .before .before .before .before .before .before .before .before in
+    let s = c .before .before .before .before .before .before .before .before .before .before .before .before .before
+    .before .before .before .before .before .before .before in
     let w = c .before .before .before .before .before .before .before .before .before .write-word .ensures in
     let l = c .before .before .before .before .before .end-line .ensures in
     let e = ap (λ (x : ℕ). length (ending x))
-        (c .before .before .before .before .before .before .before .before .before .before .before .before .before .before .before .longest-waits .ensures .1) in (
+    (c .before .before .before .before .before .before .before .before .before .before .before .before .before .before
+    .before .longest-waits .ensures .1) in (
       s .pre .0,
-      c .before .before .before .before .before .before .before .before .before .before .before .before .before .before .before .longest-waits .ensures .0,
+      c .before .before .before .before .before .before .before .before .before .before .before .before .before .before
+          .before .longest-waits .ensures .0,
       c .before .before .before .before .before .before .before .before .before .before .before .rank .ensures,
-      omega (arith, s .pre .2, w .next, wrote-long w, l .next, wrote-long l, letters-limit (wordOf (s .args .verdict)),
-          root-limit (clean _ (s .pre .0)), e),
+      omega (
+        arith,
+        s .pre .2,
+        w .next,
+        wrote-long w,
+        l .next,
+        wrote-long l,
+        letters-limit (wordOf (s .args .verdict)),
+        root-limit (clean _ (s .pre .0)),
+        e,
+      ),
     )
 
 returns : tie.Need-returns
 returns c =
-    let s = c .before .before .before .before .before .before .before .before .before .before .before .before .before .before .before .before .before .before .before .before .before .before .before in
+    let s = c .before .before .before .before .before .before .before .before .before .before .before .before .before
+    .before .before .before .before .before .before .before .before .before .before in
     let w = wrote-same (ap letters (s .pre .1))
-        (c .before .before .before .before .before .before .before .before .before .before .before .before .write-word .ensures) in
-    let l = wrote-same (ap ending (c .before .before .before .before .before .before .before .before .before .before .before .before .before .before .before .before .before .before .longest-waits .ensures .1)) (c .before .before .before .before .before .before .before .before .end-line .ensures) in
+    (c .before .before .before .before .before .before .before .before .before .before .before .before .write-word
+    .ensures) in
+    let l = wrote-same (ap ending (c .before .before .before .before .before .before .before .before .before .before
+    .before .before .before .before .before .before .before .before .longest-waits .ensures .1))
+    (c .before .before .before .before .before .before .before .before .end-line .ensures) in
     wrote-same (text-is _) (wrote-then (wrote-then w l) (c .before .before .write-lines .ensures))
 
 pub write-text-spec : {M : Type 1} → statement M

@@ -37,7 +37,7 @@ check-nodes-requires c κs = whole (now (c .before .before .before .before .befo
 returns-4 : tie.Need-returns-4
 returns-4 c =
     let e = rest (now (c .before .before .before .before .before .before .before .args .plan))
-        (sized (c .before .before .before) .long) (in-limits (c .before .before .before)) (omega arith) in
+    (sized (c .before .before .before) .long) (in-limits (c .before .before .before)) (omega arith) in
     c .check-nodes .ensures ∙ e
 
 pub check-spec : {M : Type 1} → statement M

@@ -19,8 +19,11 @@ unfolding fromNodes
 returns-3 c =
     let d2 = c .before .before in
     let d1 = d2 .before .before in
-    rw (sym (d1 .before .broken .ensures) ∙ d1 .if1 .left, sym (d2 .before .broken2 .ensures) ∙ d2 .if2 .left,
-        sym (c .before .broken3 .ensures) ∙ c .if3 .taken)
+    rw (
+      sym (d1 .before .broken .ensures) ∙ d1 .if1 .left,
+      sym (d2 .before .broken2 .ensures) ∙ d2 .if2 .left,
+      sym (c .before .broken3 .ensures) ∙ c .if3 .taken,
+    )
 
 returns-4 : tie.Need-returns-4
 unfolding fromNodes
@@ -28,8 +31,12 @@ returns-4 c =
     let d3 = c .before .before in
     let d2 = d3 .before .before in
     let d1 = d2 .before .before in
-    rw (sym (d1 .before .broken .ensures) ∙ d1 .if1 .left, sym (d2 .before .broken2 .ensures) ∙ d2 .if2 .left,
-        sym (d3 .before .broken3 .ensures) ∙ d3 .if3 .left, sym (c .before .broken4 .ensures) ∙ c .if4 .taken)
+    rw (
+      sym (d1 .before .broken .ensures) ∙ d1 .if1 .left,
+      sym (d2 .before .broken2 .ensures) ∙ d2 .if2 .left,
+      sym (d3 .before .broken3 .ensures) ∙ d3 .if3 .left,
+      sym (c .before .broken4 .ensures) ∙ c .if4 .taken,
+    )
 
 refuses-requires : tie.Need-refuses-requires
 refuses-requires c κs =
@@ -46,9 +53,13 @@ returns-5 c =
     let d3 = d4 .before .before in
     let d2 = d3 .before .before in
     let d1 = d2 .before .before in
-    rw (sym (d1 .before .broken .ensures) ∙ d1 .if1 .left, sym (d2 .before .broken2 .ensures) ∙ d2 .if2 .left,
-        sym (d3 .before .broken3 .ensures) ∙ d3 .if3 .left, sym (d4 .before .broken4 .ensures) ∙ d4 .if4 .left,
-        sym (c .before .refuses .ensures) ∙ c .if5 .taken)
+    rw (
+      sym (d1 .before .broken .ensures) ∙ d1 .if1 .left,
+      sym (d2 .before .broken2 .ensures) ∙ d2 .if2 .left,
+      sym (d3 .before .broken3 .ensures) ∙ d3 .if3 .left,
+      sym (d4 .before .broken4 .ensures) ∙ d4 .if4 .left,
+      sym (c .before .refuses .ensures) ∙ c .if5 .taken,
+    )
 
 returns-6 : tie.Need-returns-6
 unfolding fromNodes
@@ -58,9 +69,14 @@ returns-6 c =
     let d3 = d4 .before .before in
     let d2 = d3 .before .before in
     let d1 = d2 .before .before in
-    rw (sym (d1 .before .broken .ensures) ∙ d1 .if1 .left, sym (d2 .before .broken2 .ensures) ∙ d2 .if2 .left,
-        sym (d3 .before .broken3 .ensures) ∙ d3 .if3 .left, sym (d4 .before .broken4 .ensures) ∙ d4 .if4 .left,
-        sym (d5 .before .refuses .ensures) ∙ d5 .if5 .left, c .check-conditions .ensures)
+    rw (
+      sym (d1 .before .broken .ensures) ∙ d1 .if1 .left,
+      sym (d2 .before .broken2 .ensures) ∙ d2 .if2 .left,
+      sym (d3 .before .broken3 .ensures) ∙ d3 .if3 .left,
+      sym (d4 .before .broken4 .ensures) ∙ d4 .if4 .left,
+      sym (d5 .before .refuses .ensures) ∙ d5 .if5 .left,
+      c .check-conditions .ensures,
+    )
 
 pub check-nodes-spec : {M : Type 1} → statement M
 check-nodes-spec =

@@ -47,11 +47,14 @@ returns c =
     let l = c .before .before .before in
     let a = l .before .before .before .args in
     sym (some-yes (countOf (a .rule) (now (a .plan))) (brokenAt (a .rule) (now (a .plan))) (l .loop .i) (omega arith)
-        (sym (c .before .broken-at .ensures) ∙ c .if1 .taken)) ∙ searched (a .rule) (now (a .plan))
+    (sym (c .before .broken-at .ensures) ∙ c .if1 .taken)) ∙ searched (a .rule) (now (a .plan))
 
 loop-again : tie.Need-loop-again Inv-loop μ-loop
-loop-again c = (omega arith, none-more _ _ (c .before .before .before .loop .inv .1)
-    (sym (c .before .broken-at .ensures) ∙ c .if1 .left))
+loop-again c = (
+  omega arith,
+  none-more _ _ (c .before .before .before .loop .inv .1)
+      (sym (c .before .broken-at .ensures) ∙ c .if1 .left),
+)
 
 returns-2 : tie.Need-returns-2 Inv-loop μ-loop
 returns-2 c =

@@ -46,9 +46,10 @@ bad-condition-requires c κs =
 
 conditions-fall-requires : tie.Need-conditions-fall-requires
 conditions-fall-requires c κs =
-    let s = c .before .before .before in
-    (omega (arith, at _ RisingConditions (now (s .args .plan)) (s .args .i) (c .enum-told6 .given .1) (s .pre .0)),
-        s .pre .1)
+    let s = c .before .before .before in (
+      omega (arith, at _ RisingConditions (now (s .args .plan)) (s .args .i) (c .enum-told6 .given .1) (s .pre .0)),
+      s .pre .1,
+    )
 
 bad-order-requires : tie.Need-bad-order-requires
 bad-order-requires c κs =
@@ -57,9 +58,10 @@ bad-order-requires c κs =
 
 orders-fall-requires : tie.Need-orders-fall-requires
 orders-fall-requires c κs =
-    let s = c .before .before .before in
-    (omega (arith, at _ RisingOrders (now (s .args .plan)) (s .args .i) (c .enum-told8 .given .1) (s .pre .0)),
-        s .pre .1)
+    let s = c .before .before .before in (
+      omega (arith, at _ RisingOrders (now (s .args .plan)) (s .args .i) (c .enum-told8 .given .1) (s .pre .0)),
+      s .pre .1,
+    )
 
 returns : tie.Need-returns
 returns c = tested _ Starts _ _ _ (c .before .enum-told .given .1) (c .bad-start .ensures)

@@ -55,32 +55,36 @@ unfolding backwards
 is-step c =
     let s = c .before .before .before .before .before .before in
     c .step-at .ensures ∙ ap (λ (n : ℕ). stepOf (s .args .pass) (now (s .args .plan))
-        (n - 1 - c .before .before .loop .m)) (c .before .before .before .before .steps .ensures)
+    (n - 1 - c .before .before .loop .m)) (c .before .before .before .before .steps .ensures)
 
 -- what it asks of the table
 asks : (c : tie.After-struct-known3 Inv-loop μ-loop) →
     refusesAt (c .before .before .before .before .step-at .result)
-        (getD (c .before .before .before .before .before .before .loop .table)
-        (c .before .before .before .wide .result) 0)
-    ≡ refuses (stepsBack (now (c .before .before .before .before .before .before .before .before .before .before .args .plan)) (c .before .before .before .before .before .before .before .before .before .before .args .pass)) (c .before .before .before .before .before .before .loop .m)
+    (getD (c .before .before .before .before .before .before .loop .table)
+    (c .before .before .before .wide .result) 0)
+    ≡ refuses (stepsBack (now (c .before .before .before .before .before .before .before .before .before .before .args
+    .plan)) (c .before .before .before .before .before .before .before .before .before .before .args .pass))
+    (c .before .before .before .before .before .before .loop .m)
 asks c =
     let w = c .before .before .before in
     let l = w .before .before .before in
     asked _ (l .loop .m) (l .loop .table) (w .before .step-at .result) (w .wide .result) (is-step (w .before))
-        (l .loop .inv .1 .1 .0) (w .wide .ensures .0) (w .wide .ensures .1)
+    (l .loop .inv .1 .1 .0) (w .wide .ensures .0) (w .wide .ensures .1)
 
 -- the table after it
 next : (c : tie.Joined2 Inv-loop μ-loop) →
     (length (c .if2 .table) ≡ 256) × Holds
-        (stepsBack (now (c .before .before .before .before .before .before .before .before .before .before .before .before .args .plan)) (c .before .before .before .before .before .before .before .before .before .before .before .before .args .pass)) (c .before .before .before .before .before .before .before .before .loop .m + 1) (c .if2 .table)
+    (stepsBack (now (c .before .before .before .before .before .before .before .before .before .before .before .before
+    .args .plan)) (c .before .before .before .before .before .before .before .before .before .before .before .before
+    .args .pass)) (c .before .before .before .before .before .before .before .before .loop .m + 1) (c .if2 .table)
 next c =
     let d = c .before .before .before .before .before .before in
     let l = d .before .before in
     ⊎-elim
     (λ w. written _ (l .loop .m) (l .loop .table) (c .if2 .table) (d .step-at .result) (is-step d) (l .loop .inv .1 .0)
-        (l .loop .inv .1 .1 .0) (w .1 .result) (w .0 .taken) (w .1 .ensures .0) (w .1 .ensures .1) (w .2))
+    (l .loop .inv .1 .1 .0) (w .1 .result) (w .0 .taken) (w .1 .ensures .0) (w .1 .ensures .1) (w .2))
     (λ w. kept _ (l .loop .m) (l .loop .table) (c .if2 .table) (d .step-at .result) (is-step d) (l .loop .inv .1 .0)
-        (l .loop .inv .1 .1 .0) (w .0 .left) (w .1))
+    (l .loop .inv .1 .1 .0) (w .0 .left) (w .1))
     (c .if2 .came)
 
 returns : tie.Need-returns Inv-loop μ-loop
@@ -89,9 +93,9 @@ returns c =
     let l = c .before .before .before .before .before .before .before in
     let a = l .before .before .before .before .args in
     sym (some-yes (stepsOf (a .pass) (now (a .plan))) (refuses (stepsBack (now (a .plan)) (a .pass))) (l .loop .m)
-        (omega arith) (sym (asks (c .before)) ∙ c .if1 .taken))
-        ∙ pass-is (a .pass) (now (a .plan)) (l .before .before .before .before .pre .0)
-        (l .before .before .before .before .pre .1)
+    (omega arith) (sym (asks (c .before)) ∙ c .if1 .taken))
+    ∙ pass-is (a .pass) (now (a .plan)) (l .before .before .before .before .pre .0)
+    (l .before .before .before .before .pre .1)
 
 wide-requires-2 : tie.Need-wide-requires-2 Inv-loop μ-loop
 wide-requires-2 c κs = tt
@@ -102,9 +106,17 @@ array-write-table c = c .wide2 .ensures .1
 loop-again : tie.Need-loop-again Inv-loop μ-loop
 loop-again c =
     let l = c .before .before .before .before .before .before .before .before in
-    let t = next c in
-    (omega arith, (t .0, (t .1, none-more _ _ (l .loop .inv .1 .1 .1)
-        (sym (asks (c .before .before)) ∙ c .before .if1 .left))))
+    let t = next c in (
+      omega arith,
+      (
+        t .0,
+        (
+          t .1,
+          none-more _ _ (l .loop .inv .1 .1 .1)
+              (sym (asks (c .before .before)) ∙ c .before .if1 .left),
+        ),
+      ),
+    )
 
 returns-2 : tie.Need-returns-2 Inv-loop μ-loop
 unfolding passRefuses
@@ -113,8 +125,8 @@ returns-2 c =
     let a = l .before .before .before .before .args in
     let e : l .loop .m ≡ stepsOf (a .pass) (now (a .plan)) = omega arith in
     sym (rw e at (l .loop .inv .1 .1 .1))
-        ∙ pass-is (a .pass) (now (a .plan)) (l .before .before .before .before .pre .0)
-        (l .before .before .before .before .pre .1)
+    ∙ pass-is (a .pass) (now (a .plan)) (l .before .before .before .before .pre .0)
+    (l .before .before .before .before .pre .1)
 
 pub refuses-spec : {M : Type 1} → statement M
 refuses-spec =

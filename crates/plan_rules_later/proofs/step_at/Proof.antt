@@ -28,16 +28,18 @@ child-step-requires c κs =
 sign-step-requires : tie.Need-sign-step-requires
 sign-step-requires c κs =
     let s = c .before .before .before in
-    let e = c .enum-told2 .given .1 in
-    (at _ Signs (now (s .args .plan)) (s .args .i) e (s .pre .0),
-        (s .pre .1 .0, ready _ Signs (now (s .args .plan)) e (s .pre .1 .1) .0))
+    let e = c .enum-told2 .given .1 in (
+      at _ Signs (now (s .args .plan)) (s .args .i) e (s .pre .0),
+      (s .pre .1 .0, ready _ Signs (now (s .args .plan)) e (s .pre .1 .1) .0),
+    )
 
 post-step-requires : tie.Need-post-step-requires
 post-step-requires c κs =
     let s = c .before .before .before in
-    let e = c .enum-told3 .given .1 in
-    (at _ Posts (now (s .args .plan)) (s .args .i) e (s .pre .0),
-        (s .pre .1 .0, ready _ Posts (now (s .args .plan)) e (s .pre .1 .1) .0))
+    let e = c .enum-told3 .given .1 in (
+      at _ Posts (now (s .args .plan)) (s .args .i) e (s .pre .0),
+      (s .pre .1 .0, ready _ Posts (now (s .args .plan)) e (s .pre .1 .1) .0),
+    )
 
 pub step-at-spec : {M : Type 1} → statement M
 step-at-spec =

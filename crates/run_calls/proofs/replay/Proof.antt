@@ -22,12 +22,22 @@ abbrev μ-loop : tie.MeasureT-loop
 -- the number of calls
 count : (c : tie.After-least2 Inv-loop μ-loop)
     → c .least2 .result ≡ length (callsOf
-    (now (c .before .before .before .before .before .before .before .before .before .before .before .before .args .finishes)) (now (c .before .before .before .before .before .before .before .before .before .before .before .before .args .tasks)) (now (c .before .before .before .before .before .before .before .before .before .before .before .before .args .returns)))
-count c = let a = c .before .before .before .before .before .before .before .before .before .before .before .before .args in c .least2 .ensures ∙ ap (λ (k : ℕ). min (length (now (a .finishes))) k) (c .before .least .ensures) ∙ sym (calls-length (now (a .finishes)) (now (a .tasks)) (now (a .returns)))
+    (now (c .before .before .before .before .before .before .before .before .before .before .before .before .args
+    .finishes)) (now (c .before .before .before .before .before .before .before .before .before .before .before
+    .before .args .tasks)) (now (c .before .before .before .before .before .before .before .before .before .before
+    .before .before .args .returns)))
+count c = let a = c .before .before .before .before .before .before .before .before .before .before .before .before
+    .args in c .least2 .ensures ∙ ap (λ (k : ℕ). min (length (now (a .finishes))) k) (c .before .least .ensures)
+    ∙ sym (calls-length (now (a .finishes)) (now (a .tasks)) (now (a .returns)))
 
 below : (c : tie.In-loop Inv-loop μ-loop)
     → ((c .before .loop .i < length
-    (now (c .before .before .before .before .before .before .before .before .before .before .before .before .before .before .args .finishes))) × (c .before .loop .i < length (now (c .before .before .before .before .before .before .before .before .before .before .before .before .before .before .args .tasks)))) × (c .before .loop .i < length (now (c .before .before .before .before .before .before .before .before .before .before .before .before .before .before .args .returns)))
+    (now (c .before .before .before .before .before .before .before .before .before .before .before .before .before
+    .before .args .finishes))) × (c .before .loop .i < length
+    (now (c .before .before .before .before .before .before .before .before .before .before .before .before .before
+    .before .args .tasks)))) × (c .before .loop .i < length
+    (now (c .before .before .before .before .before .before .before .before .before .before .before .before .before
+    .before .args .returns)))
 below c =
     let a = c .before .before in
     let t = c .loop-test .taken in
@@ -54,36 +64,55 @@ mul-returns : tie.Need-mul-returns Inv-loop μ-loop
 mul-returns c = omega (arith, below (c .before .before .before .before .before .before) .1)
 
 slice-write-returns : tie.Need-slice-write-returns Inv-loop μ-loop
-slice-write-returns c = omega (arith, below (c .before .before .before .before .before .before) .1,
-    partly-length _ _ _ _ _ _ _ (c .before .before .before .before .before .before .before .loop .inv .1)
-    (omega (arith, below (c .before .before .before .before .before .before) .1)))
+slice-write-returns c = omega (
+  arith,
+  below (c .before .before .before .before .before .before) .1,
+  partly-length _ _ _ _ _ _ _ (c .before .before .before .before .before .before .before .loop .inv .1)
+      (omega (arith, below (c .before .before .before .before .before .before) .1)),
+)
 
 loop-again : tie.Need-loop-again Inv-loop μ-loop
 loop-again c =
-    let a = c .before .before .before .before .before .before .before .before .before .before .before .before .before .before .before .before .before .before .before .before .args in
+    let a = c .before .before .before .before .before .before .before .before .before .before .before .before .before
+    .before .before .before .before .before .before .before .args in
     let l = c .before .before .before .before .before .before .before .loop in
     let b = below (c .before .before .before .before .before .before) in
     let q : l .i < length (callsOf (now (a .finishes)) (now (a .tasks)) (now (a .returns))) =
-        omega (arith, count (c .before .before .before .before .before .before .before .before),
-        c .before .before .before .before .before .before .loop-test .taken) in
-    let z : length (c .before .before .make .last .1 .0) ≡ length (l .state) = search needs in
-    ((omega (arith, c .before .before .before .before .before .before .loop-test .taken), z ∙ l .inv .0 .1),
-        partly-more _ _ _ _ _ _ _ (l .inv .1) q (b .1) _ _ _
-        (calls-at (now (a .finishes)) (now (a .tasks)) (now (a .returns)) (l .i) q) (c .before .before .make .ensures))
+    omega (
+      arith,
+      count (c .before .before .before .before .before .before .before .before),
+      c .before .before .before .before .before .before .loop-test .taken,
+    ) in
+    let z : length (c .before .before .make .last .1 .0) ≡ length (l .state) = search needs in (
+      (omega (arith, c .before .before .before .before .before .before .loop-test .taken), z ∙ l .inv .0 .1),
+      partly-more _ _ _ _ _ _ _ (l .inv .1) q (b .1) _ _ _
+          (calls-at (now (a .finishes)) (now (a .tasks)) (now (a .returns)) (l .i) q)
+          (c .before .before .make .ensures),
+    )
 
 same-length-3 : tie.Need-same-length-3 Inv-loop μ-loop
 same-length-3 c = partly-length _ _ _ _ _ _ _ (c .before .loop .inv .1)
-    (omega (arith, c .before .before .least2 .ensures, c .before .before .before .least .ensures,
-    c .before .loop .inv .0 .0))
+    (omega (
+      arith,
+      c .before .before .least2 .ensures,
+      c .before .before .before .least .ensures,
+      c .before .loop .inv .0 .0,
+    ))
 
 returns-2 : tie.Need-returns-2 Inv-loop μ-loop
 returns-2 c =
-    let a = c .before .before .before .before .before .before .before .before .before .before .before .before .before .before .args in
+    let a = c .before .before .before .before .before .before .before .before .before .before .before .before .before
+    .before .args in
     let l = c .before .loop in
     let cs = callsOf (now (a .finishes)) (now (a .tasks)) (now (a .returns)) in
     let e : l .i ≡ length cs = omega (arith, count (c .before .before), l .inv .0 .0, c .loop-test .left) in
-    ran-all _ _ _ cs (λ i. omega (arith,
-        c .before .before .before .before .before .before .before .before .before .before .before .before .before .shared-slice-known .given i)) _ (rw (c .before .before .before .before .if1 .left) at (c .before .before .before .before .before .before .before .fresh .ensures)) (l .inv .1 .returned) _ (rw (e, take-length cs) at (l .inv .1 .called)) _ (rw e at (l .inv .1 .written))
+    ran-all _ _ _ cs (λ i. omega (
+      arith,
+      c .before .before .before .before .before .before .before .before .before .before .before .before .before
+          .shared-slice-known .given i,
+    )) _ (rw (c .before .before .before .before .if1 .left) at
+    (c .before .before .before .before .before .before .before .fresh .ensures)) (l .inv .1 .returned) _
+    (rw (e, take-length cs) at (l .inv .1 .called)) _ (rw e at (l .inv .1 .written))
 
 pub replay-spec : {M : Type 1} → statement M
 replay-spec =

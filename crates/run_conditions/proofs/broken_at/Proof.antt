@@ -20,8 +20,12 @@ room c = has-room _ _ (c .pre .1)
 node-below : (c : tie.After-wide) → c .wide .result < nodeCount (now (c .before .before .before .before .args .plan))
 node-below c =
     let s = c .before .before .before .before in
-    omega (arith, c .wide .ensures .0, c .before .condition-node .ensures,
-        on-task _ (room s .accepted) (s .args .i) (s .pre .0) .0)
+    omega (
+      arith,
+      c .wide .ensures .0,
+      c .before .condition-node .ensures,
+      on-task _ (room s .accepted) (s .args .i) (s .pre .0) .0,
+    )
 
 kept : (c : tie.Joined1) → c .if1 .kept
     ≡ flagIn (cond (c .before .set-at .result)
@@ -50,17 +54,19 @@ add-result : tie.Need-add-result
 add-result c = omega (arith, c .before .before .before .before .wide .ensures .1)
 
 shared-slice-read-result : tie.Need-shared-slice-read-result
-shared-slice-read-result c = omega
-    (arith, node-below (c .before .before .before .before .before),
-    room (c .before .before .before .before .before .before .before .before .before) .room)
+shared-slice-read-result c = omega (
+  arith,
+  node-below (c .before .before .before .before .before),
+  room (c .before .before .before .before .before .before .before .before .before) .room,
+)
 
 returns : tie.Need-returns
 returns c =
     let j = c .before .before .before in
     let w = j .before .before .before in
     broken-turn _ _ _ _ _ _ _ _ _ _ _ _ (w .wide .ensures .0 ∙ w .before .condition-node .ensures)
-        (c .before .before .is-of .ensures) (j .before .before .flag-at .ensures .0) (j .before .set-at .ensures)
-        (kept j) (c .differs .ensures)
+    (c .before .before .is-of .ensures) (j .before .before .flag-at .ensures .0) (j .before .set-at .ensures)
+    (kept j) (c .differs .ensures)
 
 pub broken-at-spec : {M : Type 1} → statement M
 broken-at-spec =

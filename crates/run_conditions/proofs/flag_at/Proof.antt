@@ -16,8 +16,10 @@ flag-of-requires c κs = let s = c .before .before in
     omega (arith, c .condition-value .ensures, values _ (s .pre .1) .value (s .args .i) (s .pre .0))
 
 returns : tie.Need-returns
-returns c = (c .flag-of .ensures ∙ ap flagOf (c .before .condition-value .ensures),
-    omega (arith, c .flag-of .ensures, flag-small (c .before .condition-value .result)))
+returns c = (
+  c .flag-of .ensures ∙ ap flagOf (c .before .condition-value .ensures),
+  omega (arith, c .flag-of .ensures, flag-small (c .before .condition-value .result)),
+)
 
 pub flag-at-spec : {M : Type 1} → statement M
 flag-at-spec = tie.close (tie.spec condition-value-requires flag-of-requires (λ c. search needs) returns)

@@ -32,7 +32,7 @@ clear-is : (c : tie.After-all2 Inv-loop μ-loop)
 clear-is c =
     let a = c .before .before .before .before .before .args in
     c .before .with-literals .ensures
-        ∙ ap (λ (x : List ℕ). made (now (a .plan)) (a .place) (a .task) x) (c .before .before .all .ensures)
+    ∙ ap (λ (x : List ℕ). made (now (a .plan)) (a .place) (a .task) x) (c .before .before .all .ensures)
 
 set-is : (c : tie.After-with-literals2 Inv-loop μ-loop)
     → c .with-literals2 .result .bytes
@@ -42,7 +42,7 @@ set-is : (c : tie.After-with-literals2 Inv-loop μ-loop)
 set-is c =
     let a = c .before .before .before .before .before .before .args in
     c .with-literals2 .ensures ∙ ap (λ (x : List ℕ). made (now (a .plan)) (a .place) (a .task) x)
-        (c .before .all2 .ensures)
+    (c .before .all2 .ensures)
 
 loop-holds : tie.Need-loop-holds Inv-loop μ-loop
 loop-holds c = (omega arith, none-none _)
@@ -54,18 +54,21 @@ returns : tie.Need-returns Inv-loop μ-loop
 returns c =
     let l = c .before .before .before in
     rw (← clear-is (l .before .before .before), ← set-is (l .before .before))
-        (sym (some-yes (condCount _) _ (l .loop .i) (omega arith)
-        (sym (c .before .broken-at .ensures) ∙ c .if1 .taken)))
+    (sym (some-yes (condCount _) _ (l .loop .i) (omega arith)
+    (sym (c .before .broken-at .ensures) ∙ c .if1 .taken)))
 
 loop-again : tie.Need-loop-again Inv-loop μ-loop
-loop-again c = (omega arith, none-more _ _ (c .before .before .before .loop .inv .1)
-    (sym (c .before .broken-at .ensures) ∙ c .if1 .left))
+loop-again c = (
+  omega arith,
+  none-more _ _ (c .before .before .before .loop .inv .1)
+      (sym (c .before .broken-at .ensures) ∙ c .if1 .left),
+)
 
 returns-2 : tie.Need-returns-2 Inv-loop μ-loop
 returns-2 c =
     let l = c .before in
     let e : l .loop .i ≡ condCount (now
-        (l .before .before .before .before .before .before .before .before .args .plan)) = omega arith in
+    (l .before .before .before .before .before .before .before .before .args .plan)) = omega arith in
     rw (← clear-is (l .before .before .before), ← set-is (l .before .before)) (sym (rw e at (l .loop .inv .1)))
 
 pub inc-broken-spec : {M : Type 1} → statement M

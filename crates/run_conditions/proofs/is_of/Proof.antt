@@ -19,8 +19,12 @@ place-of-requires c κs = let s = c .before .before .before .before in
 
 returns : tie.Need-returns
 unfolding isOf
-returns c = rw (c .before .before .wide .ensures .0, c .before .before .before .condition-node .ensures,
-    c .place-of .ensures, c .before .condition-value .ensures)
+returns c = rw (
+  c .before .before .wide .ensures .0,
+  c .before .before .before .condition-node .ensures,
+  c .place-of .ensures,
+  c .before .condition-value .ensures,
+)
 
 pub is-of-spec : {M : Type 1} → statement M
 is-of-spec =

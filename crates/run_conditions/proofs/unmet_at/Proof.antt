@@ -6,8 +6,13 @@ use Rattle.run_conditions.proofs.unmet_at.Tie as tie
 
 returns : tie.Need-returns
 unfolding unmetAt
-returns c = rw (c .before .before .before .before .is-of .ensures, c .differs .ensures,
-    c .before .before .before .set-at .ensures, c .before .has .ensures, c .before .before .flag-at .ensures .0)
+returns c = rw (
+  c .before .before .before .before .is-of .ensures,
+  c .differs .ensures,
+  c .before .before .before .set-at .ensures,
+  c .before .has .ensures,
+  c .before .before .flag-at .ensures .0,
+)
 
 pub unmet-at-spec : {M : Type 1} → statement M
 unmet-at-spec =

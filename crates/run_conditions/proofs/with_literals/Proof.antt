@@ -41,10 +41,10 @@ loop-again c =
       omega arith,
       ⊎-elim
           (λ w. ap (λ (f : Flags). f .bytes) (w .4) ∙ w .3 .ensures
-              ∙ literals-turn _ _ _ _ (l .loop .i) _ _ _ (l .loop .inv .1) (w .1 .ensures .0) (w .2 .ensures)
-              (sym k ∙ w .0 .taken))
+          ∙ literals-turn _ _ _ _ (l .loop .i) _ _ _ (l .loop .inv .1) (w .1 .ensures .0) (w .2 .ensures)
+          (sym k ∙ w .0 .taken))
           (λ w. ap (λ (f : Flags). f .bytes) (w .1) ∙ l .loop .inv .1
-              ∙ literals-kept _ _ _ _ (l .loop .i) (sym k ∙ w .0 .left))
+          ∙ literals-kept _ _ _ _ (l .loop .i) (sym k ∙ w .0 .left))
           (c .if1 .came),
     )
 

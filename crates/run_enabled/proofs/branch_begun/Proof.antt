@@ -49,15 +49,15 @@ returns c =
     let l = w .before .before .before in
     let s = start w in
     begun-yes _ _ (s .pre .0 .1) (s .args .task)
-        (rival-here _ _ (s .pre .0 .1) (l .loop .n) (w .wide .result) (omega arith) (l .loop .inv .1 .0) (parent-is w)
-        (l .loop .inv .0) (sym (c .before .rival-begun .ensures) ∙ c .if1 .taken))
+    (rival-here _ _ (s .pre .0 .1) (l .loop .n) (w .wide .result) (omega arith) (l .loop .inv .1 .0) (parent-is w)
+    (l .loop .inv .0) (sym (c .before .rival-begun .ensures) ∙ c .if1 .taken))
 
 loop-less : tie.Need-loop-less Inv-loop μ-loop
 loop-less c =
     let w = c .before .before in
     let l = w .before .before .before in
     parent-lower _ (room (start w) .accepted) (l .loop .n) (w .wide .result) (omega arith) (l .loop .inv .1 .0)
-        (parent-is w)
+    (parent-is w)
 
 loop-again : tie.Need-loop-again Inv-loop μ-loop
 loop-again c =
@@ -65,14 +65,14 @@ loop-again c =
     let l = w .before .before .before in
     let s = start w in
     let lower = parent-lower _ (room s .accepted) (l .loop .n) (w .wide .result) (omega arith) (l .loop .inv .1 .0)
-        (parent-is w) in (
+    (parent-is w) in (
       parent-above _ (room s .accepted) (l .loop .n) (w .wide .result) (omega arith) (l .loop .inv .1 .0) (parent-is w)
           (l .loop .inv .0),
       (
         omega (arith, lower, l .loop .inv .1 .0),
         λ x.
             rival-up _ _ (s .pre .0 .1) (l .loop .n) (w .wide .result) (omega arith) (l .loop .inv .1 .0) (parent-is w)
-                (sym (c .before .rival-begun .ensures) ∙ c .if1 .left) (l .loop .inv .1 .1 x),
+            (sym (c .before .rival-begun .ensures) ∙ c .if1 .left) (l .loop .inv .1 .1 x),
       ),
     )
 

@@ -31,22 +31,35 @@ later-requires : tie.Need-later-requires
 later-requires c κs = let s = c .before .before .before .before in (s .pre .0 .0, room s .plan .fits)
 
 element-copy-out-result : tie.Need-element-copy-out-result
-element-copy-out-result c = omega
-    (arith, c .wide2 .ensures .0, c .before .later .ensures, nodes (start (c .before .before)) .1,
-    room (start (c .before .before)) .plan .fits .limits .nodes)
+element-copy-out-result c = omega (
+  arith,
+  c .wide2 .ensures .0,
+  c .before .later .ensures,
+  nodes (start (c .before .before)) .1,
+  room (start (c .before .before)) .plan .fits .limits .nodes,
+)
 
 is-complete-requires : tie.Need-is-complete-requires
 is-complete-requires c κs =
     let s = start (c .before .before .before) in
-    let l = node-below (c .before .before .before) in
-    (l, (s .pre .0 .1, s .pre .1 (c .before .before .before .wide .result)
-        (omega (arith, l, room s .plan .fits .limits .nodes))))
+    let l = node-below (c .before .before .before) in (
+      l,
+      (
+        s .pre .0 .1,
+        s .pre .1 (c .before .before .before .wide .result)
+            (omega (arith, l, room s .plan .fits .limits .nodes)),
+      ),
+    )
 
 returns : tie.Need-returns
 unfolding openAt
-returns c = rw (c .is-complete .ensures, c .before .before .wide2 .ensures .0,
-    c .before .before .before .later .ensures, c .before .before .before .before .wide .ensures .0,
-    c .before .before .before .before .before .earlier .ensures)
+returns c = rw (
+  c .is-complete .ensures,
+  c .before .before .wide2 .ensures .0,
+  c .before .before .before .later .ensures,
+  c .before .before .before .before .wide .ensures .0,
+  c .before .before .before .before .before .earlier .ensures,
+)
 
 pub open-at-spec : {M : Type 1} → statement M
 open-at-spec =

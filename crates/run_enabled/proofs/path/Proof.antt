@@ -32,15 +32,24 @@ lower c = parent-lower _ (start c .pre .1) (c .before .before .before .loop .n) 
     (c .before .before .before .loop .inv .1 .0) (parent-is c)
 
 loop-holds : tie.Need-loop-holds Inv-loop μ-loop
-loop-holds c = (itself, (c .before .before .pre .0,
-    first-mark _ _ (c .no-nodes .result) (c .no-nodes .ensures) (task-small (c .before .before))))
+loop-holds c = (
+  itself,
+  (
+    c .before .before .pre .0,
+    first-mark _ _ (c .no-nodes .result) (c .no-nodes .ensures) (task-small (c .before .before)),
+  ),
+)
 
 parent-requires : tie.Need-parent-requires Inv-loop μ-loop
 parent-requires c κs = (c .before .loop .inv .1 .0, clean _ (c .before .before .before .before .pre .1) .fits)
 
 array-write-marks-2 : tie.Need-array-write-marks-2 Inv-loop μ-loop
-array-write-marks-2 c = omega (arith, lower c, c .before .before .before .loop .inv .1 .0,
-    clean _ (start c .pre .1) .fits .limits .nodes)
+array-write-marks-2 c = omega (
+  arith,
+  lower c,
+  c .before .before .before .loop .inv .1 .0,
+  clean _ (start c .pre .1) .fits .limits .nodes,
+)
 
 loop-less : tie.Need-loop-less Inv-loop μ-loop
 loop-less c = lower c
@@ -50,10 +59,15 @@ loop-again c =
     let l = c .before .before .before in
     let s = start c in
     let u = parent-above _ (s .pre .1) (l .loop .n) (c .wide .result) (omega arith) (l .loop .inv .1 .0) (parent-is c)
-        (l .loop .inv .0) in
-    (u, (omega (arith, lower c, l .loop .inv .1 .0),
+    (l .loop .inv .0) in (
+      u,
+      (
+        omega (arith, lower c, l .loop .inv .1 .0),
         next-mark _ _ (l .loop .n) (c .wide .result) (l .loop .marks) (parent-is c)
-        (omega (arith, lower c, l .loop .inv .1 .0, clean _ (s .pre .1) .fits .limits .nodes)) u (l .loop .inv .1 .1)))
+            (omega (arith, lower c, l .loop .inv .1 .0, clean _ (s .pre .1) .fits .limits .nodes)) u
+            (l .loop .inv .1 .1),
+      ),
+    )
 
 returns : tie.Need-returns Inv-loop μ-loop
 returns c =

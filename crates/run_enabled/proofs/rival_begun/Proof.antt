@@ -17,9 +17,12 @@ node-small : (c : tie.Start) → c .args .n < 128
 node-small c = omega (arith, c .pre .0 .1 .0, room c .plan .fits .limits .nodes)
 
 parent-small : (c : tie.Start) → c .args .g < 128
-parent-small c = omega (arith, node-small c,
-    parent-lower (now (c .args .plan)) (room c .accepted) (c .args .n) (c .args .g) (c .pre .0 .0) (c .pre .0 .1 .0)
-    (c .pre .0 .1 .1 .0))
+parent-small c = omega (
+  arith,
+  node-small c,
+  parent-lower (now (c .args .plan)) (room c .accepted) (c .args .n) (c .args .g) (c .pre .0 .0) (c .pre .0 .1 .0)
+      (c .pre .0 .1 .1 .0),
+)
 
 is-begun-requires : tie.Need-is-begun-requires
 is-begun-requires c κs = let s = c .before .before .before .before in
@@ -29,15 +32,15 @@ returns : tie.Need-returns
 returns c =
     let s = c .before .before .before .before .before .before .before in
     own-begun _ _ _ _ _ (sym (c .before .before .before .before .is-kind .ensures)
-        ∙ c .before .before .before .if1 .taken) (sym (c .before .before .is-begun .ensures) ∙ c .if2 .taken)
-        (s .pre .1 (s .args .g) (parent-small s))
+    ∙ c .before .before .before .if1 .taken) (sym (c .before .before .is-begun .ensures) ∙ c .if2 .taken)
+    (s .pre .1 (s .args .g) (parent-small s))
 
 returns-2 : tie.Need-returns-2
 returns-2 c =
     let s = c .before .before .before .before .before .before .before in
     own-waits _ _ _ _ _ (sym (c .before .before .before .before .is-kind .ensures)
-        ∙ c .before .before .before .if1 .taken) (sym (c .before .before .is-begun .ensures) ∙ c .if2 .left)
-        (s .pre .1 (s .args .g) (parent-small s))
+    ∙ c .before .before .before .if1 .taken) (sym (c .before .before .is-begun .ensures) ∙ c .if2 .left)
+    (s .pre .1 (s .args .g) (parent-small s))
 
 returns-3 : tie.Need-returns-3
 returns-3 c = no-choice _ _ _ _ (sym (c .before .is-kind .ensures) ∙ c .if1 .left)

@@ -35,11 +35,17 @@ loop-less c = omega arith
 loop-again : tie.Need-loop-again Inv-loop μ-loop
 loop-again c =
     let l = c .before in
-    let s = l .before .before in
-    (omega arith, (l .loop .inv .1 .0,
-        (simp length-set (omega arith),
-        rw (l .loop .inv .1 .1 .1) (copy-more (s .args .flags .bytes) (s .args .state .now) (l .loop .i) (omega arith)
-        (omega arith)))))
+    let s = l .before .before in (
+      omega arith,
+      (
+        l .loop .inv .1 .0,
+        (
+          simp length-set (omega arith),
+          rw (l .loop .inv .1 .1 .1) (copy-more (s .args .flags .bytes) (s .args .state .now) (l .loop .i) (omega arith)
+              (omega arith)),
+        ),
+      ),
+    )
 
 same-length : tie.Need-same-length Inv-loop μ-loop
 same-length c = c .before .loop .inv .1 .1 .0

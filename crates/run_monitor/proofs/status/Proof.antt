@@ -17,8 +17,10 @@ returns : tie.Need-returns
 returns c = told-refused _ _ _ (c .before .check-state .ensures) (c .if1 .taken)
 
 is-complete-requires : tie.Need-is-complete-requires
-is-complete-requires c κs = (has-room _ _ (passed (c .before .before)) .plan .fits .limits .some-node,
-    (passed (c .before .before), c .before .children .ensures .1 0 (omega arith)))
+is-complete-requires c κs = (
+  has-room _ _ (passed (c .before .before)) .plan .fits .limits .some-node,
+  (passed (c .before .before), c .before .children .ensures .1 0 (omega arith)),
+)
 
 returns-2 : tie.Need-returns-2
 returns-2 c = told-complete _ _ (passed (c .before .before .before .before))

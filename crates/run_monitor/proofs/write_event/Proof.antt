@@ -16,8 +16,11 @@ slice-write-state c = let s = c .before .before .before .before .before .before 
 
 returns : tie.Need-returns
 unfolding withEvent
-returns c = rw (c .before .before .store .ensures, c .before .before .before .before .with-literals .ensures,
-    c .before .before .before .before .before .load .ensures)
+returns c = rw (
+  c .before .before .store .ensures,
+  c .before .before .before .before .with-literals .ensures,
+  c .before .before .before .before .before .load .ensures,
+)
 
 pub write-event-spec : {M : Type 1} → statement M
 write-event-spec =

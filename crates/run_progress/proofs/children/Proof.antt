@@ -23,13 +23,14 @@ plan-clean c = has-room _ _ (c .pre) .plan
 -- the node of this turn and its parent
 place : (c : tie.After-wide Inv-loop μ-loop) →
     c .before .before .before .before .before .nodes .result - 1 - c .before .before .before .loop .m
-    ≡ nodeCount (now (c .before .before .before .before .before .before .before .before .args .plan)) - 1 - c .before .before .before .loop .m
+    ≡ nodeCount (now (c .before .before .before .before .before .before .before .before .args .plan)) - 1 - c .before
+    .before .before .loop .m
 place c = ap (λ (n : ℕ). n - 1 - c .before .before .before .loop .m)
     (c .before .before .before .before .before .nodes .ensures)
 
 parent-is : (c : tie.After-wide Inv-loop μ-loop) →
     c .wide .result ≡ parentOf (now (c .before .before .before .before .before .before .before .before .args .plan))
-        (c .before .before .before .before .before .nodes .result - 1 - c .before .before .before .loop .m)
+    (c .before .before .before .before .before .nodes .result - 1 - c .before .before .before .loop .m)
 parent-is c = c .wide .ensures .0 ∙ c .before .parent .ensures
 
 parent-below : (c : tie.After-wide Inv-loop μ-loop) → c .wide .result < 128
@@ -39,8 +40,10 @@ parent-below c =
     parent-small (s .args .tally) _ _ (s .pre) (l .loop .m) _ (c .wide .result) (omega arith) (place c) (parent-is c)
 
 loop-holds : tie.Need-loop-holds Inv-loop μ-loop
-loop-holds c = (omega (arith, plan-clean (c .before .before .before .before) .fits .limits .some-node),
-    none-yet _ _ _ (c .no-nodes .result) (c .no-nodes .ensures))
+loop-holds c = (
+  omega (arith, plan-clean (c .before .before .before .before) .fits .limits .some-node),
+  none-yet _ _ _ (c .no-nodes .result) (c .no-nodes .ensures),
+)
 
 parent-requires : tie.Need-parent-requires Inv-loop μ-loop
 parent-requires c κs = (omega arith, plan-clean (c .before .before .before .before .before .before) .fits)
@@ -50,17 +53,26 @@ is-counted-requires c κs =
     let l = c .before .before .before .before in
     let s = l .before .before .before .before .before in
     let e : l .before .before .nodes .result - 1 - l .loop .m ≡ nodeCount (now (s .args .plan)) - 1 - l .loop .m =
-        place (c .before) in
-    (omega arith, (s .pre, l .loop .inv .1 .1 _ (omega (arith, plan-clean s .fits .limits .nodes))
-        ∙ own (s .args .tally) _ _ (s .pre) (l .loop .m) _ (omega arith) e))
+    place (c .before) in (
+      omega arith,
+      (
+        s .pre,
+        l .loop .inv .1 .1 _ (omega (arith, plan-clean s .fits .limits .nodes))
+            ∙ own (s .args .tally) _ _ (s .pre) (l .loop .m) _ (omega arith) e,
+      ),
+    )
 
 add-table : tie.Need-add-table Inv-loop μ-loop
 add-table c =
     let l = c .before .before .before .before .before .before in
     let s = l .before .before .before .before .before in
-    omega (arith, l .loop .inv .1 .1 _ (parent-below (c .before .before .before)),
-        part-le (s .args .tally) (now (s .args .plan)) (now (s .args .state)) (l .loop .m)
-        (c .before .before .before .wide .result), plan-clean s .fits .limits .nodes)
+    omega (
+      arith,
+      l .loop .inv .1 .1 _ (parent-below (c .before .before .before)),
+      part-le (s .args .tally) (now (s .args .plan)) (now (s .args .state)) (l .loop .m)
+          (c .before .before .before .wide .result),
+      plan-clean s .fits .limits .nodes,
+    )
 
 loop-again : tie.Need-loop-again Inv-loop μ-loop
 loop-again c =
@@ -71,18 +83,20 @@ loop-again c =
       omega arith,
       ⊎-elim
           (λ z. counts (s .args .tally) _ _ (s .pre) (l .loop .m) _ (w .wide .result) (omega arith) (place w)
-              (parent-is w) (l .loop .table) (c .if1 .table) (l .loop .inv .1) (sym k ∙ z .0 .taken) (z .1))
+          (parent-is w) (l .loop .table) (c .if1 .table) (l .loop .inv .1) (sym k ∙ z .0 .taken) (z .1))
           (λ z. passes (s .args .tally) _ _ (s .pre) (l .loop .m) _ (w .wide .result) (omega arith) (place w)
-              (parent-is w) (l .loop .table) (c .if1 .table) (l .loop .inv .1) (sym k ∙ z .0 .left) (z .1))
+          (parent-is w) (l .loop .table) (c .if1 .table) (l .loop .inv .1) (sym k ∙ z .0 .left) (z .1))
           (c .if1 .came),
     )
 
 returns : tie.Need-returns Inv-loop μ-loop
 returns c =
     let l = c .before in
-    let s = l .before .before .before .before .before in
-    (l .loop .inv .1 .0, λ g h. l .loop .inv .1 .1 g h
-        ∙ all-counted (s .args .tally) _ _ (s .pre) (l .loop .m) g (omega arith))
+    let s = l .before .before .before .before .before in (
+      l .loop .inv .1 .0,
+      λ g h. l .loop .inv .1 .1 g h
+          ∙ all-counted (s .args .tally) _ _ (s .pre) (l .loop .m) g (omega arith),
+    )
 
 pub children-spec : {M : Type 1} → statement M
 children-spec =

@@ -47,8 +47,8 @@ returns-2 : tie.Need-returns-2
 returns-2 c =
     let s = c .before .before .before .before .before in
     ap (λ (x : ℕ). not (eqb x 0)) (s .pre .1 .1)
-        ∙ group-begun (now (s .args .plan)) (now (s .args .state)) (s .pre .1 .0) (s .args .n) (s .pre .0)
-        (no-task (c .before))
+    ∙ group-begun (now (s .args .plan)) (now (s .args .state)) (s .pre .1 .0) (s .args .n) (s .pre .0)
+    (no-task (c .before))
 
 pub is-begun-spec : {M : Type 1} → statement M
 is-begun-spec =

@@ -47,18 +47,18 @@ returns-2 : tie.Need-returns-2
 returns-2 c =
     let s = c .before .before .before .before .before .before .before in
     ap (λ (x : ℕ). eqb x 0) (s .pre .1 .1)
-        ∙ all-complete (now (s .args .plan)) (now (s .args .state)) (s .pre .1 .0) (s .args .n) (s .pre .0)
-        (kind-is _ _ 1 (sym (c .before .before .is-kind2 .ensures) ∙ c .before .if2 .taken) .1)
+    ∙ all-complete (now (s .args .plan)) (now (s .args .state)) (s .pre .1 .0) (s .args .n) (s .pre .0)
+    (kind-is _ _ 1 (sym (c .before .before .is-kind2 .ensures) ∙ c .before .if2 .taken) .1)
 
 returns-3 : tie.Need-returns-3
 returns-3 c =
     let s = c .before .before .before .before .before .before .before in
     let no-all = other-kind (now (s .args .plan)) (s .args .n) 1 (s .pre .0)
-        (sym (c .before .before .is-kind2 .ensures) ∙ c .before .if2 .left) in
+    (sym (c .before .before .is-kind2 .ensures) ∙ c .before .if2 .left) in
     let none = no-task (c .before .before .before) in
     ap (λ (x : ℕ). not (eqb x 0)) (s .pre .1 .1)
-        ∙ any-complete (now (s .args .plan)) (now (s .args .state)) (s .pre .1 .0) (s .args .n) (s .pre .0)
-        (omega (arith, kind-limit _ (plan-clean s) (s .args .n) (s .pre .0)))
+    ∙ any-complete (now (s .args .plan)) (now (s .args .state)) (s .pre .1 .0) (s .args .n) (s .pre .0)
+    (omega (arith, kind-limit _ (plan-clean s) (s .args .n) (s .pre .0)))
 
 pub is-complete-spec : {M : Type 1} → statement M
 is-complete-spec =

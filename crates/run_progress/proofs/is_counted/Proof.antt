@@ -14,16 +14,26 @@ use Rattle.run_progress.proofs.is_counted.Tie as tie
 is-begun-requires : tie.Need-is-begun-requires
 is-begun-requires c κs =
     let s = c .before .before .before .before in
-    let e : s .args .tally ≡ Begun = cc in
-    (s .pre .0, (s .pre .1 .0, s .pre .1 .1
-        ∙ ap (λ (k : Tally). childrenCounted k (now (s .args .plan)) (now (s .args .state)) (s .args .n)) e))
+    let e : s .args .tally ≡ Begun = cc in (
+      s .pre .0,
+      (
+        s .pre .1 .0,
+        s .pre .1 .1
+            ∙ ap (λ (k : Tally). childrenCounted k (now (s .args .plan)) (now (s .args .state)) (s .args .n)) e,
+      ),
+    )
 
 is-complete-requires : tie.Need-is-complete-requires
 is-complete-requires c κs =
     let s = c .before .before .before .before in
-    let e : s .args .tally ≡ Ends = cc in
-    (s .pre .0, (s .pre .1 .0, s .pre .1 .1
-        ∙ ap (λ (k : Tally). childrenCounted k (now (s .args .plan)) (now (s .args .state)) (s .args .n)) e))
+    let e : s .args .tally ≡ Ends = cc in (
+      s .pre .0,
+      (
+        s .pre .1 .0,
+        s .pre .1 .1
+            ∙ ap (λ (k : Tally). childrenCounted k (now (s .args .plan)) (now (s .args .state)) (s .args .n)) e,
+      ),
+    )
 
 is-kind-requires : tie.Need-is-kind-requires
 is-kind-requires c κs = has-room _ _ (c .before .before .before .before .before .pre .1 .0) .plan .fits
@@ -37,13 +47,13 @@ returns-2 : tie.Need-returns-2
 returns-2 c =
     let e : c .before .before .before .before .before .before .before .args .tally ≡ Ends = cc in
     c .before .before .is-complete .ensures
-        ∙ at-ends-any _ _ _ _ _ e (sym (c .before .is-kind .ensures) ∙ c .if1 .taken)
+    ∙ at-ends-any _ _ _ _ _ e (sym (c .before .is-kind .ensures) ∙ c .if1 .taken)
 
 returns-3 : tie.Need-returns-3
 returns-3 c =
     let e : c .before .before .before .before .before .before .before .args .tally ≡ Ends = cc in
     ap not (c .before .before .is-complete .ensures)
-        ∙ at-ends-all _ _ _ _ _ e (sym (c .before .is-kind .ensures) ∙ c .if1 .left)
+    ∙ at-ends-all _ _ _ _ _ e (sym (c .before .is-kind .ensures) ∙ c .if1 .left)
 
 pub is-counted-spec : {M : Type 1} → statement M
 is-counted-spec =

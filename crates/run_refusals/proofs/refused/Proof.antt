@@ -52,13 +52,19 @@ begun : (c : tie.Else3) → beginRefusal
 begun c = sym (c .before .begin-refused .ensures) ∙ c .if3 .left
 
 broken : (c : tie.After-inc-broken)
-    → incBrokenB (planOf (now (c .before .before .before .before .before .before .before .before .before .before .before .args .plan))) (statusIn (now (c .before .before .before .before .before .before .before .before .before .before .before .args .plan)) (now (c .before .before .before .before .before .before .before .before .before .before .before .args .state))) (eventOf (c .before .before .before .before .before .before .before .before .before .before .before .args .m) (c .before .before .before .before .before .before .before .before .before .before .before .args .task)) ≡ c .inc-broken .result
+    → incBrokenB (planOf (now (c .before .before .before .before .before .before .before .before .before .before .before
+    .args .plan))) (statusIn (now (c .before .before .before .before .before .before .before .before .before .before
+    .before .args .plan)) (now (c .before .before .before .before .before .before .before .before .before .before
+    .before .args .state))) (eventOf
+    (c .before .before .before .before .before .before .before .before .before .before .before .args .m)
+    (c .before .before .before .before .before .before .before .before .before .before .before .args .task))
+    ≡ c .inc-broken .result
 broken c =
     let s = c .before .before .before .before .before .before .before .before .before .before .before in
     sym (broken-by (now (s .args .plan)) (now (s .args .state)) (s .pre) (s .args .task)
-        (eventOf (s .args .m) (s .args .task)) (node-of (s .args .m) (s .args .task)) _
-        (c .before .place-of .ensures ∙ ap (λ (k : Place). placeNumber k) (place-is (s .args .m) (s .args .task))) _
-        (c .inc-broken .ensures))
+    (eventOf (s .args .m) (s .args .task)) (node-of (s .args .m) (s .args .task)) _
+    (c .before .place-of .ensures ∙ ap (λ (k : Place). placeNumber k) (place-is (s .args .m) (s .args .task))) _
+    (c .inc-broken .ensures))
 
 returns : tie.Need-returns
 returns c = answer-17 _ _ (c .before .before .before .before .pre) (c .before .before .before .before .args .task) _
@@ -66,8 +72,11 @@ returns c = answer-17 _ _ (c .before .before .before .before .pre) (c .before .b
     (sym (c .before .is-kind .ensures) ∙ not-true _ (c .if1 .taken))
 
 add-if2 : tie.Need-add-if2
-add-if2 c = omega (arith, task-below c,
-    has-room _ _ (c .before .before .before .before .pre) .plan .fits .limits .nodes)
+add-if2 c = omega (
+  arith,
+  task-below c,
+  has-room _ _ (c .before .before .before .before .pre) .plan .fits .limits .nodes,
+)
 
 shared-slice-read-if2 : tie.Need-shared-slice-read-if2
 shared-slice-read-if2 c = omega
@@ -80,8 +89,10 @@ returns-2 c = let s = c .before .before .before .before .before .before .before 
     (is-task (c .before .before .before)) (λ z. c .if2 .taken (z ∙ sym (asked-is (c .before))))
 
 begin-refused-requires : tie.Need-begin-refused-requires
-begin-refused-requires c κs = (task-below (c .before .before .before),
-    c .before .before .before .before .before .before .before .pre)
+begin-refused-requires c κs = (
+  task-below (c .before .before .before),
+  c .before .before .before .before .before .before .before .pre,
+)
 
 returns-3 : tie.Need-returns-3
 returns-3 c = let s = c .before .before .before .before .before .before .before .before .before in
@@ -90,10 +101,18 @@ returns-3 c = let s = c .before .before .before .before .before .before .before 
     (c .before .begin-refused .ensures) (c .if3 .taken)
 
 returns-4 : tie.Need-returns-4
-returns-4 c = let s = c .before .before .before .before .before .before .before .before .before .before .before .before in answer-broken _ _ (s .pre) (s .args .task) _ (node-of (s .args .m) (s .args .task)) (is-task (c .before .before .before .before .before .before .before .before)) (as-asked (c .before .before .before .before .before)) (begun (c .before .before .before)) _ (broken (c .before) ∙ c .if4 .taken)
+returns-4 c = let s = c .before .before .before .before .before .before .before .before .before .before .before .before
+    in answer-broken _ _ (s .pre) (s .args .task) _ (node-of (s .args .m) (s .args .task))
+    (is-task (c .before .before .before .before .before .before .before .before))
+    (as-asked (c .before .before .before .before .before)) (begun (c .before .before .before)) _
+    (broken (c .before) ∙ c .if4 .taken)
 
 returns-5 : tie.Need-returns-5
-returns-5 c = let s = c .before .before .before .before .before .before .before .before .before .before .before .before in answer-broken _ _ (s .pre) (s .args .task) _ (node-of (s .args .m) (s .args .task)) (is-task (c .before .before .before .before .before .before .before .before)) (as-asked (c .before .before .before .before .before)) (begun (c .before .before .before)) _ (broken (c .before) ∙ c .if4 .left)
+returns-5 c = let s = c .before .before .before .before .before .before .before .before .before .before .before .before
+    in answer-broken _ _ (s .pre) (s .args .task) _ (node-of (s .args .m) (s .args .task))
+    (is-task (c .before .before .before .before .before .before .before .before))
+    (as-asked (c .before .before .before .before .before)) (begun (c .before .before .before)) _
+    (broken (c .before) ∙ c .if4 .left)
 
 pub refused-spec : {M : Type 1} → statement M
 refused-spec =

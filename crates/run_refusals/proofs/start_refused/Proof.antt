@@ -25,8 +25,8 @@ unmet : (c : tie.After-pre-unmet)
 unmet c =
     let s = c .before .before .before .before .before .before in
     sym (c .pre-unmet .ensures ∙ ap
-        (λ (x : List ℕ). someBelow (condCount (now (s .args .plan))) (unmetAt (now (s .args .plan)) x (s .args .task)))
-        (c .before .load .ensures) ∙ unmet-is _ _ (s .pre .1) (s .args .task))
+    (λ (x : List ℕ). someBelow (condCount (now (s .args .plan))) (unmetAt (now (s .args .plan)) x (s .args .task)))
+    (c .before .load .ensures) ∙ unmet-is _ _ (s .pre .1) (s .args .task))
 
 returns : tie.Need-returns
 returns c = begin-tree _ _ _ _ (c .before .tree-refused .ensures) (c .if1 .taken)

@@ -12,9 +12,14 @@ use Rattle.run_refusals.proofs.tree_refused.Tie as tie
 
 opens : (c : tie.After-order-open)
     → c .order-open .result ≡ orderOpenB
-    (planOf (now (c .before .before .before .before .before .before .before .before .before .before .before .args .plan))) (statusIn (now (c .before .before .before .before .before .before .before .before .before .before .before .args .plan)) (now (c .before .before .before .before .before .before .before .before .before .before .before .args .state))) (c .before .before .before .before .before .before .before .before .before .before .before .args .task)
+    (planOf (now (c .before .before .before .before .before .before .before .before .before .before .before .args
+    .plan))) (statusIn (now (c .before .before .before .before .before .before .before .before .before .before
+    .before .args .plan)) (now (c .before .before .before .before .before .before .before .before .before .before
+    .before .args .state))) (c .before .before .before .before .before .before .before .before .before .before
+    .before .args .task)
 opens c = c .order-open .ensures
-    ∙ open-is _ _ (c .before .before .before .before .before .before .before .before .before .before .before .pre .1) _ _ (c .before .before .before .path .ensures .1)
+    ∙ open-is _ _ (c .before .before .before .before .before .before .before .before .before .before .before .pre .1) _
+    _ (c .before .before .before .path .ensures .1)
 
 branch-begun-requires : tie.Need-branch-begun-requires
 branch-begun-requires c κs = (c .before .before .before .before .pre, c .before .children .ensures .1)
@@ -27,8 +32,10 @@ path-requires c κs = let s = c .before .before .before .before .before .before 
     (s .pre .0, has-room _ _ (s .pre .1) .accepted)
 
 order-open-requires : tie.Need-order-open-requires
-order-open-requires c κs = (c .before .before .before .before .before .before .before .before .before .before .pre .1,
-    c .before .before .before .children2 .ensures .1)
+order-open-requires c κs = (
+  c .before .before .before .before .before .before .before .before .before .before .pre .1,
+  c .before .before .before .children2 .ensures .1,
+)
 
 returns-2 : tie.Need-returns-2
 returns-2 c = tree-20 _ _ _ (sym (c .before .before .before .before .before .before .before .branch-begun .ensures)

@@ -28,11 +28,14 @@ returns c =
     let l = c .before .before .before in
     let a = l .before .before .before .before .args in
     sym (some-yes (nodeCount (now (a .plan))) (badByte (now (a .plan)) (now (a .state))) (l .loop .i) (omega arith)
-        (sym (c .before .byte-bad .ensures) ∙ c .if1 .taken))
+    (sym (c .before .byte-bad .ensures) ∙ c .if1 .taken))
 
 loop-again : tie.Need-loop-again Inv-loop μ-loop
-loop-again c = (omega arith, none-more _ _ (c .before .before .before .loop .inv .1)
-    (sym (c .before .byte-bad .ensures) ∙ c .if1 .left))
+loop-again c = (
+  omega arith,
+  none-more _ _ (c .before .before .before .loop .inv .1)
+      (sym (c .before .byte-bad .ensures) ∙ c .if1 .left),
+)
 
 returns-2 : tie.Need-returns-2 Inv-loop μ-loop
 returns-2 c =

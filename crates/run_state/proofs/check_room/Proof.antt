@@ -19,7 +19,7 @@ returns : tie.Need-returns
 returns c =
     let a = c .before .before .before .before .args in
     c .before .check .ensures ∙ room-plan (now (a .plan)) (now (a .state))
-        (λ e. c .if1 .taken (c .before .check .ensures ∙ e))
+    (λ e. c .if1 .taken (c .before .check .ensures ∙ e))
 
 nodes-requires : tie.Need-nodes-requires
 nodes-requires c κs = accepted c .fits .limits .long

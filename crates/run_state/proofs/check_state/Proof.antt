@@ -20,7 +20,7 @@ returns : tie.Need-returns
 returns c =
     let a = c .before .before .before .before .args in
     c .before .check-room .ensures ∙ state-room (now (a .plan)) (now (a .state))
-        (λ e. c .if1 .taken (c .before .check-room .ensures ∙ e))
+    (λ e. c .if1 .taken (c .before .check-room .ensures ∙ e))
 
 flags-bad-requires : tie.Need-flags-bad-requires
 flags-bad-requires c κs = (enough c .plan .fits .limits .long, omega (arith, enough c .room))

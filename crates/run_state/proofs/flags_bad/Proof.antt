@@ -22,7 +22,7 @@ abbrev μ-loop : tie.MeasureT-loop
 bad : (c : tie.After-has Inv-loop μ-loop) →
     (leb (c .before .before .before .before .flags .result) (c .before .before .loop .f) && c .has .result)
     ≡ badFlag (now (c .before .before .before .before .before .before .before .args .plan))
-        (now (c .before .before .before .before .before .before .before .args .state)) (c .before .before .loop .f)
+    (now (c .before .before .before .before .before .before .before .args .state)) (c .before .before .loop .f)
 bad c =
     let d = c .before .before .before in
     flag-bad _ _ _ _ _ _ (d .before .flags .ensures) (d .load .ensures) (c .has .ensures) (omega arith)
@@ -35,8 +35,11 @@ returns c = sym (some-yes 64 _ (c .before .before .before .loop .f) (omega arith
     (sym (bad (c .before)) ∙ c .if1 .taken))
 
 loop-again : tie.Need-loop-again Inv-loop μ-loop
-loop-again c = (omega arith, none-more _ _ (c .before .before .before .loop .inv .1)
-    (sym (bad (c .before)) ∙ c .if1 .left))
+loop-again c = (
+  omega arith,
+  none-more _ _ (c .before .before .before .loop .inv .1)
+      (sym (bad (c .before)) ∙ c .if1 .left),
+)
 
 returns-2 : tie.Need-returns-2 Inv-loop μ-loop
 returns-2 c =

@@ -69,9 +69,12 @@ returns-2 c =
     let p = passed (l .before .before) in
     let a = l .before .before .before .before .before .before .before .args in
     let e : l .loop .k ≡ 8 + nodeCount (now (a .plan)) = omega arith in
-    record { returns = sym p; leaves = l .loop .inv .1
-        ∙ ap (λ (k : ℕ). overlay (freshByte (now (a .plan))) k (now (a .state))) e
-        ∙ fresh-accepted (now (a .plan)) (now (a .state)) p }
+    record {
+      returns = sym p;
+      leaves = l .loop .inv .1
+          ∙ ap (λ (k : ℕ). overlay (freshByte (now (a .plan))) k (now (a .state))) e
+          ∙ fresh-accepted (now (a .plan)) (now (a .state)) p;
+    }
 
 pub fresh-spec : {M : Type 1} → statement M
 fresh-spec =

@@ -62,8 +62,12 @@ module _ (p : Plan) (w : WellFormed p) (F : ℕ → Bool) where
       at : (d : Call) → EnabledCall p (statusAfter (flat (x .calls))) d
           → ViolatesCall p (worldAfter p F (flat (x .calls))) d → ⊥
       at (one e) m b = clear-no-violation p F w c
-          (record { history = flat (x .calls); event = e; execution = one-more (accepted-execution (x .accepted)) m;
-              violates = b })
+          (record {
+            history = flat (x .calls);
+            event = e;
+            execution = one-more (accepted-execution (x .accepted)) m;
+            violates = b;
+          })
 
   -- the first violation of an execution
   accepted-or-violation : {h : History} → Execution p 0 h → AcceptedAll p F (ones h) ⊎ FirstViolation p F

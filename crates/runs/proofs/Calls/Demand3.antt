@@ -96,8 +96,10 @@ module _ (p : Plan) (w : WellFormed p) (F : ℕ → Bool) where
     others = λ x. others x;
     beyond = λ x. beyond x;
     judged = (verdict p F, (verdict-exact p w F (verdict p F)) .0 refl, λ u j. sym ((verdict-exact p w F u) .1 j));
-    clear = (λ c cs ns a x. never c x,
-        λ g. clear-exact .1 (λ cs. g cs (returns p (fresh F) cs) (states p (fresh F) cs) (worked p w (fresh F) cs)));
+    clear = (
+      λ c cs ns a x. never c x,
+      λ g. clear-exact .1 (λ cs. g cs (returns p (fresh F) cs) (states p (fresh F) cs) (worked p w (fresh F) cs)),
+    );
     doomed = λ d cs ns a x. doomed d x;
   }
     where

@@ -34,8 +34,10 @@ module _ (p : Plan) (w : WellFormed p) (F : ℕ → Bool) where
 
   happen-is : (h : History) (e : Event) → happen p (worldAfter p F h) e ≡ worldAfter p F (e ∷ h)
   unfolding statusAfter flagAfter lastAssertedOf
-  happen-is h e = λ i. record { status = statusAfter (e ∷ h);
-      flag = fun-ext (λ f. at (asserts p e f) (lastAsserted p h f) (F f)) i }
+  happen-is h e = λ i. record {
+    status = statusAfter (e ∷ h);
+    flag = fun-ext (λ f. at (asserts p e f) (lastAsserted p h f) (F f)) i;
+  }
     where
       at : (o l : Option Bool) (b : Bool) → Option·getD o (Option·getD l b) ≡ Option·getD (latest o l) b
       at none l b = refl
@@ -91,11 +93,11 @@ module _ (p : Plan) (w : WellFormed p) (F : ℕ → Bool) where
   unfolding returns returned
   violating-list x = let (r, v, q) = violates-from p w (After (x .calls)) (x .call) (x .enabled) (x .violates) in
       record {
-    calls = reverseAux (x .calls) (x .call ∷ []);
-    refusal = r;
-    violating = v;
-    hit = among-accepted (x .accepted) (x .call ∷ []) (number r) (top r q);
-  }
+        calls = reverseAux (x .calls) (x .call ∷ []);
+        refusal = r;
+        violating = v;
+        hit = among-accepted (x .accepted) (x .call ∷ []) (number r) (top r q);
+      }
     where
       top : (r : Refusal) → refusalOf p (After (x .calls)) (x .call) ≡ some r
           → Among (number r) (returns p (After (x .calls)) (x .call ∷ []))
@@ -110,7 +112,7 @@ module _ (p : Plan) (w : WellFormed p) (F : ℕ → Bool) where
     where
       go : (number r ≡ code (refusalOf p (After ds) c)) ⊎ Among (number r) (returns p (step p (After ds) c) cs)
           → ((g : List Call) → AcceptedAll p F g → Among (number r) (returns p (After g) cs) → FirstViolation p F)
-              → FirstViolation p F
+          → FirstViolation p F
       go (inl q) ih = let (m, b) = violates-to p w (After ds) c r v
           (sym (code-inj {o = some r} {x = refusalOf p (After ds) c} q)) in
           record { calls = ds; call = c; accepted = k; enabled = m; violates = b }

@@ -52,8 +52,10 @@ module _ (p : Plan) (w : WellFormed p) where
         (λ kn. r-map (task-done kn, complete-task p kn) (r-status _ _))
         (λ kn. r-map (all-done kn, complete-all p kn)
         (r-every-child p w (Complete p s) _ (λ c hc. r-complete-in k c (hc .node) (omega (arith, child-lt p w hc)))))
-        (λ kn. r-map (λ x. any-done (x .0) (picks-any kn) (x .1) (x .2),
-            λ d. through (complete-pick p (picks-any kn) d))
+        (λ kn. r-map (
+          λ x. any-done (x .0) (picks-any kn) (x .1) (x .2),
+          λ d. through (complete-pick p (picks-any kn) d),
+        )
         (r-some-child p w (Complete p s) _ (λ c hc. r-complete-in k c (hc .node) (omega (arith, child-lt p w hc)))))
       where
         through : PickDone p s n → (c : ℕ) × Child p n c × Complete p s c
@@ -74,7 +76,7 @@ module _ (p : Plan) (w : WellFormed p) where
     unfolding rivalB
     r-rival g b = r-map (λ x. by-branch (x .0) (x .1) (x .2 .0) (x .2 .1), from)
         (r-some-child p w (λ c. (c ≢ b) × Begun p s c) _
-            (λ c hc. r-both _ _ (r-negate _ (r-eq _ _)) (r-begun c (hc .node))))
+        (λ c hc. r-both _ _ (r-negate _ (r-eq _ _)) (r-begun c (hc .node))))
       where
         from : Rival p s g b → (c : ℕ) × Child p g c × ((c ≢ b) × Begun p s c)
         from (by-branch c hc ne t) = (c, hc, (ne, t))
@@ -84,7 +86,7 @@ module _ (p : Plan) (w : WellFormed p) where
     r-branch-begun t = r-map (to, from)
         (r-any (λ g. Picks (p .tree .kind g) × ((b : ℕ) × Child p g b × (Under p b t × Rival p s g b))) _ _
         (λ g. r-both _ _ (r-picks _) (r-some-child p w (λ b. Under p b t × Rival p s g b) _
-            (λ b hb. r-both _ _ (r-under p w b t) (r-rival g b)))))
+        (λ b hb. r-both _ _ (r-under p w b t) (r-rival g b)))))
       where
         to : (g : ℕ) × (g < p .tree .size)
             × (Picks (p .tree .kind g) × ((b : ℕ) × Child p g b × (Under p b t × Rival p s g b))) → BranchBegun p s t
@@ -103,7 +105,7 @@ module _ (p : Plan) (w : WellFormed p) where
     r-order-open t = r-map (to, from)
         (r-any (λ a. (b : ℕ) × (b < p .tree .size) × Open a b) _ _ (λ a. r-any (Open a) _ _
         (λ b. r-guarded _ _ (r-T _) (λ o. r-both _ _ (r-under p w b t)
-            (r-negate _ (r-complete a ((w .order-group a b o) .2 .node)))))))
+        (r-negate _ (r-complete a ((w .order-group a b o) .2 .node)))))))
       where
         Open : ℕ → ℕ → Type 0
         Open a b = T (p .order a b) × (Under p b t × (¬ Complete p s a))
@@ -123,7 +125,7 @@ module _ (p : Plan) (w : WellFormed p) where
     r-inc-broken e = r-map (to, from)
         (r-any (λ t. (nodeOf e ≢ t) × ((s t ≡ running) × ((f : ℕ) × (f < p .cond .flags) × Breaks t f))) _ _
         (λ t. r-both _ _ (r-negate _ (r-eq _ _))
-            (r-both _ _ (r-status _ _) (r-any (Breaks t) _ _ (λ f. r-opposite _ _)))))
+        (r-both _ _ (r-status _ _) (r-any (Breaks t) _ _ (λ f. r-opposite _ _)))))
       where
         Breaks : ℕ → ℕ → Type 0
         Breaks t f = (v : Bool) × (p .cond .sign inc t f ≡ some v) × (asserts p e f ≡ some (not v))

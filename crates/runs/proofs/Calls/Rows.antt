@@ -65,7 +65,7 @@ module _ (p : Plan) (w : WellFormed p) (a : World) where
   ready-order : {t : ℕ} → Ready p 0 (a .status) t → ¬ OrderOpen p (a .status) t
   ready-order m x = let o = w .order-group (x .earlier) (x .later) (x .ordered) in
       x .incomplete (m .ordered (o .0) (x .earlier) (x .later) (under-root p w (o .0) (child-parent p w (o .2))) (o .2)
-          (o .3) (x .ordered) (x .above))
+      (o .3) (x .ordered) (x .above))
 
   is-ready : (t : ℕ) → ¬ BranchBegun p (a .status) t → ¬ OrderOpen p (a .status) t → Ready p 0 (a .status) t
   is-ready t k₁ k₂ = record {
@@ -86,14 +86,19 @@ module _ (p : Plan) (w : WellFormed p) (a : World) where
       }
 
       from : Enabled p 0 (a .status) (start t) → None (Applies p a (one (start t))) (enabledChecks (one (start t)))
-      from (can-start m) = (λ k. k (enabled-task (can-start m)),
-          (λ k. k (m .waits), (ready-choice (m .ready), (ready-order (m .ready), tt))))
+      from (can-start m) = (
+        λ k. k (enabled-task (can-start m)),
+        (λ k. k (m .waits), (ready-choice (m .ready), (ready-order (m .ready), tt))),
+      )
   enabled-is (one (finish t)) = (to, from)
     where
       to : None (Applies p a (one (finish t))) (enabledChecks (one (finish t))) → Enabled p 0 (a .status) (finish t)
       to (k₁, (k₂, u)) = let x = force (decided (r-task p w t)) k₁ in
-          can-finish record { is-task = x .is-task; beneath = under-root p w t (x .node);
-              runs = force (decided (r-status (a .status t) running)) k₂ }
+          can-finish record {
+            is-task = x .is-task;
+            beneath = under-root p w t (x .node);
+            runs = force (decided (r-status (a .status t) running)) k₂;
+          }
 
       from : Enabled p 0 (a .status) (finish t) → None (Applies p a (one (finish t))) (enabledChecks (one (finish t)))
       from (can-finish m) = (λ k. k (enabled-task (can-finish m)), (λ k. k (m .runs), tt))

@@ -48,14 +48,22 @@ module _ (p : Plan) (F : ℕ → Bool) where
             ((may-pre-is-meet p w (u .on) (u .sign) (w .root-node)) .1
             (record { event = e; before = h; execution = fr; hit = u .needs; quiet = unasserted-all p (u .on) h q }))
         unmet h e fr u (some b) q = c .no-clobber (u .on) (u .sign)
-            (record { history = h; event = e; execution = fr;
-                clobbers = precondition (u .needs) (q ∙ ap some (sym (flag-last h (u .on) b q) ∙ u .unmet)) })
+            (record {
+              history = h;
+              event = e;
+              execution = fr;
+              clobbers = precondition (u .needs) (q ∙ ap some (sym (flag-last h (u .on) b q) ∙ u .unmet));
+            })
 
         go : (h : History) (e : Event) → Execution p 0 (e ∷ h) → Violates p (worldAfter p F h) e → ⊥
         go h e fr (inl u) = unmet h e fr u (lastAsserted p h (u .on)) refl
         go h e fr (inr b) = c .no-clobber (b .on) (b .sign)
-            (record { history = h; event = e; execution = fr;
-                clobbers = incondition (b .who) (b .another) (b .holds) (b .runs) (b .breaks) })
+            (record {
+              history = h;
+              event = e;
+              execution = fr;
+              clobbers = incondition (b .who) (b .another) (b .holds) (b .runs) (b .breaks);
+            })
 
     -- a literal that may fail does so in a violation
     pub may-fail-violates : (f : ℕ) (v : Bool) → MayFail p F f v → Violation p F
@@ -71,8 +79,12 @@ module _ (p : Plan) (F : ℕ → Bool) where
       history = m .holds .before;
       event = m .holds .event;
       execution = earlier-execution p w (m .holds .at) (m .completed .execution);
-      violates = inl (record { on = f; sign = v; needs = m .holds .needs;
-          unmet = flag-none (m .holds .before) f (m .holds .unasserted) ∙ q });
+      violates = inl (record {
+        on = f;
+        sign = v;
+        needs = m .holds .needs;
+        unmet = flag-none (m .holds .before) f (m .holds .unasserted) ∙ q;
+      });
     }
 
     pub decViolates : (a : World) (e : Event) → Dec (Violates p a e)

@@ -55,7 +55,7 @@ module _ (p : Plan) (w : WellFormed p) where
   pick-join k hc none-yet = none-yet
   pick-join {n} {c} k hc (one-more {e = e} {h = h} f m) = one-more (pick-join k hc f)
       (enabled-up p w (statusAfter h) hc m
-          (λ be. record { choice = λ k′. no-rival hc f; ordered = λ a ha o. absurd (no-order a k hc o) }))
+      (λ be. record { choice = λ k′. no-rival hc f; ordered = λ a ha o. absurd (no-order a k hc o) }))
 
   -- the branch that has begun
   pub data OneOf (n : ℕ) (h : History) : Type 0 where
@@ -76,7 +76,7 @@ module _ (p : Plan) (w : WellFormed p) where
           (by-branch c hc (λ q. ne (sym q)) (begun-last f))
       not-other d hd u ne (inr busy) =
           let idle : statusAfter (e′ ∷ h) (nodeOf e) ≡ waiting =
-              execution-outside f (nodeOf e) (λ v. ne (one-branch p w hd hc u v)) in
+          execution-outside f (nodeOf e) (λ v. ne (one-branch p w hd hc u v)) in
           clash cc
 
       same : (b : Branch p n (nodeOf e)) → Dec (b .via ≡ c) → OneOf n (e ∷ e′ ∷ h)

@@ -35,8 +35,10 @@ module _ (p : Plan) (w : WellFormed p) where
   grow-task {n} h k f = go (statusAfter h n) refl
     where
       go : (s : Status) → statusAfter h n ≡ s → Extended n h
-      go waiting q = record { more = finish n ∷ start n ∷ [];
-          completed = task-finish k (after-same (start n) h) (task-start k q f) }
+      go waiting q = record {
+        more = finish n ∷ start n ∷ [];
+        completed = task-finish k (after-same (start n) h) (task-start k q f);
+      }
       go running q = record { more = finish n ∷ []; completed = task-finish k q f }
       go done q = record { more = []; completed = record { execution = f; complete = task-done k q } }
 
@@ -71,8 +73,10 @@ module _ (p : Plan) (w : WellFormed p) where
       (g .more, g .completed, all-anything (g .more))) (λ a b ha hb d o. inl tt) f)
     where
       build : Staged p w Anything n h (λ c. Unit {0}) → Extended n h
-      build s = record { more = s .more;
-          completed = record { execution = s .execution; complete = all-done k (λ c hc. s .got c hc tt) } }
+      build s = record {
+        more = s .more;
+        completed = record { execution = s .execution; complete = all-done k (λ c hc. s .got c hc tt) };
+      }
 
   -- every execution of a node extends to a completed one
   pub extends : (n : ℕ) → Node p n → (h : History) → Execution p n h → Extended n h

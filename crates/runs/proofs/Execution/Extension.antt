@@ -48,13 +48,13 @@ module _ (p : Plan) (w : WellFormed p) where
       add : Execution p n (g ++ h) → Execution p n (e ∷ (g ++ h))
       add f′ = one-more f′ (enabled-up p w (statusAfter (g ++ h)) hc
           (enabled-local p (statusAfter (g ++ part p w c h)) (statusAfter (g ++ h))
-              (agree-append c g (part p w c h) h (after-part p w c h))
+          (agree-append c g (part p w c h) h (after-part p w c h))
           (execution-last p w q)) (λ be. no-choice p w k (λ a ha oa. complete-stays g h f′ (o a ha oa))))
 
   pub extend-completed : {n c : ℕ} (g h : History) → p .tree .kind n ≡ all-of → Child p n c
       → ((a : ℕ) → Child p n a → T (p .order a c) → Complete p (statusAfter h) a)
       → Execution p n h → Completed p c (g ++ part p w c h)
-          → Execution p n (g ++ h) × Complete p (statusAfter (g ++ h)) c
+      → Execution p n (g ++ h) × Complete p (statusAfter (g ++ h)) c
   extend-completed {n} {c} g h k hc o f q = (
     extend g h k hc o f (q .execution),
     complete-local p (statusAfter (g ++ part p w c h)) (statusAfter (g ++ h))

@@ -76,7 +76,7 @@ module _ (p : Plan) (w : WellFormed p) where
   final-all n k ih e h f d =
       let b : Branch p n (nodeOf e) = branch-of p w (statusAfter h) k (execution-last p w f) in
       ih (b .via) (b .child) e (part p w (b .via) h)
-          (rw (part-in p w (b .via) e h (b .beneath)) at (part-execution p w (child-under p (b .child)) f))
+      (rw (part-in p w (b .via) e h (b .beneath)) at (part-execution p w (child-under p (b .child)) f))
       ((part-complete p w (b .via) h) .0 (complete-all p k d (b .via) (b .child)))
 
   final-pick : (n : ℕ) → Picks (p .tree .kind n) → ((c : ℕ) → Child p n c → Final c) → Final n
@@ -122,7 +122,7 @@ module _ (p : Plan) (w : WellFormed p) where
       go (x ∷ l) r = absurd (final a (ha .node) e (part p w a h)
           (rw (part-in p w a e h u) at (part-execution p w (child-under p ha) f))
           ((part-complete p w a h) .0 (before-complete (execution-tail p w f) hb q
-              (part-begun h (child-under p hb) (execution-tail p w f) r))))
+          (part-begun h (child-under p hb) (execution-tail p w f) r))))
 
   -- an event under c comes next: what stands before c is completed
   pub completed-before : {n a c : ℕ} (e : Event) (h : History) → Child p n c → Execution p n (e ∷ h)
@@ -131,7 +131,7 @@ module _ (p : Plan) (w : WellFormed p) where
   completed-before {n} {a} {c} e h hc fr u q =
       let ha : Child p n a = before-child p w hc q in
       let ne : ¬ Under p a (nodeOf e) =
-          λ x. omega (arith, before-rank p w q, ap (w .rank) (one-branch p w ha hc x u)) in
+      λ x. omega (arith, before-rank p w q, ap (w .rank) (one-branch p w ha hc x u)) in
       let took : Begun p (statusAfter (e ∷ h)) c = part-begun (e ∷ h) (child-under p hc) fr (part-in p w c e h u) in
       record {
         execution = part-execution p w (child-under p ha) (execution-tail p w fr);

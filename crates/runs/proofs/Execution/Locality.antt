@@ -28,8 +28,12 @@ module _ (p : Plan) where
       any-done c k hc (complete-local s r (agree-child s r (child-under p hc) a) d)
 
   pub begun-local : (s r : State) {n : ℕ} → Agree n s r → Begun p s n → Begun p r n
-  begun-local s r a t = record { who = t .who; is-task = t .is-task; beneath = t .beneath;
-      begun = λ e. t .begun (a (t .who) (t .beneath) ∙ e) }
+  begun-local s r a t = record {
+    who = t .who;
+    is-task = t .is-task;
+    beneath = t .beneath;
+    begun = λ e. t .begun (a (t .who) (t .beneath) ∙ e);
+  }
 
   rival-local : (s r : State) {n g b : ℕ} → Agree n s r → Under p n g → Rival p s g b → Rival p r g b
   rival-local s r a u (by-branch c hc ne t) =
@@ -67,8 +71,10 @@ module _ (p : Plan) where
 
   -- what is allowed at n is allowed at each node under n that the task is under
   ready-down : (s : State) {n c t : ℕ} → Under p n c → Ready p n s t → Ready p c s t
-  ready-down s u m = record { choice = λ g b k ug. m .choice g b k (under-trans p u ug);
-      ordered = λ g x y ug. m .ordered g x y (under-trans p u ug) }
+  ready-down s u m = record {
+    choice = λ g b k ug. m .choice g b k (under-trans p u ug);
+    ordered = λ g x y ug. m .ordered g x y (under-trans p u ug);
+  }
 
   pub enabled-down : (s : State) {n c : ℕ} {e : Event} → Under p n c → Under p c (nodeOf e) → Enabled p n s e
       → Enabled p c s e
@@ -110,7 +116,7 @@ module _ (p : Plan) where
             q .choice (rw e k) (rw (e, same) x)
         choose-at g b k hb ub (inr r) x =
             let same : r .via ≡ c = one-branch p w (r .child) hc
-                (under-trans p (r .beneath) (under-trans p (child-under p hb) ub)) ut in
+            (under-trans p (r .beneath) (under-trans p (child-under p hb) ub)) ut in
             m .choice g b k (rw (← same) (r .beneath)) hb ub x
 
         order-at : (g a b : ℕ) → Child p g a → Child p g b → T (p .order a b) → Under p b t → (n ≡ g) ⊎ Branch p n g
@@ -120,7 +126,7 @@ module _ (p : Plan) where
             q .ordered a (rw e ha) (rw (one-branch p w hc hb′ ut ub) o)
         order-at g a b ha hb o ub (inr r) =
             let same : r .via ≡ c = one-branch p w (r .child) hc
-                (under-trans p (r .beneath) (under-trans p (child-under p hb) ub)) ut in
+            (under-trans p (r .beneath) (under-trans p (child-under p hb) ub)) ut in
             m .ordered g a b (rw (← same) (r .beneath)) ha hb o ub
 
     -- what is enabled at a child is enabled at its parent, if the parent lets it begin
@@ -133,19 +139,26 @@ module _ (p : Plan) where
       ready = ready-up s hc (m .beneath) (m .ready) (q tt);
     }
     enabled-up s hc (can-finish m) q =
-        can-finish record { is-task = m .is-task; beneath = under-trans p (child-under p hc) (m .beneath);
-        runs = m .runs }
+        can-finish record {
+          is-task = m .is-task;
+          beneath = under-trans p (child-under p hc) (m .beneath);
+          runs = m .runs;
+        }
 
     -- decomposition: an event under the child c is enabled at n exactly if it is enabled at c and n lets it begin
     pub enabled-at-child : (s : State) {n c : ℕ} {e : Event} → Child p n c → Under p c (nodeOf e)
         → Enabled p n s e ↔ (Enabled p c s e × AdmitsEvent n c s e)
-    enabled-at-child s hc u = (λ m. (enabled-down s (child-under p hc) u m, admits-of s hc u m),
-        λ x. enabled-up s hc (x .0) (x .1))
+    enabled-at-child s hc u = (
+      λ m. (enabled-down s (child-under p hc) u m, admits-of s hc u m),
+      λ x. enabled-up s hc (x .0) (x .1),
+    )
 
     -- nothing stands above a node by itself
     pub own-ready : (s : State) (n : ℕ) → Ready p n s n
-    own-ready s n = record { choice = λ g b kg ug hb ub. no-group-above ug hb ub;
-        ordered = λ g a b ug ha hb o ub. no-group-above ug hb ub }
+    own-ready s n = record {
+      choice = λ g b kg ug hb ub. no-group-above ug hb ub;
+      ordered = λ g a b ug ha hb o ub. no-group-above ug hb ub;
+    }
       where
         no-group-above : {A : Type 0} {n g b : ℕ} → Under p n g → Child p g b → Under p b n → A
         no-group-above u hb v = absurd (omega (arith, under-le p w u, child-lt p w hb, under-le p w v))

@@ -57,7 +57,7 @@ module _ (p : Plan) (w : WellFormed p) where
       go : Dec (Under p c (nodeOf e)) → Execution p c (part c h) → Execution p c (part c (e ∷ h))
       go (yes v) ih = rw (part-in c e h v) (one-more ih (enabled-local p (statusAfter h) (statusAfter (part c h))
           (agree-sym p c (statusAfter (part c h)) (statusAfter h) (after-part c h))
-              (enabled-down p (statusAfter h) u v m)))
+          (enabled-down p (statusAfter h) u v m)))
       go (no k) ih = rw (part-out c e h k) ih
 
   -- and the node is complete after its part exactly if it is after the whole history

@@ -54,5 +54,8 @@ module _ (p : Plan) (w : WellFormed p) where
   pub none-runs : {n : ℕ} {h : History} → Node p n → Execution p n h → Complete p (statusAfter h) n → (x : ℕ)
       → statusAfter h x ≡ running → ⊥
   none-runs {n} {h} l f d x q = final p w n l (finish x) h
-      (one-more f (can-finish record { is-task = running-task f x q; beneath = moved-under f x (running-moved q);
-          runs = q })) d
+      (one-more f (can-finish record {
+        is-task = running-task f x q;
+        beneath = moved-under f x (running-moved q);
+        runs = q;
+      })) d

@@ -35,7 +35,7 @@ module _ (p : Plan) (w : WellFormed p) where
     stage-add : {D : ℕ → Type 0} (i : ℕ) → Child p n i → ¬ D i
         → ((a : ℕ) → Child p n a → T (p .order a i) → D a ⊎ Complete p (statusAfter h) a)
         → (r : History) → Completed p i (r ++ part p w i h) → All Q r → Staged Q n h D
-            → Staged Q n h (λ c. D c ⊎ (c ≡ i))
+        → Staged Q n h (λ c. D c ⊎ (c ≡ i))
     stage-add {D} i hi nd o r wh q s = record {
       more = r ++ s .more;
       execution = rw append-assoc free′;
@@ -59,18 +59,18 @@ module _ (p : Plan) (w : WellFormed p) where
         got′ c hc (inr e) = rw e (complete-local p (statusAfter (r ++ part p w i (s .more ++ h)))
             (statusAfter (r ++ (s .more ++ h)))
             (agree-append p w i r (part p w i (s .more ++ h)) (s .more ++ h) (after-part p w i (s .more ++ h)))
-                (wh′ .complete))
+            (wh′ .complete))
 
         kept′ : (c : ℕ) → Child p n c → ¬ (D c ⊎ (c ≡ i)) → part p w c (r ++ (s .more ++ h)) ≡ part p w c h
         kept′ c hc nd′ = part-append p w c r (s .more ++ h)
             ∙ rw (part-other p w hi hc (λ e. nd′ (inr (sym e)))
-                (all-left r (part p w i (s .more ++ h)) (execution-under p w (wh′ .execution))))
+            (all-left r (part p w i (s .more ++ h)) (execution-under p w (wh′ .execution))))
             (s .kept c hc (λ d. nd′ (inl d)))
 
     module _ (D : ℕ → Type 0) (decD : (c : ℕ) → Dec (D c))
         (history : (c : ℕ) → Child p n c → D c → (r : History) × Completed p c (r ++ part p w c h) × All Q r)
         (closed : (a b : ℕ) → Child p n a → Child p n b → D b → T (p .order a b)
-            → D a ⊎ Complete p (statusAfter h) a) where
+        → D a ⊎ Complete p (statusAfter h) a) where
       abbrev Upto : ℕ → ℕ → ℕ → Type 0
       Upto r i c = D c × ((w .rank c < r) ⊎ ((w .rank c ≡ r) × (c < i)))
 
@@ -133,8 +133,13 @@ module _ (p : Plan) (w : WellFormed p) where
       stage-row r (suc i) s = stage-step r i (stage-row r i s)
 
       stage-rows : (r : ℕ) → Execution p n h → Staged Q n h (Upto r 0)
-      stage-rows zero f = record { more = []; execution = f; got = λ c hc u. absurd (none-at c (u .1));
-          kept = λ c hc nd. refl; good = all-nil }
+      stage-rows zero f = record {
+        more = [];
+        execution = f;
+        got = λ c hc u. absurd (none-at c (u .1));
+        kept = λ c hc nd. refl;
+        good = all-nil;
+      }
         where
           none-at : (c : ℕ) → (w .rank c < 0) ⊎ ((w .rank c ≡ 0) × (c < 0)) → ⊥
           none-at c (inl x) = omega arith

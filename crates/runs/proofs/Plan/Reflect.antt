@@ -51,7 +51,7 @@ module _ (p : Plan) where
   unfolding childB
   r-child g c = r-map {A = (0 < c) × (T (p .tree .here c) × (p .tree .parent c ≡ g))}
       (λ x. record { not-root = x .0; node = x .1 .0; up = x .1 .1 }, λ h. (h .not-root, (h .node, h .up)))
-          (search reflection)
+      (search reflection)
 
   pub decChild : (g c : ℕ) → Dec (Child p g c)
   decChild g c = decided (r-child g c)
@@ -61,8 +61,10 @@ module _ (p : Plan) where
     pub r-some-child : {g : ℕ} (P : ℕ → Type 0) (t : ℕ → Bool) → ((c : ℕ) → Child p g c → Reflects (t c) (P c))
         → Reflects (someChildB p g t) ((c : ℕ) × Child p g c × P c)
     unfolding someChildB
-    r-some-child {g} P t r = r-map (λ x. (x .0, x .2 .0, x .2 .1),
-        λ x. (x .0, w .node-below (x .0) (x .1 .node), (x .1, x .2)))
+    r-some-child {g} P t r = r-map (
+      λ x. (x .0, x .2 .0, x .2 .1),
+      λ x. (x .0, w .node-below (x .0) (x .1 .node), (x .1, x .2)),
+    )
         (r-any (λ c. Child p g c × P c) _ _ (λ c. r-guarded _ _ (r-child g c) (r c)))
 
     pub r-every-child : {g : ℕ} (P : ℕ → Type 0) (t : ℕ → Bool) → ((c : ℕ) → Child p g c → Reflects (t c) (P c))
@@ -110,7 +112,7 @@ module _ (p : Plan) where
       λ x. (x .0, w .node-below (x .0) (under-node p l (x .1)), (x .1, (x .2, x .3))),
     )
         (r-any (λ t. Under p c t × ((p .tree .kind t ≡ task) × P t)) _ _
-            (λ t. r-both _ _ (r-under c t) (r-both _ _ (r-kind _ _) (r t))))
+        (λ t. r-both _ _ (r-under c t) (r-both _ _ (r-kind _ _) (r t))))
 
     -- chains of orders
     abbrev Along : ℕ → ℕ → Type 0

@@ -66,7 +66,7 @@ module _ (p : Plan) where
     under-root-in (suc k) zero b l = itself
     under-root-in (suc k) (suc t) b l = below {n = suc t} (omega arith) l
         (under-root-in k (p .tree .parent (suc t)) (omega (arith, w .parent-lower (suc t) (omega arith) l))
-            (w .parent-node (suc t) (omega arith) l))
+        (w .parent-node (suc t) (omega arith) l))
 
     -- every node is under the root
     pub under-root : (t : ℕ) → Node p t → Under p 0 t

@@ -48,8 +48,10 @@ module _ (p : Plan) (w : WellFormed p) where
       -- at a task: it has the condition
       pub pre-task : (n : ℕ) → ExternalPre p f v (whole n) ↔ (p .cond .sign pre n f ≡ some v)
       unfolding lastAssertedOf
-      pre-task n = (λ x. at (x .needs) (one-of n (x .at)),
-          λ q. record { event = start n; before = []; at = one-later none-later; needs = q; unasserted = refl })
+      pre-task n = (
+        λ x. at (x .needs) (one-of n (x .at)),
+        λ q. record { event = start n; before = []; at = one-later none-later; needs = q; unasserted = refl },
+      )
         where
           at : {e : Event} → PreOn p f v e → (e ≡ finish n) ⊎ (e ≡ start n) → p .cond .sign pre n f ≡ some v
           at q (inl z) = let y : PreOn p f v (finish n) = rw z at q in clash cc
@@ -79,17 +81,27 @@ module _ (p : Plan) (w : WellFormed p) where
       -- may need, all-of: some child may need it, and all that stands before that child can avoid the flag
       pub may-pre-all : {n : ℕ} → Node p n → p .tree .kind n ≡ all-of
           → May p n (ExternalPre p f v) ↔
-              ((c : ℕ) × Child p n c × May p c (ExternalPre p f v) × ((a : ℕ) → Before p a c → Avoids a))
+          ((c : ℕ) × Child p n c × May p c (ExternalPre p f v) × ((a : ℕ) → Before p a c → Avoids a))
       may-pre-all l k = Iff·trans (may-pre-is-meet p w f v l)
           (Iff·trans (meet-all p w (Unasserted p f) (PreOn p f v) k) (
-        λ x. (x .0, x .1, (may-pre-is-meet p w f v (x .1 .node)) .1 (x .2), λ a q. (avoid-is-quiet p f) .1 (x .3 a q)),
-        λ x. (x .0, x .1, (may-pre-is-meet p w f v (x .1 .node)) .0 (x .2), λ a q. (avoid-is-quiet p f) .0 (x .3 a q)),
-      ))
+            λ x. (
+              x .0,
+              x .1,
+              (may-pre-is-meet p w f v (x .1 .node)) .1 (x .2),
+              λ a q. (avoid-is-quiet p f) .1 (x .3 a q),
+            ),
+            λ x. (
+              x .0,
+              x .1,
+              (may-pre-is-meet p w f v (x .1 .node)) .0 (x .2),
+              λ a q. (avoid-is-quiet p f) .0 (x .3 a q),
+            ),
+          ))
 
       -- may leave, all-of: some child may leave it, and all that stands after that child can avoid the flag
       pub may-post-all : {n : ℕ} → p .tree .kind n ≡ all-of
           → May p n (ExternalPost p f v) ↔
-              ((c : ℕ) × Child p n c × May p c (ExternalPost p f v) × ((b : ℕ) → Child p n b → Before p c b → Avoids b))
+          ((c : ℕ) × Child p n c × May p c (ExternalPost p f v) × ((b : ℕ) → Child p n b → Before p c b → Avoids b))
       may-post-all k = Iff·trans (may-post-is-last p f v) (Iff·trans (last-all p w (Unasserted p f) (Asserts p f v) k) (
         λ x. (x .0, x .1, (may-post-is-last p f v) .1 (x .2), λ b hb q. (avoid-is-quiet p f) .1 (x .3 b hb q)),
         λ x. (x .0, x .1, (may-post-is-last p f v) .0 (x .2), λ b hb q. (avoid-is-quiet p f) .0 (x .3 b hb q)),
@@ -103,8 +115,12 @@ module _ (p : Plan) (w : WellFormed p) where
           → May p n (Incondition p f v) ↔ ((c : ℕ) × Child p n c × May p c (Incondition p f v))
       may-inc-all l k = Iff·trans (may-inc-is-meet p f v w l) (Iff·trans (meet-all p w Anything (BeginsInc p f v) k) (
         λ x. (x .0, x .1, (may-inc-is-meet p f v w (x .1 .node)) .1 (x .2)),
-        λ x. (x .0, x .1, (may-inc-is-meet p f v w (x .1 .node)) .0 (x .2),
-            λ a q. quiet-anything p w a ((before-child p w (x .1) q) .node)),
+        λ x. (
+          x .0,
+          x .1,
+          (may-inc-is-meet p f v w (x .1 .node)) .0 (x .2),
+          λ a q. quiet-anything p w a ((before-child p w (x .1) q) .node),
+        ),
       ))
 
       pub must-inc-all : {n : ℕ} → p .tree .kind n ≡ all-of

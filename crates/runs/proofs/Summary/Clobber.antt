@@ -29,8 +29,12 @@ module _ (p : Plan) (w : WellFormed p) where
     λ x. let (c, hc, g) = any-split p w k (x .execution) in
         (c, hc, record { history = x .history; event = x .event; execution = g; clobbers = x .clobbers }),
     λ y. let x = y .2 in
-        record { history = x .history; event = x .event; execution = pick-join p w (picks-any k) (y .1) (x .execution);
-            clobbers = x .clobbers },
+        record {
+          history = x .history;
+          event = x .event;
+          execution = pick-join p w (picks-any k) (y .1) (x .execution);
+          clobbers = x .clobbers;
+        },
   )
 
   -- no task does

@@ -49,9 +49,12 @@ module _ (p : Plan) (f : ℕ) (v : Bool) where
             record {
               history = g .more ++ (m .event ∷ m .before);
               completed = g .completed;
-              holds = begun-incondition (record
-                  { event = m .event; before = m .before; at = earlier-append (g .more) (m .event ∷ m .before);
-                  begins = m .hit });
+              holds = begun-incondition (record {
+                event = m .event;
+                before = m .before;
+                at = earlier-append (g .more) (m .event ∷ m .before);
+                begins = m .hit;
+              });
             }
 
     -- must incondition: no completed execution is without such an event
@@ -67,8 +70,12 @@ module _ (p : Plan) (f : ℕ) (v : Bool) where
           where
             go : Dec (BeginsInc p f v e) → All (λ e. ¬ BeginsInc p f v e) h ⊎ Begun h
                 → All (λ e. ¬ BeginsInc p f v e) (e ∷ h) ⊎ Begun (e ∷ h)
-            go d (inr x) = inr (record { event = x .event; before = x .before; at = one-later (x .at);
-                begins = x .begins })
+            go d (inr x) = inr (record {
+              event = x .event;
+              before = x .before;
+              at = one-later (x .at);
+              begins = x .begins;
+            })
             go (no k) (inl a) = inl (all-cons k a)
             go (yes q) (inl a) = inr (record { event = e; before = h; at = none-later; begins = q })
 

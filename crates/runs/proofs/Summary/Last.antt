@@ -26,8 +26,14 @@ module _ {Q H : Event → Type 0} where
   last-at (here {e = e} {r = r} x) =
       record { later = []; event = e; before = r; splits = refl; hit = x; quiet = all-nil }
   last-at (past {e = e} q l) = let a = last-at l in
-      record { later = e ∷ a .later; event = a .event; before = a .before; splits = ap (λ z. e ∷ z) (a .splits);
-          hit = a .hit; quiet = all-cons q (a .quiet) }
+      record {
+        later = e ∷ a .later;
+        event = a .event;
+        before = a .before;
+        splits = ap (λ z. e ∷ z) (a .splits);
+        hit = a .hit;
+        quiet = all-cons q (a .quiet);
+      }
 
   pub last-past : {g h : History} → All Q g → LastIs Q H h → LastIs Q H (g ++ h)
   last-past all-nil l = l
@@ -84,7 +90,7 @@ module _ (p : Plan) (w : WellFormed p) (Q H : Event → Type 0) where
       quiet-after : (a : ℕ) → Child p n a → Before p c a → MayQuiet p Q a
       quiet-after a ha q′ =
           let ne : ¬ Under p a (nodeOf e) =
-              λ v. omega (arith, before-rank p w q′, ap (w .rank) (one-branch p w hc ha u v)) in
+          λ v. omega (arith, before-rank p w q′, ap (w .rank) (one-branch p w hc ha u v)) in
           let nil : part p w a (e ∷ r) ≡ [] = part-out p w a e r ne ∙ apart p w fr ha q′ u in
           record {
             history = part p w a (g ++ (e ∷ r));
@@ -105,7 +111,7 @@ module _ (p : Plan) (w : WellFormed p) (Q H : Event → Type 0) where
   module _ {n : ℕ} (k : p .tree .kind n ≡ all-of) (D : ℕ → Type 0) (decD : (a : ℕ) → Dec (D a))
       (closed : (a b : ℕ) → D b → T (p .order a b) → D a)
       (d : ℕ) (hd : Child p n d) (dd : D d) (m : MayLast p Q H d)
-          (after : (b : ℕ) → Child p n b → D b → Before p d b → MayQuiet p Q b) where
+      (after : (b : ℕ) → Child p n b → D b → Before p d b → MayQuiet p Q b) where
     abbrev Sooner : ℕ → Type 0
     Sooner a = D a × (a ≢ d) × (¬ Before p d a)
 
@@ -150,8 +156,11 @@ module _ (p : Plan) (w : WellFormed p) (Q H : Event → Type 0) where
 
     first : Staged p w Anything n [] Sooner
     first = quiet-stage p w Anything k Sooner decSooner
-        (λ a b ha hb x o. (closed a b (x .0) o, (λ e. x .2 (direct (rw e at o))),
-            λ q. x .2 (before-trans p q (direct o)))) (λ a ha x. quiet-anything p w a (ha .node))
+        (λ a b ha hb x o. (
+          closed a b (x .0) o,
+          (λ e. x .2 (direct (rw e at o))),
+          λ q. x .2 (before-trans p q (direct o)),
+        )) (λ a ha x. quiet-anything p w a (ha .node))
 
     abbrev h₁ : History
     h₁ = first .more ++ []
@@ -161,8 +170,11 @@ module _ (p : Plan) (w : WellFormed p) (Q H : Event → Type 0) where
 
     second : Execution p n (m .history ++ h₁) × Complete p (statusAfter (m .history ++ h₁)) d
     second = extend-completed p w (m .history) h₁ k hd
-        (λ a ha o. first .got a ha (closed a d dd o, (λ e. before-irrefl p w (direct (rw e at o))),
-            λ q. before-irrefl p w (before-trans p q (direct o))))
+        (λ a ha o. first .got a ha (
+          closed a d dd o,
+          (λ e. before-irrefl p w (direct (rw e at o))),
+          λ q. before-irrefl p w (before-trans p q (direct o)),
+        ))
         (first .execution) (rw (empty₁ d hd (λ x. x .1 refl), append-nil (m .history)) (m .completed))
 
     abbrev h₂ : History
@@ -177,9 +189,12 @@ module _ (p : Plan) (w : WellFormed p) (Q H : Event → Type 0) where
 
     third : Staged p w Q n h₂ Later
     third = stage p w Q n k h₂ Later decLater
-        (λ a ha x. let y = after a ha (x .0) (x .1) in
-        (y .history, rw (empty₂ a ha (λ e. not-self e (x .1)) (λ z. z .2 (x .1)), append-nil (y .history))
-            (y .completed), y .holds))
+        (λ a ha x. let y = after a ha (x .0) (x .1) in (
+          y .history,
+          rw (empty₂ a ha (λ e. not-self e (x .1)) (λ z. z .2 (x .1)), append-nil (y .history))
+              (y .completed),
+          y .holds,
+        ))
         (λ a b ha hb x o. at a ha (closed a b (x .0) o) (position a)) (second .0)
       where
         at : (a : ℕ) → Child p n a → D a → Position a → Later a ⊎ Complete p (statusAfter h₂) a
@@ -208,9 +223,11 @@ module _ (p : Plan) (w : WellFormed p) (Q H : Event → Type 0) where
       build (ending k (λ a. Unit {0}) (λ a. yes tt) (λ a b x o. tt) c hc tt m (λ b hb x q. after b hb q))
     where
       build : Ending n (λ a. Unit {0}) → MayLast p Q H n
-      build s = record { history = s .history;
-          completed = record { execution = s .execution; complete = all-done k (λ a ha. s .got a ha tt) };
-          holds = s .is }
+      build s = record {
+        history = s .history;
+        completed = record { execution = s .execution; complete = all-done k (λ a ha. s .got a ha tt) };
+        holds = s .is;
+      }
 
   -- all-of: some child ends with H, and all that stands after it is quiet
   pub last-all : {n : ℕ} → p .tree .kind n ≡ all-of → MayLast p Q H n ↔ LastAll n

@@ -12,8 +12,10 @@ whole n = finish n ∷ start n ∷ []
 module _ (p : Plan) (w : WellFormed p) (P : History → Type 0) where
   -- a task: its one completed execution has the property
   pub may-task : {n : ℕ} → p .tree .kind n ≡ task → May p n P ↔ P (whole n)
-  may-task {n} k = (λ m. rw (task-completed p w k (m .completed)) at (m .holds),
-      λ x. record { history = whole n; completed = task-ended p w k; holds = x })
+  may-task {n} k = (
+    λ m. rw (task-completed p w k (m .completed)) at (m .holds),
+    λ x. record { history = whole n; completed = task-ended p w k; holds = x },
+  )
 
   pub must-task : {n : ℕ} → p .tree .kind n ≡ task → Must p n P ↔ P (whole n)
   must-task {n} k = (λ m. m (whole n) (task-ended p w k), λ x h y. rw (task-completed p w k y) x)
@@ -23,8 +25,11 @@ module _ (p : Plan) (w : WellFormed p) (P : History → Type 0) where
   may-any k = (
     λ m. let (c, hc, x) = any-completed p w k (m .completed) in
         (c, hc, record { history = m .history; completed = x; holds = m .holds }),
-    λ x. record { history = x .2 .history; completed = completed-pick p w (picks-any k) (x .1) (x .2 .completed);
-        holds = x .2 .holds },
+    λ x. record {
+      history = x .2 .history;
+      completed = completed-pick p w (picks-any k) (x .1) (x .2 .completed);
+      holds = x .2 .holds;
+    },
   )
 
   pub must-any : {n : ℕ} → p .tree .kind n ≡ any-of → Must p n P ↔ ((c : ℕ) → Child p n c → Must p c P)

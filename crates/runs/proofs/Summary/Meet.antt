@@ -23,8 +23,13 @@ module _ (p : Plan) (w : WellFormed p) (Q H : Event → Type 0) where
 
       from : H (start n) ⊎ (Q (start n) × H (finish n)) → MayMeet p Q H n
       from (inl h) = record { event = start n; before = []; execution = task-begun p w k; hit = h; quiet = all-nil }
-      from (inr (q, h)) = record { event = finish n; before = start n ∷ []; execution = task-ended p w k .execution;
-          hit = h; quiet = all-cons q all-nil }
+      from (inr (q, h)) = record {
+        event = finish n;
+        before = start n ∷ [];
+        execution = task-ended p w k .execution;
+        hit = h;
+        quiet = all-cons q all-nil;
+      }
 
   -- any-of: some branch
   pub meet-any : {n : ℕ} → p .tree .kind n ≡ any-of → MayMeet p Q H n ↔ ((c : ℕ) × Child p n c × MayMeet p Q H c)
@@ -81,8 +86,10 @@ module _ (p : Plan) (w : WellFormed p) (Q H : Event → Type 0) where
         quiet = all-append (m .quiet) (all-append (s .good) all-nil);
         execution = extend p w (m .event ∷ m .before) (s .more ++ []) k hc (λ a ha o. s .got a ha (direct o))
             (s .execution)
-            (rw (s .kept c hc (λ q. omega (arith, before-rank p w q)) ∙ part-nil p w c,
-                append-nil (m .event ∷ m .before)) (m .execution));
+            (rw (
+              s .kept c hc (λ q. omega (arith, before-rank p w q)) ∙ part-nil p w c,
+              append-nil (m .event ∷ m .before),
+            ) (m .execution));
       }
 
   -- all-of: some child meets H, and all that stands before it is quiet

@@ -63,7 +63,7 @@ module _ (p : Plan) (w : WellFormed p) where
   -- a part's last assertion is the history's, if no other one comes after the part has begun
   pub last-of-part : (f : ℕ) (u : Bool) (c : ℕ) (r : History)
       → ((e : Event) (s : History) → Earlier (e ∷ s) r → ¬ Unasserted p f e
-          → Under p c (nodeOf e) ⊎ (part p w c s ≡ []))
+      → Under p c (nodeOf e) ⊎ (part p w c s ≡ []))
       → lastAsserted p (part p w c r) f ≡ some u → lastAsserted p r f ≡ some u
   unfolding lastAssertedOf
   last-of-part f u c [] k q = rw (part-nil p w c) at q
@@ -95,7 +95,7 @@ module _ (p : Plan) (w : WellFormed p) where
       -- an event that asserts is one of c, or comes before c has begun, if no child that is not before c can have it
       where-is : {c : ℕ} {e : Event} {s : History} → Child p n c → Execution p n (e ∷ s)
           → ((b : ℕ) → Child p n b → Under p b (nodeOf e) → b ≢ c → ¬ Before p b c → ⊥)
-              → Under p c (nodeOf e) ⊎ (part p w c s ≡ [])
+          → Under p c (nodeOf e) ⊎ (part p w c s ≡ [])
       where-is {c} {e} {s} hc fe others = go (ℕ-discrete (be .via) c) (decBefore p w (be .via) c)
         where
           be : Branch p n (nodeOf e)
@@ -138,7 +138,7 @@ module _ (p : Plan) (w : WellFormed p) where
       pair-fails : (c d : ℕ) → Child p n c → Child p n d → Before p d c → Must p d (ExternalPost p f (not v))
           → Must p c (ExternalPre p f v)
           → ((b : ℕ) → Child p n b → b ≢ c → b ≢ d → ¬ Before p b d → ¬ Before p c b → Silent p f b) → (h : History)
-              → Completed p n h → Fails p f v h
+          → Completed p n h → Fails p f v h
       pair-fails c d hc hd dc ml mn others h wh = record {
         event = nx .event;
         before = i .before;

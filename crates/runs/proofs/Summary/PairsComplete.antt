@@ -88,8 +88,11 @@ module _ (p : Plan) (w : WellFormed p) where
         })
         go (earlier q) = absurd (not-nil (part p w d g) (sym part-d ∙ apart p w fr (be .child) q (bt .beneath)))
         go (later q) = passed-on c d (bt .child) (be .child) q
-            (record { history = part p w d h; completed = completed-before p w ev h (bt .child) fr (bt .beneath) q;
-                holds = last-d })
+            (record {
+              history = part p w d h;
+              completed = completed-before p w ev h (bt .child) fr (bt .beneath) q;
+              holds = last-d;
+            })
             ((may-pre-is-meet p w f v (bt .child .node)) .1
             (record {
               event = ev;

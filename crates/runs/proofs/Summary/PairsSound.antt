@@ -129,7 +129,7 @@ module _ (p : Plan) (w : WellFormed p) where
             execution = extend p w (start t ∷ []) ((e ∷ r₂) ++ (r₁ ++ u .h)) kn hc
                 (λ a ha o. complete-stays p w (e ∷ r₂) (r₁ ++ u .h) two
                 (complete-stays p w r₁ (u .h) (earlier-execution p w (earlier-append (e ∷ r₂) (r₁ ++ u .h)) two)
-                    (u .done-c a ha o))) two
+                (u .done-c a ha o))) two
                 (rw (still-c u r₁ (e ∷ r₂) (execution-tail p w f₁) f₂) f₁);
           }
             where
@@ -188,10 +188,10 @@ module _ (p : Plan) (w : WellFormed p) where
     pub passed-on-clobbers : (c d : ℕ) → Child p n c → Child p n d → Before p d c → May p d (ExternalPost p f (not v))
         → May p c (ExternalPre p f v)
         → ((b : ℕ) → Child p n b → Before p d b → Before p b c → May p b (λ h. lastAsserted p h f ≡ none))
-            → Clobbered p f v n
+        → Clobbered p f v n
     passed-on-clobbers c d hc hd dc lv mn between = build ((may-pre-is-meet p w f v (hc .node)) .0 mn)
         (ending p w (Unasserted p f) (Asserts p f (not v)) kn (λ a. Before p a c) (λ a. decBefore p w a c)
-            (λ a b q o. chain o q) d hd dc
+        (λ a b q o. chain o q) d hd dc
         ((may-post-is-last p f (not v)) .0 lv) (λ b hb q₂ q₁. (avoid-is-quiet p f) .0 (between b hb q₁ q₂)))
       where
         build : MayMeet p (Unasserted p f) (PreOn p f v) c

@@ -44,8 +44,10 @@ module _ (p : Plan) (f : ℕ) where
   pub must-post-is : {n : ℕ} (v : Bool) → Must p n (ExternalPost p f v)
       ↔ ((¬ May p n (λ h. lastAsserted p h f ≡ none)) × (¬ May p n (ExternalPost p f (not v))))
   must-post-is {n} v = (
-    λ m. (λ q. never (q .history) (m (q .history) (q .completed)) (q .holds),
-        λ q. other (q .history) v (m (q .history) (q .completed)) (q .holds)),
+    λ m. (
+      λ q. never (q .history) (m (q .history) (q .completed)) (q .holds),
+      λ q. other (q .history) v (m (q .history) (q .completed)) (q .holds),
+    ),
     λ k h x. at k h x (lastAsserted p h f) refl,
   )
     where

@@ -51,13 +51,23 @@ module _ (p : Plan) (w : WellFormed p) (f : ℕ) (v : Bool) where
   outcome-next e h (all-neutral a) = go (decided (r-pre p f v e)) (decided (r-unasserted p f e))
     where
       go : Dec (PreOn p f v e) → Dec (asserts p e f ≡ none) → Outcome (e ∷ h)
-      go (yes q) d = needed (record { event = e; before = h; at = none-later; needs = q;
-          unasserted = all-unasserted p f (neutral-unasserted a) })
+      go (yes q) d = needed (record {
+        event = e;
+        before = h;
+        at = none-later;
+        needs = q;
+        unasserted = all-unasserted p f (neutral-unasserted a);
+      })
       go (no k) (yes u) = all-neutral (all-cons (k, u) a)
       go (no k) (no k′) = covered e h none-later (k, k′) a
   outcome-next e h (needed x) = needed
-      (record { event = x .event; before = x .before; at = one-later (x .at); needs = x .needs;
-      unasserted = x .unasserted })
+      (record {
+        event = x .event;
+        before = x .before;
+        at = one-later (x .at);
+        needs = x .needs;
+        unasserted = x .unasserted;
+      })
   outcome-next e h (covered x r q s a) = covered x r (one-later q) s a
 
   outcome : (h : History) → Outcome h
@@ -87,9 +97,9 @@ module _ (p : Plan) (w : WellFormed p) (f : ℕ) (v : Bool) where
       meet-not m q = let g : Extended p w n (q .event ∷ q .before) =
           extends p w n l (q .event ∷ q .before) (q .execution) in
           let x : ExternalPre p f v (g .more ++ (q .event ∷ q .before)) =
-              m (g .more ++ (q .event ∷ q .before)) (g .completed) in
+          m (g .more ++ (q .event ∷ q .before)) (g .completed) in
           not-both (q .event) (q .before) (q .hit) (q .quiet) x
-              (earlier-compare (earlier-append (g .more) (q .event ∷ q .before)) (x .at))
+          (earlier-compare (earlier-append (g .more) (q .event ∷ q .before)) (x .at))
 
       from : (¬ MayQuiet p (Neutral p f v) n) × (¬ MayMeet p (Neutral p f v) (Covers p f v) n) → (h : History)
           → Completed p n h → ExternalPre p f v h
@@ -99,5 +109,10 @@ module _ (p : Plan) (w : WellFormed p) (f : ℕ) (v : Bool) where
           at (all-neutral q) = absurd (a (record { history = h; completed = wh; holds = q }))
           at (needed x) = x
           at (covered e r q s al) = absurd
-              (b (record { event = e; before = r; execution = earlier-execution p w q (wh .execution); hit = s;
-              quiet = al }))
+              (b (record {
+                event = e;
+                before = r;
+                execution = earlier-execution p w q (wh .execution);
+                hit = s;
+                quiet = al;
+              }))

@@ -21,7 +21,7 @@ module _ (p : Plan) (w : WellFormed p) (Q : Event → Type 0) where
       → ((c : ℕ) → Child p n c → D c → MayQuiet p Q c) → Staged p w Q n [] D
   quiet-stage {n} k D decD closed history = stage p w Q n k [] D decD
       (λ c hc d. let m = history c hc d in
-          (m .history, rw (part-nil p w c, append-nil (m .history)) (m .completed), m .holds))
+      (m .history, rw (part-nil p w c, append-nil (m .history)) (m .completed), m .holds))
       (λ a b ha hb db o. inl (closed a b ha hb db o)) none-yet
 
   -- all-of: every child is quiet

@@ -30,7 +30,7 @@ module _ (p : Plan) (w : WellFormed p) where
     λ x. (x .who, x .beneath, x .is-task, x .has),
   )
       (r-some-task p w (λ t. (p .cond .sign i t f ≡ some v) ⊎ (p .cond .sign j t f ≡ some v)) _ l
-          (λ t. r-either _ _ (r-some _ _) (r-some _ _)))
+      (λ t. r-either _ _ (r-some _ _) (r-some _ _)))
 
   r-silent : (f c : ℕ) → Node p c → Reflects (silentB p f c) (Silent p f c)
   unfolding silentB
@@ -66,12 +66,12 @@ module _ (p : Plan) (w : WellFormed p) where
     unfolding pairB avoidedB
     r-pair {n} {c} {d} hc hd = r-either _ _
         (r-both _ _ (r-unordered p w c d)
-            (r-both _ _ (r-condition pre inc f v c (hc .node)) (r-condition inc post f (not v) d (hd .node))))
+        (r-both _ _ (r-condition pre inc f v c (hc .node)) (r-condition inc post f (not v) d (hd .node))))
         (r-both _ _ (r-before p w d c) (r-both _ _ (r-may-post p w d f (hd .node) (not v))
-            (r-both _ _ (r-may-pre p w c f (hc .node) v)
+        (r-both _ _ (r-may-pre p w c f (hc .node) v)
         (r-every-child p w (λ b. Before p d b → Before p b c → May p b (λ h. lastAsserted p h f ≡ none)) _
         (λ b hb. r-implies _ _ (r-before p w d b)
-            (λ x. r-implies _ _ (r-before p w b c) (λ y. r-avoid p w b f (hb .node))))))))
+        (λ x. r-implies _ _ (r-before p w b c) (λ y. r-avoid p w b f (hb .node))))))))
 
     abbrev SomePair : ℕ → Type 0
     SomePair n = ((c : ℕ) × Child p n c × MayClobber p f v c)
@@ -97,12 +97,12 @@ module _ (p : Plan) (w : WellFormed p) where
     r-may-clobber-in (suc k) n l b = r-by-kind (p .tree .kind n) _ _ _ (λ kn. r-false (clobber-task p w f v kn))
         (λ kn. r-map (Iff·symm (clobber-all p w kn f v)) (r-map some-pair (r-either _ _
         (r-some-child p w (MayClobber p f v) _
-            (λ c hc. r-may-clobber-in k c (hc .node) (omega (arith, child-lt p w hc))))
+        (λ c hc. r-may-clobber-in k c (hc .node) (omega (arith, child-lt p w hc))))
         (r-some-child p w (λ c. (d : ℕ) × Child p n d × Pair n c d) _
-            (λ c hc. r-some-child p w (Pair n c) _ (λ d hd. r-pair hc hd))))))
+        (λ c hc. r-some-child p w (Pair n c) _ (λ d hd. r-pair hc hd))))))
         (λ kn. r-map (Iff·symm (clobber-any p w f v kn))
         (r-some-child p w (MayClobber p f v) _
-            (λ c hc. r-may-clobber-in k c (hc .node) (omega (arith, child-lt p w hc)))))
+        (λ c hc. r-may-clobber-in k c (hc .node) (omega (arith, child-lt p w hc)))))
 
     pub r-may-clobber : (n : ℕ) → Node p n → Reflects (mayClobberB p n f v) (MayClobber p f v n)
     unfolding mayClobberB
@@ -128,7 +128,7 @@ module _ (p : Plan) (w : WellFormed p) where
     r-undisturbed n c d = r-every-child p w (λ b. b ≢ c → b ≢ d → ¬ Before p b d → ¬ Before p c b → Silent p f b) _
         (λ b hb. r-implies _ _ (r-negate _ (r-eq _ _)) (λ x₁. r-implies _ _ (r-negate _ (r-eq _ _))
         (λ x₂. r-implies _ _ (r-negate _ (r-before p w _ _))
-            (λ x₃. r-implies _ _ (r-negate _ (r-before p w _ _)) (λ x₄. r-silent f b (hb .node))))))
+        (λ x₃. r-implies _ _ (r-negate _ (r-before p w _ _)) (λ x₄. r-silent f b (hb .node))))))
 
     abbrev MustAll : ℕ → Type 0
     MustAll n = ((c : ℕ) × Child p n c × (MustClobber p f v c × Alone n c))
@@ -171,8 +171,8 @@ module _ (p : Plan) (w : WellFormed p) where
         (λ c hc. r-both _ _ (r-must-clobber-in k c (hc .node) (omega (arith, child-lt p w hc))) (r-alone n c)))
         (r-some-child p w (λ c. (d : ℕ) × Child p n d × MustPair n c d) _ (λ c hc. r-some-child p w (MustPair n c) _
         (λ d hd. r-both _ _ (r-before p w d c)
-            (r-both _ _ (r-must-post p w d f (hd .node) (not v))
-            (r-both _ _ (r-must-pre p w c f (hc .node) v) (r-undisturbed n c d))))))))
+        (r-both _ _ (r-must-post p w d f (hd .node) (not v))
+        (r-both _ _ (r-must-pre p w c f (hc .node) v) (r-undisturbed n c d))))))))
         (λ kn. r-map (Iff·symm (must-clobber-any kn)) (r-every-child p w (MustClobber p f v) _
         (λ c hc. r-must-clobber-in k c (hc .node) (omega (arith, child-lt p w hc)))))
 

@@ -28,9 +28,9 @@ module _ (p : Plan) (w : WellFormed p) where
     r-quiet-in (suc k) n l b = r-by-kind (p .tree .kind n) _ _ _
         (λ kn. r-map (Iff·symm (quiet-task p w Q kn)) (r-both _ _ (rq _) (rq _)))
         (λ kn. r-map (Iff·symm (quiet-all p w Q kn))
-            (r-every-child p w (MayQuiet p Q) _ (λ c hc. r-quiet-in k c (hc .node) (omega (arith, child-lt p w hc)))))
+        (r-every-child p w (MayQuiet p Q) _ (λ c hc. r-quiet-in k c (hc .node) (omega (arith, child-lt p w hc)))))
         (λ kn. r-map (Iff·symm (may-any p w (All Q) kn))
-            (r-some-child p w (MayQuiet p Q) _ (λ c hc. r-quiet-in k c (hc .node) (omega (arith, child-lt p w hc)))))
+        (r-some-child p w (MayQuiet p Q) _ (λ c hc. r-quiet-in k c (hc .node) (omega (arith, child-lt p w hc)))))
 
     pub r-quiet : (n : ℕ) → Node p n → Reflects (quietB p q n) (MayQuiet p Q n)
     unfolding quietB
@@ -39,7 +39,7 @@ module _ (p : Plan) (w : WellFormed p) where
     -- the children before c, or after it, are quiet
     r-others : (k n : ℕ) (P : ℕ → Type 0) (t : ℕ → Bool) → ((a : ℕ) → Reflects (t a) (P a)) → p .tree .size ≤ n + suc k
         → Reflects (everyChildB p n (λ a. implies (t a) (λ u. quietIn p q k a)))
-            ((a : ℕ) → Child p n a → P a → MayQuiet p Q a)
+        ((a : ℕ) → Child p n a → P a → MayQuiet p Q a)
     r-others k n P t r b = r-every-child p w (λ a. P a → MayQuiet p Q a) _
         (λ a ha. r-implies _ _ (r a) (λ x. r-quiet-in k a (ha .node) (omega (arith, child-lt p w ha))))
 
@@ -50,11 +50,14 @@ module _ (p : Plan) (w : WellFormed p) where
       r-meet-in (suc k) n l b = r-by-kind (p .tree .kind n) _ _ _
           (λ kn. r-map (Iff·symm (meet-task p w Q H kn)) (r-either _ _ (rm _) (r-both _ _ (rq _) (rm _))))
           (λ kn. let e = meet-all p w Q H kn in
-          r-map (λ x. e .1 (x .0, x .1, x .2 .0, λ a z. x .2 .1 a (before-child p w (x .1) z) z), λ y. let x = e .0 y in
-              (x .0, x .1, (x .2, λ a ha z. x .3 a z)))
+          r-map (
+            λ x. e .1 (x .0, x .1, x .2 .0, λ a z. x .2 .1 a (before-child p w (x .1) z) z),
+            λ y. let x = e .0 y in
+                (x .0, x .1, (x .2, λ a ha z. x .3 a z)),
+          )
           (r-some-child p w (λ c. MayMeet p Q H c × ((a : ℕ) → Child p n a → Before p a c → MayQuiet p Q a)) _
           (λ c hc. r-both _ _ (r-meet-in k c (hc .node) (omega (arith, child-lt p w hc)))
-              (r-others k n (λ a. Before p a c) _ (λ a. r-before p w a c) b))))
+          (r-others k n (λ a. Before p a c) _ (λ a. r-before p w a c) b))))
           (λ kn. r-map (Iff·symm (meet-any p w Q H kn))
           (r-some-child p w (MayMeet p Q H) _ (λ c hc. r-meet-in k c (hc .node) (omega (arith, child-lt p w hc)))))
 
@@ -68,10 +71,10 @@ module _ (p : Plan) (w : WellFormed p) where
       r-last-in (suc k) n l b = r-by-kind (p .tree .kind n) _ _ _
           (λ kn. r-map (Iff·symm (last-task p w Q H kn)) (r-either _ _ (rm _) (r-both _ _ (rq _) (rm _))))
           (λ kn. let e = last-all p w Q H kn in
-              r-map (λ x. e .1 (x .0, x .1, x .2 .0, x .2 .1), λ y. let x = e .0 y in (x .0, x .1, (x .2, x .3)))
+          r-map (λ x. e .1 (x .0, x .1, x .2 .0, x .2 .1), λ y. let x = e .0 y in (x .0, x .1, (x .2, x .3)))
           (r-some-child p w (λ c. MayLast p Q H c × ((a : ℕ) → Child p n a → Before p c a → MayQuiet p Q a)) _
           (λ c hc. r-both _ _ (r-last-in k c (hc .node) (omega (arith, child-lt p w hc)))
-              (r-others k n (Before p c) _ (r-before p w c) b))))
+          (r-others k n (Before p c) _ (r-before p w c) b))))
           (λ kn. r-map (Iff·symm (may-any p w (LastIs Q H) kn))
           (r-some-child p w (MayLast p Q H) _ (λ c hc. r-last-in k c (hc .node) (omega (arith, child-lt p w hc)))))
 

@@ -5,30 +5,37 @@ use lib.Dec.{eqb}
 use Rattle.runs.specs.Tests.{both, either, implies, negate, isNone, isSome}
 use Rattle.runs.specs.Plan.{Place, pre, inc, post, Plan}
 use Rattle.runs.specs.Execution.{Event, start, finish, preOf, asserts}
-use Rattle.runs.specs.Summary.{Mark, may-pre, must-pre, may-post, must-post, may-inc, must-inc, may-clobber, must-clobber}
+use Rattle.runs.specs.Summary.{Mark, may-pre, must-pre, may-post, must-post, may-inc, must-inc, may-clobber}
+use Rattle.runs.specs.Summary.{must-clobber}
 use Rattle.runs.specs.Model.Trees.{byKind, someChildB, everyChildB, someTaskB, beforeB, unorderedB}
 
--- Three notions carry the six marks of the conditions; q and m are tests of events. In each, k is more than the levels under n.
+-- Three notions carry the six marks of the conditions; q and m are tests of events. In each, k is more than the levels
+-- under n.
 module _ (p : Plan) (q : Event → Bool) where
   -- some completed execution has all its events in q
   unfoldable pub quietIn : ℕ → ℕ → Bool
   quietIn zero n = false
-  quietIn (suc k) n = byKind (p .tree .kind n) (λ u. both (q (start n)) (λ u. q (finish n))) (λ u. everyChildB p n (λ c. quietIn k c))
+  quietIn (suc k) n = byKind (p .tree .kind n) (λ u. both (q (start n)) (λ u. q (finish n)))
+      (λ u. everyChildB p n (λ c. quietIn k c))
       (λ u. someChildB p n (λ c. quietIn k c))
 
   module _ (m : Event → Bool) where
     -- some execution comes to an event in m with only q before it
     unfoldable pub meetIn : ℕ → ℕ → Bool
     meetIn zero n = false
-    meetIn (suc k) n = byKind (p .tree .kind n) (λ u. either (m (start n)) (λ u. both (q (start n)) (λ u. m (finish n))))
-        (λ u. someChildB p n (λ c. both (meetIn k c) (λ u. everyChildB p n (λ a. implies (beforeB p a c) (λ u. quietIn k a)))))
+    meetIn (suc k) n = byKind (p .tree .kind n)
+        (λ u. either (m (start n)) (λ u. both (q (start n)) (λ u. m (finish n))))
+        (λ u. someChildB p n (λ c. both (meetIn k c)
+        (λ u. everyChildB p n (λ a. implies (beforeB p a c) (λ u. quietIn k a)))))
         (λ u. someChildB p n (λ c. meetIn k c))
 
     -- some completed execution has an event in m with only q after it
     unfoldable pub lastIn : ℕ → ℕ → Bool
     lastIn zero n = false
-    lastIn (suc k) n = byKind (p .tree .kind n) (λ u. either (m (finish n)) (λ u. both (q (finish n)) (λ u. m (start n))))
-        (λ u. someChildB p n (λ c. both (lastIn k c) (λ u. everyChildB p n (λ a. implies (beforeB p c a) (λ u. quietIn k a)))))
+    lastIn (suc k) n = byKind (p .tree .kind n)
+        (λ u. either (m (finish n)) (λ u. both (q (finish n)) (λ u. m (start n))))
+        (λ u. someChildB p n (λ c. both (lastIn k c)
+        (λ u. everyChildB p n (λ a. implies (beforeB p c a) (λ u. quietIn k a)))))
         (λ u. someChildB p n (λ c. lastIn k c))
 
 module _ (p : Plan) where
@@ -41,7 +48,8 @@ module _ (p : Plan) where
   unfoldable pub lastB : (Event → Bool) → (Event → Bool) → ℕ → Bool
   lastB q m n = lastIn p q m (p .tree .size) n
 
-  -- the tests of events: it says nothing of the flag; it has the precondition; it begins the incondition; it asserts the literal
+  -- the tests of events: it says nothing of the flag; it has the precondition; it begins the incondition; it asserts
+  -- the literal
   unfoldable pub unassertedB : ℕ → Event → Bool
   unassertedB f e = isNone (asserts p e f)
 
@@ -86,11 +94,13 @@ module _ (p : Plan) where
 
   -- some task under c has the literal at one of two places
   unfoldable pub conditionB : Place → Place → ℕ → Bool → ℕ → Bool
-  conditionB i j f v c = someTaskB p c (λ t. either (isSome (p .cond .sign i t f) v) (λ u. isSome (p .cond .sign j t f) v))
+  conditionB i j f v c = someTaskB p c
+      (λ t. either (isSome (p .cond .sign i t f) v) (λ u. isSome (p .cond .sign j t f) v))
 
   -- no task under c asserts the flag
   unfoldable pub silentB : ℕ → ℕ → Bool
-  silentB f c = negate (someTaskB p c (λ t. either (negate (isNone (p .cond .sign inc t f))) (λ u. negate (isNone (p .cond .sign post t f)))))
+  silentB f c = negate (someTaskB p c
+      (λ t. either (negate (isNone (p .cond .sign inc t f))) (λ u. negate (isNone (p .cond .sign post t f)))))
 
   -- each child of n that stands between d and c has a completed execution that does not assert the flag
   unfoldable pub avoidedB : ℕ → ℕ → ℕ → ℕ → Bool
@@ -98,13 +108,15 @@ module _ (p : Plan) where
 
   -- the children c and d of n clobber the literal
   unfoldable pub pairB : ℕ → ℕ → Bool → ℕ → ℕ → Bool
-  pairB n f v c d = either (both (unorderedB p c d) (λ u. both (conditionB pre inc f v c) (λ u. conditionB inc post f (not v) d)))
+  pairB n f v c d = either (both (unorderedB p c d)
+      (λ u. both (conditionB pre inc f v c) (λ u. conditionB inc post f (not v) d)))
       (λ u. both (beforeB p d c) (λ u. both (mayPostB d f (not v)) (λ u. both (mayPreB c f v) (λ u. avoidedB n f c d))))
 
   unfoldable pub mayClobberIn : ℕ → Bool → ℕ → ℕ → Bool
   mayClobberIn f v zero n = false
   mayClobberIn f v (suc k) n = byKind (p .tree .kind n) (λ u. false)
-      (λ u. either (someChildB p n (λ c. mayClobberIn f v k c)) (λ u. someChildB p n (λ c. someChildB p n (λ d. pairB n f v c d))))
+      (λ u. either (someChildB p n (λ c. mayClobberIn f v k c))
+      (λ u. someChildB p n (λ c. someChildB p n (λ d. pairB n f v c d))))
       (λ u. someChildB p n (λ c. mayClobberIn f v k c))
 
   unfoldable pub mayClobberB : ℕ → ℕ → Bool → Bool

@@ -1,4 +1,5 @@
--- The calls as functions that compute: refusals, the number returned, the states; over lists of calls with the first call first. Definitions only.
+-- The calls as functions that compute: refusals, the number returned, the states; over lists of calls with the first
+-- call first. Definitions only.
 use mathlib.Core.Bool.{Bool, true, false, not, decide}
 use mathlib.Core.Option.{Option, none, some}
 use mathlib.Core.List.{List, [], _∷_}
@@ -6,8 +7,10 @@ use Prim.Native.Nat.{ℕ, zero, suc}
 use lib.Dec.{eqb}
 use Rattle.runs.specs.Tests.{both, negate, anyBelow, isSome}
 use Rattle.runs.specs.Plan.{task, inc, Plan}
-use Rattle.runs.specs.Execution.{Status, waiting, running, done, Status-discrete, State, Event, nodeOf, preOf, asserts}
-use Rattle.runs.specs.Calls.{Call, one, events, World, happenAll, Refusal, no-task, wrong-status, branch-begun, order-open, pre-unmet}
+use Rattle.runs.specs.Execution.{Status, waiting, running, done, Status-discrete, State, Event, nodeOf, preOf}
+use Rattle.runs.specs.Execution.{asserts}
+use Rattle.runs.specs.Calls.{Call, one, events, World, happenAll, Refusal, no-task, wrong-status, branch-begun}
+use Rattle.runs.specs.Calls.{order-open, pre-unmet}
 use Rattle.runs.specs.Calls.{inc-broken, number, asks, checks}
 use Rattle.runs.specs.Model.Trees.{kindB, picksB, byKind, someChildB, everyChildB, underB, someTaskB}
 

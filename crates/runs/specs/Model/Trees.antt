@@ -31,19 +31,22 @@ module _ (p : Plan) where
   -- n under a, in at most k steps up
   unfoldable pub underIn : ℕ → ℕ → ℕ → Bool
   underIn zero a n = eqb a n
-  underIn (suc k) a n = either (eqb a n) (λ u. both (ltb 0 n) (λ u. both (p .tree .here n) (λ u. underIn k a (p .tree .parent n))))
+  underIn (suc k) a n = either (eqb a n)
+      (λ u. both (ltb 0 n) (λ u. both (p .tree .here n) (λ u. underIn k a (p .tree .parent n))))
 
   unfoldable pub underB : ℕ → ℕ → Bool
   underB a n = underIn n a n
 
   -- some task under c that passes the test
   unfoldable pub someTaskB : ℕ → (ℕ → Bool) → Bool
-  someTaskB c q = anyBelow (p .tree .size) (λ t. both (underB c t) (λ u. both (kindB (p .tree .kind t) task) (λ u. q t)))
+  someTaskB c q = anyBelow (p .tree .size)
+      (λ t. both (underB c t) (λ u. both (kindB (p .tree .kind t) task) (λ u. q t)))
 
   -- a before c, by chains of at most k + 1 orders
   unfoldable pub beforeIn : ℕ → ℕ → ℕ → Bool
   beforeIn zero a c = p .order a c
-  beforeIn (suc k) a c = either (p .order a c) (λ u. anyBelow (p .tree .size) (λ b. both (p .order a b) (λ u. beforeIn k b c)))
+  beforeIn (suc k) a c = either (p .order a c)
+      (λ u. anyBelow (p .tree .size) (λ b. both (p .order a b) (λ u. beforeIn k b c)))
 
   unfoldable pub beforeB : ℕ → ℕ → Bool
   beforeB a c = beforeIn (p .tree .size) a c

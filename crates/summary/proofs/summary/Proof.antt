@@ -51,7 +51,7 @@ slice-write-out : tie.Need-slice-write-out Inv-loop μ-loop
 slice-write-out c =
     let l = c .before .before .before in
     rw (l .loop .inv .1, length-overlay)
-        (omega (arith, l .before .flags .ensures, passed (l .before .before .before) .room))
+    (omega (arith, l .before .flags .ensures, passed (l .before .before .before) .room))
 
 add-i : tie.Need-add-i Inv-loop μ-loop
 add-i c =
@@ -64,8 +64,11 @@ loop-again c =
     let e = passed (l .before .before .before) in
     let k : l .loop .i < 1024 = omega (arith, l .before .flags .ensures, clean _ (e .plan) .fits .limits .flags) in (
       omega arith,
-      rw (l .loop .inv .1, c .mark-byte .ensures,
-          byte-is _ (e .plan) _ (e .node) (l .before .before .node-words .ensures) (l .loop .i) k) (overlay-more _ _ _),
+      rw (
+        l .loop .inv .1,
+        c .mark-byte .ensures,
+        byte-is _ (e .plan) _ (e .node) (l .before .before .node-words .ensures) (l .loop .i) k,
+      ) (overlay-more _ _ _),
     )
 
 same-length-2 : tie.Need-same-length-2 Inv-loop μ-loop
@@ -76,7 +79,7 @@ returns-2 c =
     let l = c .before in
     let i = l .before .before .before in
     let e : l .loop .i ≡ 16 * flagCount (now (i .before .before .before .before .before .args .plan)) =
-        omega (arith, l .before .flags .ensures) in
+    omega (arith, l .before .flags .ensures) in
     rw (l .loop .inv .1, e) (summary-written _ _ _ (sym (i .before .summary-refused .ensures) ∙ i .if1 .left))
 
 pub summary-spec : {M : Type 1} → statement M

@@ -34,13 +34,13 @@ returns-3 : tie.Need-returns-3
 returns-3 c =
     let i = c .before .before in
     refused-17 _ _ _ (passed (i .before .before)) (omega (arith, i .if2 .left, i .before .flags .ensures))
-        (omega (arith, c .if3 .taken, c .before .nodes .ensures))
+    (omega (arith, c .if3 .taken, c .before .nodes .ensures))
 
 returns-4 : tie.Need-returns-4
 returns-4 c =
     let i = c .before .before in
     refused-none _ _ _ (passed (i .before .before)) (omega (arith, i .if2 .left, i .before .flags .ensures))
-        (omega (arith, c .if3 .left, c .before .nodes .ensures))
+    (omega (arith, c .if3 .left, c .before .nodes .ensures))
 
 pub summary-refused-spec : {M : Type 1} → statement M
 summary-refused-spec =

@@ -11,8 +11,11 @@ returns : tie.Need-returns
 returns c =
     let i = c .before .before .before .fill-items .ensures in
     let t = c .fill-children .ensures in
-    record { shaped = t .shaped; represents =
-        record { kinds = i .kinds; tree = t .tree; orders = i .orders; conditions = i .conditions } }
+    record {
+      shaped = t .shaped;
+      represents =
+          record { kinds = i .kinds; tree = t .tree; orders = i .orders; conditions = i .conditions };
+    }
 
 pub fill-tables-spec : {M : Type 1} → statement M
 fill-tables-spec = tie.close (tie.spec item-count-requires (λ c κs. search needs) (λ c κs. search needs) returns)

@@ -54,8 +54,8 @@ returns-2 : (t : ℕ) → lts.Need-returns-2 (claims t) (at t) write-decimal.Pos
 returns-2 t c =
     let s = c .before .before .before .before .before .before .before .before .before .before in
     wrote-same (sym (decimal-more (s .args .n) (omega arith)))
-        (wrote-then (c .before .before .before .before .before .before .write-decimal .ensures)
-        (c .before .before .put2 .ensures))
+    (wrote-then (c .before .before .before .before .before .before .write-decimal .ensures)
+    (c .before .before .put2 .ensures))
 
 pub +write-decimal-spec : {M : Type 1} → statement M
 +write-decimal-spec = close μ-write-decimal λ t. lts.spec (claims t)

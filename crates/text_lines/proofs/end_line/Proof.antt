@@ -22,7 +22,9 @@ put-requires-2 c κs = let s = c .before .before .before .before .before .before
 
 returns : tie.Need-returns
 returns c = wrote-same (ending-is _)
-    (wrote-then (wrote-then (c .before .before .before .before .before .before .before .before .before .before .put .ensures) (c .before .before .before .before .before .before .write-decimal .ensures)) (c .before .before .put2 .ensures))
+    (wrote-then (wrote-then (c .before .before .before .before .before .before .before .before .before .before .put
+    .ensures) (c .before .before .before .before .before .before .write-decimal .ensures))
+    (c .before .before .put2 .ensures))
 
 pub end-line-spec : {M : Type 1} → statement M
 end-line-spec =

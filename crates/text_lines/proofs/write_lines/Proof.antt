@@ -37,10 +37,19 @@ write-line-requires c κs =
     let l = c .before .before .before .before .before in
     let s = l .before .before .before in
     let ok = clean _ (s .pre .0) in
-    let t = line-task ok (s .pre .2) (omega arith) (c .before .before .wide .ensures .0) .0 in
-    (s .pre .0, t, s .pre .1 .is _ t,
-        omega (arith, s .pre .3, s .pre .2 .count, l .loop .inv .short, ranking-length _ ok,
-        wrote-long (l .loop .inv .wrote)))
+    let t = line-task ok (s .pre .2) (omega arith) (c .before .before .wide .ensures .0) .0 in (
+      s .pre .0,
+      t,
+      s .pre .1 .is _ t,
+      omega (
+        arith,
+        s .pre .3,
+        s .pre .2 .count,
+        l .loop .inv .short,
+        ranking-length _ ok,
+        wrote-long (l .loop .inv .wrote),
+      ),
+    )
 
 loop-again : tie.Need-loop-again Inv-loop μ-loop
 loop-again c =
@@ -49,7 +58,7 @@ loop-again c =
     let ok = clean _ (s .pre .0) in
     let t = line-task ok (s .pre .2) (omega arith) (c .before .before .before .before .before .wide .ensures .0) in
     lines-turn ok (omega (arith, s .pre .2 .count)) (t .0) (t .1) (c .before .before .write-line .ensures)
-        (l .loop .inv)
+    (l .loop .inv)
 
 same-length : tie.Need-same-length Inv-loop μ-loop
 same-length c = wrote-long (c .before .loop .inv .wrote)

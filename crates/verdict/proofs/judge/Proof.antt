@@ -17,14 +17,14 @@ returns-2 : tie.Need-returns-2
 returns-2 c =
     let d = c .before .before .before .before in
     judged-doomed _ (d .before .before .before .before .before .pre) (d .before .before .before .node-words .ensures)
-        (d .before .before .start-word .ensures) (search needs) (c .before .failing2 .ensures) (c .if2 .taken)
+    (d .before .before .start-word .ensures) (search needs) (c .before .failing2 .ensures) (c .if2 .taken)
 
 returns-3 : tie.Need-returns-3
 returns-3 c =
     let d = c .before .before .before .before in
     judged-open _ (d .before .before .before .before .before .pre) (d .before .before .before .node-words .ensures)
-        (d .before .before .start-word .ensures) (search needs) (d .failing .ensures)
-        (c .before .before .before .if1 .left) (c .before .failing2 .ensures) (c .if2 .left)
+    (d .before .before .start-word .ensures) (search needs) (d .failing .ensures)
+    (c .before .before .before .if1 .left) (c .before .failing2 .ensures) (c .if2 .left)
 
 pub judge-spec : {M : Type 1} → statement M
 judge-spec =

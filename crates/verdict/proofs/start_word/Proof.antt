@@ -50,8 +50,8 @@ loop-again c =
       omega arith,
       ⊎-elim
           (λ w. start-set _ f (l .loop .inv .1)
-              (w .1 ∙ ap (λ (x : ℕ). bitOr (l .loop .word) x) (one-shl f (omega (arith, l .before .flags .ensures, n))))
-              (sym s ∙ w .0 .taken))
+          (w .1 ∙ ap (λ (x : ℕ). bitOr (l .loop .word) x) (one-shl f (omega (arith, l .before .flags .ensures, n))))
+          (sym s ∙ w .0 .taken))
           (λ w. rw (w .1) (start-clear _ f (l .loop .inv .1) (sym s ∙ w .0 .left)))
           (c .if1 .came),
     )
@@ -60,7 +60,7 @@ returns : tie.Need-returns Inv-loop μ-loop
 returns c =
     let l = c .before in
     let e : l .loop .f ≡ flagCount (now (l .before .before .before .args .plan)) =
-        omega (arith, l .before .flags .ensures) in
+    omega (arith, l .before .flags .ensures) in
     start-all _ (rw e at (l .loop .inv .1))
 
 pub start-word-spec : {M : Type 1} → statement M

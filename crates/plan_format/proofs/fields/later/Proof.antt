@@ -6,8 +6,11 @@ use Rattle.plan_format.proofs.fields.later.Tie as tie
 
 returns : tie.Need-returns
 unfolding laterOf
-returns c = rw (c .before .orders .ensures, c .before .before .conditions .ensures,
-    c .before .before .before .nodes .ensures)
+returns c = rw (
+  c .before .orders .ensures,
+  c .before .before .conditions .ensures,
+  c .before .before .before .nodes .ensures,
+)
 
 pub later-spec : {M : Type 1} → statement M
 later-spec =

@@ -20,10 +20,10 @@ returns c =
     let b = now (a .plan) in
     let l : nodeCount b ≤ a .x = omega arith in
     let e : isChild b (parentOf b (a .x)) (a .x) ≡ false =
-        and-middle (ltb 0 (a .x)) (ltb (a .x) (nodeCount b)) (eqb (parentOf b (a .x)) (parentOf b (a .x)))
-        (le-ltb _ _ l) in
+    and-middle (ltb 0 (a .x)) (ltb (a .x) (nodeCount b)) (eqb (parentOf b (a .x)) (parentOf b (a .x)))
+    (le-ltb _ _ l) in
     simp (and-middle (isKind b (parentOf b (a .x)) 1) (isChild b (parentOf b (a .x)) (a .x))
-        (isChild b (parentOf b (a .x)) (a .y)) e)
+    (isChild b (parentOf b (a .x)) (a .y)) e)
 
 returns-2 : tie.Need-returns-2
 unfolding badPair

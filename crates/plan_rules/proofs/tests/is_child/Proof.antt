@@ -35,4 +35,4 @@ returns-3 c =
 pub is-child-spec : {M : Type 1} → statement M
 is-child-spec =
     tie.close (tie.spec returns (λ c κs. whole-head (c .before .before .pre)) parent-requires
-        (λ c κs. tt) returns-2 returns-3)
+    (λ c κs. tt) returns-2 returns-3)
