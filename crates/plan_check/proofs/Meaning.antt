@@ -16,7 +16,7 @@ use Rattle.plan_format.specs.Format.{nodeCount, condCount, orderCount, flagCoun
 use Rattle.plan_format.specs.Format.{condValue, earlierOf, laterOf, isKind, isGroup}
 use Rattle.plan_rules.specs.Rules.{refusal, badEntry, cause6, childless, cause8, bothSigns, cause11, noPost, postOf}
 use Rattle.plan_rules.specs.Rules.{cause12, isChild, badPair, badOrder, cause13}
-use Rattle.plan_rules.specs.Search.{someBelow}
+use Rattle.runs.specs.Tests.{anyBelow}
 use Rattle.plan_rules.proofs.Laws.{or-none, or-split, and-both, and-three, and-of, none-at, found-at, some-yes}
 use Rattle.plan_rules.proofs.Laws.{not-passed}
 use Rattle.runs.specs.Plan.{task, all-of, Place, inc, post, Accepted, WellFormed, kindNumber, placeNumber, signNumber}
@@ -97,7 +97,7 @@ module _ (b : List ℕ) (k : Place) (t f : ℕ) where
         let i = is b (placeNumber k) t f 0 h in
         let j = is b (placeNumber k) t f 1 y in
         let x = none-at (condCount b) (bothSigns b (i .0))
-        (none-at (condCount b) (λ i. someBelow (condCount b) (bothSigns b i)) signs (i .0) (i .1 .below)) (j .0)
+        (none-at (condCount b) (λ i. anyBelow (condCount b) (bothSigns b i)) signs (i .0) (i .1 .below)) (j .0)
         (j .1 .below) in
         true≢false
         (sym

@@ -9,7 +9,7 @@ use lib.Dec.{T, eqb, ltb}
 use Rattle.plan_codes.specs.Values.{valueOf, flagOf, signOf, placeOf}
 use Rattle.plan_format.specs.Format.{nodeCount, condCount, orderCount, flagCount, parentOf, kindOf, condNode, condValue}
 use Rattle.plan_format.specs.Format.{earlierOf, laterOf, startFlag}
-use Rattle.plan_rules.specs.Search.{someBelow}
+use Rattle.runs.specs.Tests.{anyBelow}
 use Rattle.runs.specs.Plan.{Kind, task, all-of, any-of, Place, Plan, Accepted, kindNumber, placeNumber, signNumber}
 
 -- the kind of a number
@@ -22,7 +22,7 @@ conditionIs b p t f s i =
     (eqb (condNode b i) t && eqb (placeOf (condValue b i)) p) && (eqb (flagOf (condValue b i)) f && eqb (signOf (condValue b i)) s)
 
 unfoldable pub hasCondition : List ℕ → ℕ → ℕ → ℕ → ℕ → Bool
-hasCondition b p t f s = someBelow (condCount b) (conditionIs b p t f s)
+hasCondition b p t f s = anyBelow (condCount b) (conditionIs b p t f s)
 
 unfoldable pub signIn : List ℕ → Place → ℕ → ℕ → Option Bool
 signIn b k t f = cond (hasCondition b (placeNumber k) t f 1) (some true)
@@ -32,7 +32,7 @@ unfoldable pub orderIs : List ℕ → ℕ → ℕ → ℕ → Bool
 orderIs b x y j = eqb (earlierOf b j) x && eqb (laterOf b j) y
 
 unfoldable pub hasOrder : List ℕ → ℕ → ℕ → Bool
-hasOrder b x y = someBelow (orderCount b) (orderIs b x y)
+hasOrder b x y = anyBelow (orderCount b) (orderIs b x y)
 
 unfoldable pub planOf : List ℕ → Plan
 planOf b =

@@ -1,7 +1,7 @@
--- The laws of `someBelow`, and of tests. Assumes nothing.
+-- The laws of `anyBelow`, and of tests. Assumes nothing.
 use mathlib.Core.Path.{_≡_, refl, ap, _∙_, sym}
 use mathlib.Core.Logic.{_⊎_, inl, inr, ⊎-elim}
-use mathlib.Core.Bool.{Bool, true, false, _&&_, _||_, false≢true, true≢false, or-true}
+use mathlib.Core.Bool.{Bool, true, false, _&&_, _||_, false≢true, true≢false}
 use Prim.Native.Nat.{ℕ, zero, suc, _+_, _-_, _≤_, _<_}
 use native.Mathlib.Nat.{eq-or-lt-of-le, le-of-suc-le-suc}
 use native.Mathlib.Numerals.{add-one}
@@ -9,7 +9,7 @@ use native.Mathlib.Omega.{arith}
 use mathlib.Core.List.{List}
 use lib.ListN.{length}
 use Rattle.plan_format.specs.Format.{Whole}
-use Rattle.plan_rules.specs.Search.{someBelow}
+use Rattle.runs.specs.Tests.{anyBelow, either as eitherB}
 
 -- ---- Bool
 pub or-split : (a b : Bool) → (a || b) ≡ true → (a ≡ true) ⊎ (b ≡ true)
@@ -53,52 +53,62 @@ pub whole-head : {b : List ℕ} → Whole b → 16 ≤ length b
 whole-head w = omega arith
 
 -- ---- searches
-pub some-yes : (n : ℕ) (p : ℕ → Bool) (k : ℕ) → k < n → p k ≡ true → someBelow n p ≡ true
-unfolding someBelow
+any-last : (n : ℕ) (p : ℕ → Bool) → p n ≡ true → anyBelow (suc n) p ≡ true
+unfolding anyBelow eitherB
+any-last n p e = rw e
+
+any-before : (n : ℕ) (p : ℕ → Bool) → p n ≡ false → anyBelow (suc n) p ≡ anyBelow n p
+unfolding anyBelow eitherB
+any-before n p e = rw e
+
+pub none-none : (p : ℕ → Bool) → anyBelow 0 p ≡ false
+unfolding anyBelow
+none-none p = refl
+
+pub some-yes : (n : ℕ) (p : ℕ → Bool) (k : ℕ) → k < n → p k ≡ true → anyBelow n p ≡ true
 some-yes zero p k l h = absurd (omega arith)
 some-yes (suc n) p k l h =
     ⊎-elim
-    (λ (e : k ≡ n). rw (← e, h) (or-true (someBelow k p)))
-    (λ (m : k < n). rw (some-yes n p k m h))
-    (eq-or-lt-of-le (le-of-suc-le-suc l))
+    (λ (e : p n ≡ true). any-last n p e)
+    (λ (e : p n ≡ false).
+    ⊎-elim
+    (λ (q : k ≡ n). absurd (true≢false (sym h ∙ ap p q ∙ e)))
+    (λ (m : k < n). any-before n p e ∙ some-yes n p k m h)
+    (eq-or-lt-of-le (le-of-suc-le-suc l)))
+    (either (p n))
 
 -- none below i, and not i: none below i + 1
-pub none-more : (i : ℕ) (p : ℕ → Bool) → someBelow i p ≡ false → p i ≡ false → someBelow (i + 1) p ≡ false
-unfolding someBelow
-none-more i p a b = rw (add-one, a, b)
-
-pub none-none : (p : ℕ → Bool) → someBelow 0 p ≡ false
-unfolding someBelow
-none-none p = refl
+pub none-more : (i : ℕ) (p : ℕ → Bool) → anyBelow i p ≡ false → p i ≡ false → anyBelow (i + 1) p ≡ false
+none-more i p a b = rw (add-one i) (any-before i p b ∙ a)
 
 -- a search that found something has found it somewhere
-pub found-at : (n : ℕ) (p : ℕ → Bool) → someBelow n p ≡ true → (i : ℕ) × (i < n) × (p i ≡ true)
-unfolding someBelow
-found-at zero p h = absurd (false≢true h)
+pub found-at : (n : ℕ) (p : ℕ → Bool) → anyBelow n p ≡ true → (i : ℕ) × (i < n) × (p i ≡ true)
+found-at zero p h = absurd (true≢false (sym h ∙ none-none p))
 found-at (suc n) p h =
-    ⊎-elim (λ a. let w = found-at n p a in (w .0, omega arith, w .2))
-    (λ b. (n, omega arith, b))
-    (or-split (someBelow n p) (p n) h)
+    ⊎-elim
+    (λ (e : p n ≡ true). (n, omega arith, e))
+    (λ (e : p n ≡ false). let w = found-at n p (sym (any-before n p e) ∙ h) in (w .0, omega arith, w .2))
+    (either (p n))
 
 -- a search that found nothing has passed each
-pub none-at : (n : ℕ) (p : ℕ → Bool) → someBelow n p ≡ false → (i : ℕ) → i < n → p i ≡ false
+pub none-at : (n : ℕ) (p : ℕ → Bool) → anyBelow n p ≡ false → (i : ℕ) → i < n → p i ≡ false
 none-at n p h i l = not-passed (p i) (λ y. true≢false (sym (some-yes n p i l y) ∙ h))
 
 -- and conversely
-pub none-all : (n : ℕ) (p : ℕ → Bool) → ((i : ℕ) → i < n → p i ≡ false) → someBelow n p ≡ false
-none-all n p h = not-passed (someBelow n p) (λ y. let w = found-at n p y in true≢false (sym (w .2) ∙ h (w .0) (w .1)))
+pub none-all : (n : ℕ) (p : ℕ → Bool) → ((i : ℕ) → i < n → p i ≡ false) → anyBelow n p ≡ false
+none-all n p h = not-passed (anyBelow n p) (λ y. let w = found-at n p y in true≢false (sym (w .2) ∙ h (w .0) (w .1)))
 
 -- the same tests find the same
-pub some-same : (n : ℕ) (p q : ℕ → Bool) → ((i : ℕ) → i < n → p i ≡ q i) → someBelow n p ≡ someBelow n q
+pub some-same : (n : ℕ) (p q : ℕ → Bool) → ((i : ℕ) → i < n → p i ≡ q i) → anyBelow n p ≡ anyBelow n q
 some-same n p q h =
-    same (someBelow n p) (someBelow n q)
+    same (anyBelow n p) (anyBelow n q)
     (λ y. let w = found-at n p y in some-yes n q (w .0) (w .1) (sym (h (w .0) (w .1)) ∙ w .2))
     (λ y. let w = found-at n q y in some-yes n p (w .0) (w .1) (h (w .0) (w .1) ∙ w .2))
 
 -- in whichever direction
-pub some-back : (n : ℕ) (p : ℕ → Bool) → someBelow n (λ m. p (n - 1 - m)) ≡ someBelow n p
+pub some-back : (n : ℕ) (p : ℕ → Bool) → anyBelow n (λ m. p (n - 1 - m)) ≡ anyBelow n p
 some-back n p =
-    same (someBelow n (λ m. p (n - 1 - m))) (someBelow n p)
+    same (anyBelow n (λ m. p (n - 1 - m))) (anyBelow n p)
     (λ y. let w = found-at n (λ m. p (n - 1 - m)) y in some-yes n p (n - 1 - w .0) (omega arith) (w .2))
     (λ y.
     let w = found-at n p y in

@@ -10,7 +10,7 @@ use native.Mathlib.Omega.{arith}
 use lib.Dec.{eqb, ltb}
 use borrow.Author.Tests.{eqb-true, ltb-true, not-false}
 use Rattle.plan_rules.specs.Rules.{notBelow, notRising}
-use Rattle.plan_rules.specs.Search.{someBelow}
+use Rattle.runs.specs.Tests.{anyBelow}
 use Rattle.plan_rules.proofs.Laws.{or-split, and-both, none-at}
 
 -- the pair (a, b) is below (c, d)
@@ -30,7 +30,7 @@ below-trans a b c d e f (inl l) (inr m) = inl (omega arith)
 below-trans a b c d e f (inr l) (inl m) = inl (omega arith)
 below-trans a b c d e f (inr l) (inr m) = inr (omega arith, omega arith)
 
-module _ (x y : ℕ → ℕ) (n : ℕ) (h : someBelow (n - 1) (notRising x y) ≡ false) where
+module _ (x y : ℕ → ℕ) (n : ℕ) (h : anyBelow (n - 1) (notRising x y) ≡ false) where
   next : (i : ℕ) → i + 1 < n → Below (x i) (y i) (x (i + 1)) (y (i + 1))
   unfolding notRising
   next i l = below-of _ _ _ _ (none-at (n - 1) (notRising x y) h i (omega arith))

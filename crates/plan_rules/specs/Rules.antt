@@ -10,7 +10,7 @@ use Rattle.plan_codes.specs.Values.{flagOf, signOf, placeOf, valueBad}
 use Rattle.plan_format.specs.Format.{nodeCount, condCount, orderCount, flagCount, wholeLength, startFlag, nameChar}
 use Rattle.plan_format.specs.Format.{parentOf, kindOf, minutesOf, condNode, condValue, earlierOf, laterOf, isKind}
 use Rattle.plan_format.specs.Format.{isGroup}
-use Rattle.plan_rules.specs.Search.{someBelow}
+use Rattle.runs.specs.Tests.{anyBelow}
 
 -- under 16 bytes
 unfoldable pub cause1 : List ℕ → Bool
@@ -30,14 +30,14 @@ unfoldable pub badStart : List ℕ → ℕ → Bool
 badStart b f = leb (flagCount b) f && startFlag b f
 
 unfoldable pub cause4 : List ℕ → Bool
-cause4 b = someBelow 64 (badStart b)
+cause4 b = anyBelow 64 (badStart b)
 
 -- name character not allowed
 unfoldable pub badChar : List ℕ → ℕ → Bool
 badChar b k = not (nameAllowed (nameChar b k))
 
 unfoldable pub cause5 : List ℕ → Bool
-cause5 b = someBelow (4 * nodeCount b) (badChar b)
+cause5 b = anyBelow (4 * nodeCount b) (badChar b)
 
 -- kind over 2; group with minutes; task over 10,080 minutes
 unfoldable pub badEntry : List ℕ → ℕ → Bool
@@ -45,28 +45,28 @@ badEntry b n = (ltb 2 (kindOf b n) || (isGroup b n && ltb 0 (minutesOf b n))) ||
     (isKind b n 0 && ltb 10080 (minutesOf b n))
 
 unfoldable pub cause6 : List ℕ → Bool
-cause6 b = someBelow (nodeCount b) (badEntry b)
+cause6 b = anyBelow (nodeCount b) (badEntry b)
 
 -- root's parent not 255; another's parent not a lower-numbered group
 unfoldable pub badParent : List ℕ → ℕ → Bool
 badParent b n = cond (eqb n 0) (not (eqb (parentOf b n) 255)) (not (ltb (parentOf b n) n && isGroup b (parentOf b n)))
 
 unfoldable pub cause7 : List ℕ → Bool
-cause7 b = someBelow (nodeCount b) (badParent b)
+cause7 b = anyBelow (nodeCount b) (badParent b)
 
 -- group without child: a group that is no node's parent
 unfoldable pub childless : List ℕ → ℕ → Bool
-childless b g = isGroup b g && not (someBelow (nodeCount b) (λ n. eqb (parentOf b n) g))
+childless b g = isGroup b g && not (anyBelow (nodeCount b) (λ n. eqb (parentOf b n) g))
 
 unfoldable pub cause8 : List ℕ → Bool
-cause8 b = someBelow (nodeCount b) (childless b)
+cause8 b = anyBelow (nodeCount b) (childless b)
 
 -- condition on no task of the plan; value over 383; flag V or higher
 unfoldable pub badCondition : List ℕ → ℕ → Bool
 badCondition b i = not (isKind b (condNode b i) 0) || valueBad (condValue b i) (flagCount b)
 
 unfoldable pub cause9 : List ℕ → Bool
-cause9 b = someBelow (condCount b) (badCondition b)
+cause9 b = anyBelow (condCount b) (badCondition b)
 
 -- a pair is not below the next one: not a lower first part, nor the same with a lower second part
 unfoldable pub notBelow : ℕ → ℕ → ℕ → ℕ → Bool
@@ -78,7 +78,7 @@ notRising x y i = notBelow (x i) (y i) (x (i + 1)) (y (i + 1))
 
 -- (node, value) pairs not strictly rising
 unfoldable pub cause10 : List ℕ → Bool
-cause10 b = someBelow (condCount b - 1) (notRising (condNode b) (condValue b))
+cause10 b = anyBelow (condCount b - 1) (notRising (condNode b) (condValue b))
 
 -- one task, place and flag with both signs: i clear and j set
 unfoldable pub bothSigns : List ℕ → ℕ → ℕ → Bool
@@ -88,7 +88,7 @@ bothSigns b i j =
     && (eqb (signOf (condValue b i)) 0 && eqb (signOf (condValue b j)) 1)
 
 unfoldable pub cause11 : List ℕ → Bool
-cause11 b = someBelow (condCount b) (λ i. someBelow (condCount b) (bothSigns b i))
+cause11 b = anyBelow (condCount b) (λ i. anyBelow (condCount b) (bothSigns b i))
 
 -- j is a postcondition (01: leaving) of the task of i on its flag
 unfoldable pub postOf : List ℕ → ℕ → ℕ → Bool
@@ -97,10 +97,10 @@ postOf b i j = eqb (condNode b j) (condNode b i) && eqb (flagOf (condValue b j))
 
 -- incondition (01: hold) on a flag that the same task has no postcondition on
 unfoldable pub noPost : List ℕ → ℕ → Bool
-noPost b i = eqb (placeOf (condValue b i)) 1 && not (someBelow (condCount b) (postOf b i))
+noPost b i = eqb (placeOf (condValue b i)) 1 && not (anyBelow (condCount b) (postOf b i))
 
 unfoldable pub cause12 : List ℕ → Bool
-cause12 b = someBelow (condCount b) (noPost b)
+cause12 b = anyBelow (condCount b) (noPost b)
 
 -- n is a child of g
 unfoldable pub isChild : List ℕ → ℕ → ℕ → Bool
@@ -116,11 +116,11 @@ unfoldable pub badOrder : List ℕ → ℕ → Bool
 badOrder b j = badPair b (earlierOf b j) (laterOf b j)
 
 unfoldable pub cause13 : List ℕ → Bool
-cause13 b = someBelow (orderCount b) (badOrder b)
+cause13 b = anyBelow (orderCount b) (badOrder b)
 
 -- (earlier, later) pairs not strictly rising
 unfoldable pub cause14 : List ℕ → Bool
-cause14 b = someBelow (orderCount b - 1) (notRising (earlierOf b) (laterOf b))
+cause14 b = anyBelow (orderCount b - 1) (notRising (earlierOf b) (laterOf b))
 
 -- the first cause that applies, or 0
 unfoldable pub refusal : List ℕ → ℕ

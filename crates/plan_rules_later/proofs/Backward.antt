@@ -9,7 +9,7 @@ use lib.Dec.{eqb}
 use borrow.Author.Tests.{eqb-true, eq-eqb}
 use Rattle.plan_rules_later.specs.declared.Step.{Step}
 use Rattle.plan_rules_later.proofs.Table.{latest, refuses, refusesAt, backwards}
-use Rattle.plan_rules.specs.Search.{someBelow}
+use Rattle.runs.specs.Tests.{anyBelow}
 use Rattle.plan_rules.proofs.Laws.{either, same, and-both, and-of, or-none, found-at, some-yes, some-same, some-back}
 
 -- ---- the table
@@ -52,7 +52,7 @@ answers s i j = s j .writes && eqb (s j .at) (s i .ask) && eqb (s j .mark) (s i 
 
 -- place i refuses, by all n places
 abbrev pub judged : ℕ → (ℕ → Step) → ℕ → Bool
-judged n s i = (s i .needs && not (someBelow n (answers s i))) || (s i .bars && someBelow n (answers s i))
+judged n s i = (s i .needs && not (anyBelow n (answers s i))) || (s i .bars && anyBelow n (answers s i))
 
 turned : (n i : ℕ) → i < n → n - 1 - (n - 1 - i) ≡ i
 turned n i l = omega arith
@@ -65,10 +65,10 @@ module _
     (later : (i j : ℕ) → i < n → j < n → (s i .needs || s i .bars) ≡ true → answers s i j ≡ true → i < j)
   where
     entry : (i : ℕ) → i < n → (s i .needs || s i .bars) ≡ true
-        → eqb (latest (backwards n s) (n - 1 - i) (s i .ask)) (s i .mark) ≡ someBelow n (answers s i)
+        → eqb (latest (backwards n s) (n - 1 - i) (s i .ask)) (s i .mark) ≡ anyBelow n (answers s i)
     unfolding backwards
     entry i l q =
-        same (eqb (latest (backwards n s) (n - 1 - i) (s i .ask)) (s i .mark)) (someBelow n (answers s i))
+        same (eqb (latest (backwards n s) (n - 1 - i) (s i .ask)) (s i .mark)) (anyBelow n (answers s i))
         (λ y.
         let w = given (backwards n s) (n - 1 - i) (s i .ask) (s i .mark) (positive i l) (eqb-true _ _ y) in
         let j = n - 1 - w .0 in
@@ -103,7 +103,7 @@ module _
         (λ (q : (s i .needs || s i .bars) ≡ false). let w = or-none (s i .needs) (s i .bars) q in rw (w .0, w .1))
         (either (s i .needs || s i .bars))
 
-    pub pass-finds : someBelow n (refuses (backwards n s)) ≡ someBelow n (judged n s)
+    pub pass-finds : anyBelow n (refuses (backwards n s)) ≡ anyBelow n (judged n s)
     pass-finds =
         some-same n (refuses (backwards n s)) (λ m. refuses (backwards n s) (n - 1 - (n - 1 - m)))
         (λ m l. ap (λ (k : ℕ). refuses (backwards n s) k) (sym (turned n m l)))

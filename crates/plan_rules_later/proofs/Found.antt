@@ -12,7 +12,7 @@ use Rattle.plan_codes.proofs.Values.{value-parts}
 use Rattle.plan_codes.specs.Values.{flagOf, signOf, placeOf}
 use Rattle.plan_format.specs.Format.{nodeCount, condCount, parentOf, condNode, condValue, isGroup, Whole}
 use Rattle.plan_rules.specs.Rules.{cause7, childless, cause8, cause10, bothSigns, cause11, postOf, noPost, cause12}
-use Rattle.plan_rules.specs.Search.{someBelow}
+use Rattle.runs.specs.Tests.{anyBelow}
 use Rattle.plan_rules.proofs.Laws.{same, and-both, and-three, and-of, found-at, some-yes, some-same}
 use Rattle.plan_rules_later.specs.declared.Pass.the-variants.{Children, Signs, Posts}
 use Rattle.plan_rules_later.specs.declared.Pass.{Pass}
@@ -25,7 +25,7 @@ use Rattle.plan_rules.proofs.Rising.{first-rises, comes-first}
 
 -- what a pass works out
 unfoldable pub passRefuses : Pass → List ℕ → Bool
-passRefuses p b = someBelow (stepsOf p b) (refuses (backwards (stepsOf p b) (stepOf p b)))
+passRefuses p b = anyBelow (stepsOf p b) (refuses (backwards (stepsOf p b) (stepOf p b)))
 
 -- ---- tests of two conditions
 -- place and flag are told from the slot
@@ -87,12 +87,12 @@ module _ (b : List ℕ) (i j : ℕ) where
       simp (eq-eqb _ _ (r .post), eq-eqb _ _ (r .flag), r .node, eq-eqb (condNode b i + 1) (condNode b i + 1) refl))
 
 -- a clear condition is barred exactly if some condition has the other sign
-both-found : (b : List ℕ) (n i : ℕ) → judged n (signStep b) i ≡ someBelow n (bothSigns b i)
+both-found : (b : List ℕ) (n i : ℕ) → judged n (signStep b) i ≡ anyBelow n (bothSigns b i)
 unfolding signStep
 both-found b n i =
-    same (judged n (signStep b) i) (someBelow n (bothSigns b i))
+    same (judged n (signStep b) i) (anyBelow n (bothSigns b i))
     (λ y.
-    let w = and-both (eqb (signOf (condValue b i)) 0) (someBelow n (answers (signStep b) i)) y in
+    let w = and-both (eqb (signOf (condValue b i)) 0) (anyBelow n (answers (signStep b) i)) y in
     let f = found-at n (answers (signStep b) i) (w .1) in
     let r = sign-answered b i (f .0) (f .2) in
     let p = slot-parts (condValue b i) (condValue b (f .0)) (r .slot) in
@@ -102,7 +102,7 @@ both-found b n i =
     (λ y.
     let f = found-at n (bothSigns b i) y in
     let r = both-signs b i (f .0) (f .2) in
-    and-of (eqb (signOf (condValue b i)) 0) (someBelow n (answers (signStep b) i)) (eq-eqb _ _ (r .clear))
+    and-of (eqb (signOf (condValue b i)) 0) (anyBelow n (answers (signStep b) i)) (eq-eqb _ _ (r .clear))
     (some-yes n (answers (signStep b) i) (f .0) (f .1)
     (sign-answer b i (f .0) (record
     { node = r .node; slot = slot-of (condValue b i) (condValue b (f .0)) (r .place) (r .flag); set = r .set }))))
@@ -123,7 +123,7 @@ module _ (b : List ℕ) (fits : Whole b) (parents : cause7 b ≡ false) where
       omega (arith, parent-lower j m (omega arith)))
       ∙ some-same (nodeCount b) (judged (nodeCount b) (childStep b)) (childless b)
       (λ i l.
-      or-false (isGroup b i && not (someBelow (nodeCount b) (answers (childStep b) i)))
+      or-false (isGroup b i && not (anyBelow (nodeCount b) (answers (childStep b) i)))
       ∙ ap (λ (t : Bool). isGroup b i && not t)
       (some-same (nodeCount b) (answers (childStep b) i) (λ n. eqb (parentOf b n) i)
       (λ n k. and-true (eqb (parentOf b n) i))))
@@ -151,7 +151,7 @@ module _ (b : List ℕ) (rising : cause10 b ≡ false) where
   signs =
       pass-finds (condCount b) (signStep b) (λ i l. omega arith)
       (λ i j l m. omega (arith, nodes-rise i j l m)) sign-later
-      ∙ some-same (condCount b) (judged (condCount b) (signStep b)) (λ i. someBelow (condCount b) (bothSigns b i))
+      ∙ some-same (condCount b) (judged (condCount b) (signStep b)) (λ i. anyBelow (condCount b) (bothSigns b i))
       (λ i l. both-found b (condCount b) i)
 
   post-later : (i j : ℕ) → i < condCount b → j < condCount b → (eqb (placeOf (condValue b i)) 1 || false) ≡ true
@@ -169,7 +169,7 @@ module _ (b : List ℕ) (rising : cause10 b ≡ false) where
       (λ i j l m. omega (arith, nodes-rise i j l m)) post-later
       ∙ some-same (condCount b) (judged (condCount b) (postStep b)) (noPost b)
       (λ i l.
-      or-false (eqb (placeOf (condValue b i)) 1 && not (someBelow (condCount b) (answers (postStep b) i)))
+      or-false (eqb (placeOf (condValue b i)) 1 && not (anyBelow (condCount b) (answers (postStep b) i)))
       ∙ ap (λ (t : Bool). eqb (placeOf (condValue b i)) 1 && not t)
       (some-same (condCount b) (answers (postStep b) i) (postOf b i) (λ j k. post-same b i j)))
 

@@ -11,7 +11,7 @@ use lib.ListN.{length, getD, take, List·getD-eq-default}
 use lib.Seq.{ext-getD, getD-take, length-take-le}
 use borrow.Author.Tests.{eqb-true, not-false, lt-ltb, le-ltb}
 use Rattle.plan_format.specs.Format.{nodeCount, isKind}
-use Rattle.plan_rules.specs.Search.{someBelow}
+use Rattle.runs.specs.Tests.{anyBelow}
 use Rattle.plan_rules.proofs.Laws.{either, or-none, none-at}
 use Rattle.runs.specs.Plan.{placeNumber}
 use Rattle.plan_check.proofs.Meaning.{kind-is}
@@ -99,7 +99,7 @@ module _ (b s z : List ℕ) (ok : stateRefusal b z ≡ 0) (h : Kept b s z) where
   pub group-byte : (n : ℕ) → n < nodeCount b → isKind b n 0 ≡ false → nodeByte z n ≡ 0
   unfolding malformed badByte
   group-byte n l y =
-      let w = or-none (someBelow 64 (badFlag b z)) (someBelow (nodeCount b) (badByte b z)) (state-well b z ok .1) in
+      let w = or-none (anyBelow 64 (badFlag b z)) (anyBelow (nodeCount b) (badByte b z)) (state-well b z ok .1) in
       eqb-true (nodeByte z n) 0 (not-false _ (rw y at (none-at (nodeCount b) (badByte b z) (w .1) n l)))
 
   status-byte : (n : ℕ) → n < nodeCount b → statusByte (statusIn b z n) ≡ nodeByte z n

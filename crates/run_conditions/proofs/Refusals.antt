@@ -13,13 +13,12 @@ use Rattle.run_flags.specs.Flags.{flagIn, allByte}
 use Rattle.run_flags.proofs.Laws.{in-first, all-flags}
 use Rattle.plan_format.specs.Format.{condCount, condNode, condValue}
 use Rattle.plan_rules.specs.Rules.{refusal}
-use Rattle.plan_rules.specs.Search.{someBelow}
 use Rattle.plan_rules.proofs.Laws.{and-both, and-of, found-at, some-yes}
 use Rattle.plan_check.specs.Meaning.{planOf, signIn}
 use Rattle.runs.specs.Plan.{Place, pre, inc, placeNumber}
 use Rattle.runs.specs.Execution.{Event, start, nodeOf, asserts}
 use Rattle.runs.specs.Calls.{PreUnmet, IncBroken}
-use Rattle.runs.specs.Tests.{sameB}
+use Rattle.runs.specs.Tests.{anyBelow, sameB}
 use Rattle.runs.specs.Model.Monitor.{preUnmetB, incBrokenB}
 use Rattle.runs.proofs.Calls.Reflect.{r-pre-unmet, r-inc-broken}
 use Rattle.runs.proofs.Reflect.{true-T, T-true, same-test}
@@ -56,7 +55,7 @@ module _ (b s : List ℕ) (ok : stateRefusal b s ≡ 0) (t : ℕ) where
   shown f l = rw (lt-ltb f 64 l) (sym (in-first s f l))
 
   -- 21
-  unmet-to : T (someBelow (condCount b) (unmetAt b (take 8 s) t)) → PreUnmet (planOf b) (flagShown s) (start t)
+  unmet-to : T (anyBelow (condCount b) (unmetAt b (take 8 s) t)) → PreUnmet (planOf b) (flagShown s) (start t)
   unfolding unmetAt planOf
   unmet-to y =
       let w = found-at (condCount b) (unmetAt b (take 8 s) t) (T-true _ y) in
@@ -70,7 +69,7 @@ module _ (b s : List ℕ) (ok : stateRefusal b s ≡ 0) (t : ℕ) where
         unmet = shown f (flag-small (condValue b i)) ∙ differ (setAt b i) (flagIn (take 8 s) f) (x .1);
       }
 
-  unmet-from : PreUnmet (planOf b) (flagShown s) (start t) → T (someBelow (condCount b) (unmetAt b (take 8 s) t))
+  unmet-from : PreUnmet (planOf b) (flagShown s) (start t) → T (anyBelow (condCount b) (unmetAt b (take 8 s) t))
   unfolding unmetAt planOf
   unmet-from x =
       let w = found b accepted pre t (x .on) (x .sign) (x .needs) in
@@ -81,7 +80,7 @@ module _ (b s : List ℕ) (ok : stateRefusal b s ≡ 0) (t : ℕ) where
       (w .of)
       (rw (w .flag, w .sign) (differs (x .sign) (flagIn (take 8 s) (x .on)) e))))
 
-  pub unmet-is : someBelow (condCount b) (unmetAt b (take 8 s) t) ≡ preUnmetB (planOf b) (flagShown s) (start t)
+  pub unmet-is : anyBelow (condCount b) (unmetAt b (take 8 s) t) ≡ preUnmetB (planOf b) (flagShown s) (start t)
   unmet-is = same-test _ _ (record { to = unmet-to; from = unmet-from })
       (r-pre-unmet (planOf b) (well-formed b s ok) (flagShown s) (start t))
 
@@ -105,7 +104,7 @@ module _ (b s : List ℕ) (ok : stateRefusal b s ≡ 0) (t : ℕ) where
     abbrev test : ℕ → Bool
     test = brokenAt b s (after false) (after true) t
 
-    broken-to : T (someBelow (condCount b) test) → IncBroken (planOf b) (statusIn b s) e
+    broken-to : T (anyBelow (condCount b) test) → IncBroken (planOf b) (statusIn b s) e
     unfolding brokenAt planOf
     broken-to y =
         let w = found-at (condCount b) test (T-true _ y) in
@@ -130,7 +129,7 @@ module _ (b s : List ℕ) (ok : stateRefusal b s ≡ 0) (t : ℕ) where
               ∙ differ v (flagIn (cond v (after true) (after false)) f) (x3 .1));
         }
 
-    broken-from : IncBroken (planOf b) (statusIn b s) e → T (someBelow (condCount b) test)
+    broken-from : IncBroken (planOf b) (statusIn b s) e → T (anyBelow (condCount b) test)
     unfolding brokenAt planOf
     broken-from x =
         let w = found b accepted inc (x .who) (x .on) (x .sign) (x .holds) in
@@ -152,6 +151,6 @@ module _ (b s : List ℕ) (ok : stateRefusal b s ≡ 0) (t : ℕ) where
         (after-flag v f (flag-small (condValue b i)) ∙ ap (λ (z : ℕ). Option·getD (asserts (planOf b) e z) v) (w .flag)
         ∙ ap (λ (o : Option Bool). Option·getD o v) (x .breaks) ∙ ap not (sym (w .sign))))))
 
-    pub broken-is : someBelow (condCount b) test ≡ incBrokenB (planOf b) (statusIn b s) e
+    pub broken-is : anyBelow (condCount b) test ≡ incBrokenB (planOf b) (statusIn b s) e
     broken-is = same-test _ _ (record { to = broken-to; from = broken-from })
         (r-inc-broken (planOf b) (well-formed b s ok) (statusIn b s) e)

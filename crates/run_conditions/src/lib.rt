@@ -19,8 +19,7 @@ ghost use Rattle.plan_codes.specs.Values.{flagOf};
 ghost use Rattle.plan_format.specs.Format.{condCount, condValue};
 ghost use Rattle.run_flags.specs.Flags.{allByte};
 ghost use Rattle.plan_rules.specs.Rules.{refusal};
-ghost use Rattle.plan_rules.specs.Search.{someBelow};
-ghost use Rattle.runs.specs.Tests.{sameB};
+ghost use Rattle.runs.specs.Tests.{anyBelow, sameB};
 ghost use Rattle.run_state.specs.State.{stateRefusal};
 ghost use Rattle.run_state.specs.Made.{isOf, setAt, made};
 ghost use Rattle.run_conditions.specs.Conditions.{unmetAt, brokenAt};
@@ -85,7 +84,7 @@ fn unmet_at(plan: &[u8], flags: Flags, task: usize, i: usize) -> bool
 // 21: a precondition of the task is unmet.
 pub fn pre_unmet(plan: &[u8], flags: Flags, task: usize) -> bool
     requires { ⌜ refusal (now plan) ≡ 0 ⌝ }
-    ensures { λ r. ⌜ r ≡ someBelow (condCount (now (plan .entry))) (unmetAt (now (plan .entry)) (flags .bytes) task) ⌝ }
+    ensures { λ r. ⌜ r ≡ anyBelow (condCount (now (plan .entry))) (unmetAt (now (plan .entry)) (flags .bytes) task) ⌝ }
 {
     let n = conditions(plan);
     let mut i = 0;
@@ -114,7 +113,7 @@ fn broken_at(plan: &[u8], state: &[u8], clear: Flags, set: Flags, task: usize, i
 // 22: the event of the task that makes its literals at the place true breaks an incondition of another running task.
 pub fn inc_broken(plan: &[u8], state: &[u8], place: u16, task: usize) -> bool
     requires { ⌜ stateRefusal (now plan) (now state) ≡ 0 ⌝ }
-    ensures { λ r. ⌜ r ≡ someBelow (condCount (now (plan .entry)))
+    ensures { λ r. ⌜ r ≡ anyBelow (condCount (now (plan .entry)))
         (brokenAt (now (plan .entry)) (now (state .entry))
         (made (now (plan .entry)) place task (replicate 8 (allByte false)))
         (made (now (plan .entry)) place task (replicate 8 (allByte true))) task) ⌝ }

@@ -9,7 +9,7 @@ use lib.Dec.{T, eqb}
 use borrow.Author.Tests.{not-true}
 use Rattle.plan_format.specs.Format.{nodeCount, orderCount, earlierOf, laterOf}
 use Rattle.plan_rules.specs.Rules.{refusal, badOrder, cause13}
-use Rattle.plan_rules.specs.Search.{someBelow}
+use Rattle.runs.specs.Tests.{anyBelow}
 use Rattle.plan_rules.proofs.Laws.{and-both, and-of, none-at, found-at, some-yes}
 use Rattle.plan_check.specs.Meaning.{planOf}
 use Rattle.plan_check.proofs.Accepted.{clean}
@@ -56,7 +56,7 @@ module _ (b s : List ℕ) (ok : stateRefusal b s ≡ 0) (t : ℕ) (marks : List 
   small : (n : ℕ) → n < nodeCount b → n < 128
   small n l = omega (arith, has-room b s ok .plan .fits .limits .nodes)
 
-  open-to : T (someBelow (orderCount b) (openAt b s marks)) → OrderOpen (planOf b) (statusIn b s) t
+  open-to : T (anyBelow (orderCount b) (openAt b s marks)) → OrderOpen (planOf b) (statusIn b s) t
   unfolding openAt planOf
   open-to y =
       let w = found-at (orderCount b) (openAt b s marks) (T-true _ y) in
@@ -76,7 +76,7 @@ module _ (b s : List ℕ) (ok : stateRefusal b s ≡ 0) (t : ℕ) (marks : List 
             ∙ not-true (completeB (planOf b) (statusIn b s) (earlierOf b j)) (x .1));
       }
 
-  open-from : OrderOpen (planOf b) (statusIn b s) t → T (someBelow (orderCount b) (openAt b s marks))
+  open-from : OrderOpen (planOf b) (statusIn b s) t → T (anyBelow (orderCount b) (openAt b s marks))
   unfolding openAt planOf
   open-from x =
       let w = order-is b (x .earlier) (x .later) (x .ordered) in
@@ -96,5 +96,5 @@ module _ (b s : List ℕ) (ok : stateRefusal b s ≡ 0) (t : ℕ) (marks : List 
   opens = r-applies (planOf b) (well-formed b s ok) (record { status = statusIn b s; flag = λ f. false })
       (one (start t)) order-open
 
-  pub open-is : someBelow (orderCount b) (openAt b s marks) ≡ orderOpenB (planOf b) (statusIn b s) t
+  pub open-is : anyBelow (orderCount b) (openAt b s marks) ≡ orderOpenB (planOf b) (statusIn b s) t
   open-is = same-test _ _ (record { to = open-to; from = open-from }) opens

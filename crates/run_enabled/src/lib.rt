@@ -15,7 +15,7 @@ ghost use Prim.Native.Nat.{ℕ, _<_};
 ghost use lib.ListN.{length, getD};
 ghost use Rattle.plan_format.specs.Format.{nodeCount, orderCount, parentOf};
 ghost use Rattle.plan_rules.specs.Rules.{refusal};
-ghost use Rattle.plan_rules.specs.Search.{someBelow};
+ghost use Rattle.runs.specs.Tests.{anyBelow};
 ghost use Rattle.plan_check.specs.Meaning.{planOf};
 ghost use Rattle.runs.specs.Model.Monitor.{branchBegunB};
 ghost use Rattle.runs.specs.Model.Trees.{underB};
@@ -89,7 +89,7 @@ fn open_at(plan: &[u8], state: &[u8], ends: &[u8; 128], marks: &[u8; 128], j: us
 pub fn order_open(plan: &[u8], state: &[u8], ends: &[u8; 128], marks: &[u8; 128]) -> bool
     requires { ⌜ stateRefusal (now plan) (now state) ≡ 0 ⌝ }
     requires { ⌜ Counted Ends (now plan) (now state) (now ends) ⌝ }
-    ensures { λ r. ⌜ r ≡ someBelow (orderCount (now (plan .entry)))
+    ensures { λ r. ⌜ r ≡ anyBelow (orderCount (now (plan .entry)))
         (openAt (now (plan .entry)) (now (state .entry)) (now (marks .entry))) ⌝ }
 {
     let n = orders(plan);

@@ -14,7 +14,7 @@ use borrow.Author.Tests.{eq-eqb, ne-eqb, lt-ltb, le-ltb, leb-true}
 use Rattle.run_flags.specs.Flags.{flagIn}
 use Rattle.run_flags.proofs.Laws.{same-byte, in-first}
 use Rattle.plan_format.specs.Format.{nodeCount, flagCount, isKind}
-use Rattle.plan_rules.specs.Search.{someBelow}
+use Rattle.runs.specs.Tests.{anyBelow}
 use Rattle.plan_rules.proofs.Laws.{and-both, and-of, not-passed, none-all, none-at, or-none}
 use Rattle.plan_check.specs.Meaning.{planOf, signIn}
 use Rattle.plan_check.proofs.Meaning.{kind-is, means}
@@ -107,7 +107,7 @@ module _ (b s : List ℕ) (ok : stateRefusal b s ≡ 0) (k : Place) (t x : ℕ) 
   unfolding malformed badFlag badByte
   still-well small =
       let r = has-room b s ok in
-      let m = or-none (someBelow 64 (badFlag b s)) (someBelow (nodeCount b) (badByte b s)) (state-well b s ok .1) in
+      let m = or-none (anyBelow 64 (badFlag b s)) (anyBelow (nodeCount b) (badByte b s)) (state-well b s ok .1) in
       sym
       (state-good b next (sym (room-long b next (r .accepted) (omega (arith, next-length, r .room))))
       (rw (

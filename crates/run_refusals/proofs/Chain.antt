@@ -10,7 +10,6 @@ use lib.ListN.{replicate}
 use borrow.Author.Tests.{eq-eqb, ne-eqb}
 use Rattle.run_flags.specs.Flags.{allByte}
 use Rattle.plan_format.specs.Format.{nodeCount, kindOf, isKind, condCount}
-use Rattle.plan_rules.specs.Search.{someBelow}
 use Rattle.plan_rules.proofs.Laws.{either}
 use mathlib.Core.Option.{none}
 use Rattle.plan_check.specs.Meaning.{planOf, kindAt, signIn}
@@ -21,7 +20,7 @@ use Rattle.runs.specs.Execution.{Status, waiting, running, done, Event, start, 
 use Rattle.runs.specs.Calls.{asks, statusByte, no-task, wrong-status, branch-begun, order-open, pre-unmet, inc-broken}
 use Rattle.runs.specs.Model.Monitor.{returned, refusalOf, firstOf, orElse, code, appliesB, taskB, statusB, branchBegunB}
 use Rattle.runs.specs.Model.Monitor.{orderOpenB, preUnmetB, incBrokenB}
-use Rattle.runs.specs.Tests.{negate}
+use Rattle.runs.specs.Tests.{negate, anyBelow}
 use Rattle.runs.proofs.Reflect.{r-eq, r-map, clash, true-T, T-true, same-test}
 use Rattle.runs.proofs.Calls.Reflect.{r-task, r-status}
 use Rattle.base.specs.Answers.{first}
@@ -160,12 +159,12 @@ module _ (b s : List ℕ) (ok : stateRefusal b s ≡ 0) where
 
   -- the test of 22, by what the function has at hand
   pub broken-by : (t : ℕ) (e : Event) → nodeOf e ≡ t → (q : ℕ) → q ≡ placeNumber (eventPlace e) → (r : Bool)
-      → r ≡ someBelow (condCount b) (brokenAt b s (made b q t (replicate 8 (allByte false)))
+      → r ≡ anyBelow (condCount b) (brokenAt b s (made b q t (replicate 8 (allByte false)))
       (made b q t (replicate 8 (allByte true))) t) → r ≡ incBrokenB (planOf b) (statusIn b s) e
   broken-by t e of q k r h =
       let g : (f : ℕ) → asserts (planOf b) e f ≡ signIn b (eventPlace e) t f = λ f. event-does e f
       ∙ ap (λ (n : ℕ). signIn b (eventPlace e) n f) of in
-      h ∙ ap (λ (q : ℕ). someBelow (condCount b)
+      h ∙ ap (λ (q : ℕ). anyBelow (condCount b)
       (brokenAt b s (made b q t (replicate 8 (allByte false))) (made b q t (replicate 8 (allByte true))) t)) k
       ∙ broken-is b s ok t (eventPlace e) e of g
 

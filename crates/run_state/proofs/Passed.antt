@@ -7,7 +7,7 @@ use Prim.Native.Nat.{ℕ, zero, suc, _<_, _≤_}
 use native.Mathlib.Omega.{arith}
 use borrow.Author.Tests.{ltb-false}
 use Rattle.plan_format.specs.Format.{nodeCount, kindOf}
-use Rattle.plan_rules.specs.Search.{someBelow}
+use Rattle.runs.specs.Tests.{anyBelow}
 use Rattle.plan_rules.proofs.Laws.{or-none, none-at}
 use Rattle.plan_check.specs.Meaning.{planOf}
 use Rattle.plan_check.proofs.Meaning.{means-well-formed, kind-of}
@@ -49,7 +49,7 @@ module _ (b s : List ℕ) (ok : stateRefusal b s ≡ 0) where
   pub byte-small : (n : ℕ) → n < nodeCount b → kindOf b n ≡ 0 → nodeByte s n ≤ 2
   unfolding malformed badByte
   byte-small n l k =
-      let w = or-none (someBelow 64 (badFlag b s)) (someBelow (nodeCount b) (badByte b s)) (state-well b s ok .1) in
+      let w = or-none (anyBelow 64 (badFlag b s)) (anyBelow (nodeCount b) (badByte b s)) (state-well b s ok .1) in
       ltb-false 2 (nodeByte s n) (rw (kind-of b n 0 l k) at (none-at (nodeCount b) (badByte b s) (w .1) n l))
 
   task-status : (n : ℕ) → n < nodeCount b → kindOf b n ≡ 0 → statusIn b s n ≡ statusAt (nodeByte s n)

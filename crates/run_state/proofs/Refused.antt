@@ -11,7 +11,7 @@ use Rattle.run_flags.specs.Flags.{flagIn}
 use Rattle.run_flags.proofs.Laws.{in-first}
 use Rattle.plan_format.specs.Format.{nodeCount, flagCount}
 use Rattle.plan_rules.specs.Rules.{refusal}
-use Rattle.plan_rules.specs.Search.{someBelow}
+use Rattle.runs.specs.Tests.{anyBelow}
 use Rattle.plan_check.proofs.Accepted.{Clean, clean}
 use Rattle.run_state.specs.State.{tooShort, badFlag, badByte, malformed, roomRefusal, stateRefusal}
 
@@ -62,7 +62,7 @@ pub flag-bad : (b s bytes : List ℕ) (v f : ℕ) (h : Bool) → v ≡ flagCount
 unfolding badFlag
 flag-bad b s bytes v f h ev eb eh l = rw (ev, eh, eb, in-first s f l)
 
-pub bad-parts : (b s : List ℕ) (x y : Bool) → x ≡ someBelow 64 (badFlag b s) → y ≡ someBelow (nodeCount b) (badByte b s)
+pub bad-parts : (b s : List ℕ) (x y : Bool) → x ≡ anyBelow 64 (badFlag b s) → y ≡ anyBelow (nodeCount b) (badByte b s)
     → (x || y) ≡ malformed b s
 unfolding malformed
 bad-parts b s x y ex ey = rw (ex, ey)

@@ -9,7 +9,7 @@ use Rattle.base.specs.Answers.{first}
 use Rattle.run_flags.specs.Flags.{flagIn}
 use Rattle.plan_format.specs.Format.{nodeCount, flagCount, isKind}
 use Rattle.plan_rules.specs.Rules.{refusal}
-use Rattle.plan_rules.specs.Search.{someBelow}
+use Rattle.runs.specs.Tests.{anyBelow}
 use Rattle.runs.specs.Execution.{Status, waiting, running, done}
 use Rattle.runs.specs.Calls.{World}
 
@@ -29,7 +29,7 @@ unfoldable pub badByte : List ℕ → List ℕ → ℕ → Bool
 badByte b s n = cond (isKind b n 0) (ltb 2 (nodeByte s n)) (not (eqb (nodeByte s n) 0))
 
 unfoldable pub malformed : List ℕ → List ℕ → Bool
-malformed b s = someBelow 64 (badFlag b s) || someBelow (nodeCount b) (badByte b s)
+malformed b s = anyBelow 64 (badFlag b s) || anyBelow (nodeCount b) (badByte b s)
 
 -- refusals 1 to 15
 unfoldable pub roomRefusal : List ℕ → List ℕ → ℕ

@@ -9,14 +9,14 @@ ghost use mathlib.Core.Path.{_≡_};
 ghost use Prim.Native.Nat.{_+_, _<_, _≤_};
 ghost use lib.ListN.{length};
 ghost use Rattle.plan_format.specs.Format.{Whole, nodeCount};
-ghost use Rattle.plan_rules.specs.Search.{someBelow};
+ghost use Rattle.runs.specs.Tests.{anyBelow};
 ghost use Rattle.run_state.specs.State.{badFlag, badByte, roomRefusal, stateRefusal};
 ghost use Rattle.run_state.specs.Fresh.{freshByte, Freshened};
 
 // A bit for a flag of number v or higher.
 fn flags_bad(plan: &[u8], state: &[u8]) -> bool
     requires { ⌜ (16 ≤ length (now plan)) × (8 ≤ length (now state)) ⌝ }
-    ensures { λ r. ⌜ r ≡ someBelow 64 (badFlag (now (plan .entry)) (now (state .entry))) ⌝ }
+    ensures { λ r. ⌜ r ≡ anyBelow 64 (badFlag (now (plan .entry)) (now (state .entry))) ⌝ }
 {
     let v = flags(plan);
     let held = load(state);
@@ -44,7 +44,7 @@ fn byte_bad(plan: &[u8], state: &[u8], n: usize) -> bool
 
 fn bytes_bad(plan: &[u8], state: &[u8]) -> bool
     requires { ⌜ Whole (now plan) × (8 + nodeCount (now plan) ≤ length (now state)) ⌝ }
-    ensures { λ r. ⌜ r ≡ someBelow (nodeCount (now (plan .entry)))
+    ensures { λ r. ⌜ r ≡ anyBelow (nodeCount (now (plan .entry)))
         (badByte (now (plan .entry)) (now (state .entry))) ⌝ }
 {
     let n = nodes(plan);

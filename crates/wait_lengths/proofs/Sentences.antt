@@ -10,7 +10,7 @@ use lib.Dec.{eqb}
 use borrow.Author.Tests.{eqb-true, eq-eqb}
 use Rattle.plan_format.specs.Format.{nodeCount, orderCount, parentOf, kindOf, earlierOf, laterOf, isKind}
 use Rattle.plan_rules.specs.Rules.{isChild}
-use Rattle.plan_rules.specs.Search.{someBelow}
+use Rattle.runs.specs.Tests.{anyBelow}
 use Rattle.plan_rules.proofs.Laws.{either, found-at, none-at}
 use Rattle.plan_check.proofs.Accepted.{Clean}
 use Rattle.plan_check.proofs.Meaning.{kind-is, kind-of, kind-limit, kind-group, group-of, child-of}
@@ -113,7 +113,7 @@ module _ {b : List ℕ} (ok : Clean b) {len wait longest len' wait' longest' : �
   wait-in : (k g c : ℕ) → c < k → isKind b g 1 ≡ true → Child b g c → ((d : ℕ) → Child b g d → len d ≡ len' d) → wait c ≡ wait' c
   wait-in zero g c l a h e = absurd (omega arith)
   wait-in (suc k) g c l a h e = ⊎-elim
-      (λ (y : someBelow (orderCount b) (λ j. eqb (laterOf b j) c) ≡ true).
+      (λ (y : anyBelow (orderCount b) (λ j. eqb (laterOf b j) c) ≡ true).
       let w = found-at (orderCount b) (λ j. eqb (laterOf b j) c) y in
       let o : OrderInto b c (w .0) = (w .1, eqb-true _ _ (w .2)) in
       greatest-one
@@ -122,10 +122,10 @@ module _ {b : List ℕ} (ok : Clean b) {len wait longest len' wait' longest' : �
       omega (arith, wait-in k g (earlierOf b i) (omega arith) a (x .1) e, e (earlierOf b i) (x .1)))
       (t .ordered g c (w .0) a h o)
       (t' .ordered g c (w .0) a h o))
-      (λ (y : someBelow (orderCount b) (λ j. eqb (laterOf b j) c) ≡ false).
+      (λ (y : anyBelow (orderCount b) (λ j. eqb (laterOf b j) c) ≡ false).
       let n : (j : ℕ) → OrderInto b c j → ⊥ = λ j q. true≢false (sym (eq-eqb _ _ (q .1)) ∙ none-at (orderCount b) (λ i. eqb (laterOf b i) c) y j (q .0)) in
       t .unordered g c a h n ∙ sym (t' .unordered g c a h n))
-      (either (someBelow (orderCount b) (λ j. eqb (laterOf b j) c)))
+      (either (anyBelow (orderCount b) (λ j. eqb (laterOf b j) c)))
 
   length-in : (k n : ℕ) → n < nodeCount b → nodeCount b ≤ k + n → len n ≡ len' n
   length-in zero n l m = absurd (omega arith)

@@ -1,7 +1,7 @@
 -- `plan_rules_each::broken` meets its contract. Assumes nothing.
 use native.Mathlib.Omega.{arith}
 use Rattle.plan_rules.proofs.Laws.{some-yes, none-more, none-none}
-use Rattle.plan_rules.specs.Search.{someBelow}
+use Rattle.runs.specs.Tests.{anyBelow}
 use Rattle.plan_rules.specs.Rules.{cause4, cause5, cause6, cause7, cause9, cause10, cause13, cause14}
 use Rattle.plan_rules_each.specs.declared.Rule.{Rule}
 use Rattle.plan_rules_each.specs.declared.Rule.the-variants.{Starts, Names, Entries, Parents, Conditions}
@@ -16,7 +16,7 @@ use Rattle.plan_rules_each.proofs.broken.Statement.{statement}
 use Rattle.plan_rules_each.proofs.broken.Tie as tie
 
 -- the causes are searches for such an index
-searched : (r : Rule) (b : List ℕ) → someBelow (countOf r b) (brokenAt r b) ≡ causeOf r b
+searched : (r : Rule) (b : List ℕ) → anyBelow (countOf r b) (brokenAt r b) ≡ causeOf r b
 unfolding cause4 cause5 cause6 cause7 cause9 cause10 cause13 cause14
 searched Starts b = refl
 searched Names b = refl
@@ -28,7 +28,7 @@ searched Orders b = refl
 searched RisingOrders b = refl
 
 abbrev Inv-loop : tie.InvT-loop
-Inv-loop plan rule n i₀ i = (i ≤ n) × (someBelow i (brokenAt rule plan) ≡ false)
+Inv-loop plan rule n i₀ i = (i ≤ n) × (anyBelow i (brokenAt rule plan) ≡ false)
 
 abbrev μ-loop : tie.MeasureT-loop
 μ-loop plan rule n i₀ i = n - i

@@ -3,7 +3,7 @@ use native.Mathlib.Omega.{arith}
 use Rattle.plan_rules_later.specs.declared.Step.{Step}
 use Rattle.plan_rules_later.specs.declared.Pass.{Pass}
 use Rattle.plan_rules.proofs.Laws.{none-none, some-yes, none-more}
-use Rattle.plan_rules.specs.Search.{someBelow}
+use Rattle.runs.specs.Tests.{anyBelow}
 use Rattle.plan_rules_later.proofs.Found.{passRefuses, pass-is}
 use Rattle.plan_rules_later.proofs.Table.{refuses, refusesAt, backwards, Holds, holds-none, asked, written, kept}
 use denote.Ref.{now}
@@ -24,7 +24,7 @@ stepsBack plan pass = backwards (stepsOf pass plan) (stepOf pass plan)
 abbrev Inv-loop : tie.InvT-loop
 Inv-loop plan pass n table₀ m₀ table m = (m ≤ n)
     × ((length table ≡ 256) × (Holds (stepsBack plan pass) m table
-    × (someBelow m (refuses (stepsBack plan pass)) ≡ false)))
+    × (anyBelow m (refuses (stepsBack plan pass)) ≡ false)))
 
 abbrev μ-loop : tie.MeasureT-loop
 μ-loop plan pass n table₀ m₀ table m = n - m

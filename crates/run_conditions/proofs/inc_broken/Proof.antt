@@ -4,7 +4,7 @@ use mathlib.Core.Bool.{true, false}
 use Prim.Native.Nat.{_≤_, _-_}
 use denote.Ref.{now}
 use Rattle.plan_format.specs.Format.{condCount}
-use Rattle.plan_rules.specs.Search.{someBelow}
+use Rattle.runs.specs.Tests.{anyBelow}
 use Rattle.plan_rules.proofs.Laws.{some-yes, none-more, none-none}
 use Rattle.run_state.proofs.Passed.{has-room}
 use lib.ListN.{replicate}
@@ -19,7 +19,7 @@ use Rattle.run_conditions.proofs.inc_broken.Tie as tie
 
 abbrev Inv-loop : tie.InvT-loop
 Inv-loop plan state place task clear set n i₀ i = (i ≤ n)
-    × (someBelow i (brokenAt plan state (clear .bytes) (set .bytes) task) ≡ false)
+    × (anyBelow i (brokenAt plan state (clear .bytes) (set .bytes) task) ≡ false)
 
 abbrev μ-loop : tie.MeasureT-loop
 μ-loop plan state place task clear set n i₀ i = n - i

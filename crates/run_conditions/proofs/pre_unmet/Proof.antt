@@ -4,7 +4,7 @@ use mathlib.Core.Bool.{false}
 use Prim.Native.Nat.{_≤_, _-_}
 use denote.Ref.{now}
 use Rattle.plan_format.specs.Format.{condCount}
-use Rattle.plan_rules.specs.Search.{someBelow}
+use Rattle.runs.specs.Tests.{anyBelow}
 use Rattle.plan_rules.proofs.Laws.{some-yes, none-more, none-none}
 use Rattle.plan_check.proofs.Accepted.{clean}
 use Rattle.run_conditions.specs.Conditions.{unmetAt}
@@ -13,7 +13,7 @@ use Rattle.run_conditions.proofs.pre_unmet.Statement.{statement}
 use Rattle.run_conditions.proofs.pre_unmet.Tie as tie
 
 abbrev Inv-loop : tie.InvT-loop
-Inv-loop plan flags task n i₀ i = (i ≤ n) × (someBelow i (unmetAt plan (flags .bytes) task) ≡ false)
+Inv-loop plan flags task n i₀ i = (i ≤ n) × (anyBelow i (unmetAt plan (flags .bytes) task) ≡ false)
 
 abbrev μ-loop : tie.MeasureT-loop
 μ-loop plan flags task n i₀ i = n - i

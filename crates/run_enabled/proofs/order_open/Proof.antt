@@ -4,7 +4,7 @@ use mathlib.Core.Bool.{false}
 use Prim.Native.Nat.{_≤_, _-_}
 use denote.Ref.{now}
 use Rattle.plan_format.specs.Format.{orderCount}
-use Rattle.plan_rules.specs.Search.{someBelow}
+use Rattle.runs.specs.Tests.{anyBelow}
 use Rattle.plan_rules.proofs.Laws.{some-yes, none-more, none-none}
 use Rattle.run_state.proofs.Passed.{has-room}
 use Rattle.run_enabled.specs.Enabling.{openAt}
@@ -13,7 +13,7 @@ use Rattle.run_enabled.proofs.order_open.Statement.{statement}
 use Rattle.run_enabled.proofs.order_open.Tie as tie
 
 abbrev Inv-loop : tie.InvT-loop
-Inv-loop plan state ends marks n j₀ j = (j ≤ n) × (someBelow j (openAt plan state marks) ≡ false)
+Inv-loop plan state ends marks n j₀ j = (j ≤ n) × (anyBelow j (openAt plan state marks) ≡ false)
 
 abbrev μ-loop : tie.MeasureT-loop
 μ-loop plan state ends marks n j₀ j = n - j

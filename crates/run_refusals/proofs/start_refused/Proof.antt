@@ -4,7 +4,7 @@ use mathlib.Core.List.{List}
 use Prim.Native.Nat.{ℕ}
 use denote.Ref.{now}
 use Rattle.plan_format.specs.Format.{condCount}
-use Rattle.plan_rules.specs.Search.{someBelow}
+use Rattle.runs.specs.Tests.{anyBelow}
 use Rattle.plan_check.specs.Meaning.{planOf}
 use Rattle.runs.specs.Execution.{start}
 use Rattle.runs.specs.Model.Monitor.{preUnmetB}
@@ -25,7 +25,7 @@ unmet : (c : tie.After-pre-unmet)
 unmet c =
     let s = c .before .before .before .before .before .before in
     sym (c .pre-unmet .ensures ∙ ap
-    (λ (x : List ℕ). someBelow (condCount (now (s .args .plan))) (unmetAt (now (s .args .plan)) x (s .args .task)))
+    (λ (x : List ℕ). anyBelow (condCount (now (s .args .plan))) (unmetAt (now (s .args .plan)) x (s .args .task)))
     (c .before .load .ensures) ∙ unmet-is _ _ (s .pre .1) (s .args .task))
 
 returns : tie.Need-returns

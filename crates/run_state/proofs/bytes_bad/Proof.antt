@@ -4,7 +4,7 @@ use mathlib.Core.Bool.{false}
 use Prim.Native.Nat.{_≤_, _-_}
 use denote.Ref.{now}
 use Rattle.plan_format.specs.Format.{nodeCount}
-use Rattle.plan_rules.specs.Search.{someBelow}
+use Rattle.runs.specs.Tests.{anyBelow}
 use Rattle.plan_rules.proofs.Laws.{some-yes, none-more, none-none}
 use Rattle.run_state.specs.State.{badByte}
 use native.Mathlib.Omega.{arith}
@@ -12,7 +12,7 @@ use Rattle.run_state.proofs.bytes_bad.Statement.{statement}
 use Rattle.run_state.proofs.bytes_bad.Tie as tie
 
 abbrev Inv-loop : tie.InvT-loop
-Inv-loop plan state n i₀ i = (i ≤ n) × (someBelow i (badByte plan state) ≡ false)
+Inv-loop plan state n i₀ i = (i ≤ n) × (anyBelow i (badByte plan state) ≡ false)
 
 abbrev μ-loop : tie.MeasureT-loop
 μ-loop plan state n i₀ i = n - i

@@ -4,7 +4,7 @@ use mathlib.Core.Bool.{false, _&&_}
 use Prim.Native.Nat.{_≤_, _-_}
 use lib.Dec.{leb}
 use denote.Ref.{now}
-use Rattle.plan_rules.specs.Search.{someBelow}
+use Rattle.runs.specs.Tests.{anyBelow}
 use Rattle.plan_rules.proofs.Laws.{some-yes, none-more, none-none}
 use Rattle.run_state.specs.State.{badFlag}
 use Rattle.run_state.proofs.Refused.{flag-bad}
@@ -14,7 +14,7 @@ use Rattle.run_state.proofs.flags_bad.Statement.{statement}
 use Rattle.run_state.proofs.flags_bad.Tie as tie
 
 abbrev Inv-loop : tie.InvT-loop
-Inv-loop plan state v held f₀ f = (f ≤ 64) × (someBelow f (badFlag plan state) ≡ false)
+Inv-loop plan state v held f₀ f = (f ≤ 64) × (anyBelow f (badFlag plan state) ≡ false)
 
 abbrev μ-loop : tie.MeasureT-loop
 μ-loop plan state v held f₀ f = 64 - f
