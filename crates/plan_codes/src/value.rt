@@ -1,4 +1,7 @@
 // The value of a condition, told apart by its range.
+use base::places::INC;
+use base::places::POST;
+use base::places::PRE;
 ghost use mathlib.Core.Path.{_≡_};
 ghost use Prim.Native.Nat.{_≤_};
 ghost use Rattle.plan_codes.specs.Values.{parsedOf, placeOf, signOf, flagOf, placeNum, signNum, valueBad};
@@ -51,9 +54,9 @@ pub fn place_number(place: Place) -> u16
     ensures { λ r. ⌜ r ≡ placeNum place ⌝ }
 {
     match place {
-        Place::Pre => 0,
-        Place::Inc => 1,
-        Place::Post => 2,
+        Place::Pre => PRE,
+        Place::Inc => INC,
+        Place::Post => POST,
     }
 }
 
