@@ -19,7 +19,7 @@ ghost use Rattle.runs.specs.Tests.{anyBelow};
 ghost use Rattle.plan_check.specs.Meaning.{planOf};
 ghost use Rattle.runs.specs.Model.Monitor.{branchBegunB};
 ghost use Rattle.runs.specs.Model.Trees.{underB};
-ghost use Rattle.run_state.specs.State.{stateRefusal, statusIn};
+ghost use Rattle.run_state.specs.State.{AtEvent, stateRefusal, statusIn};
 ghost use Rattle.base.specs.Count.{num};
 ghost use Rattle.run_progress.specs.Progress.{Counted};
 ghost use Rattle.run_progress.specs.declared.Tally.the-variants.{Begun, Ends};
@@ -42,7 +42,7 @@ fn rival_begun(plan: &[u8], state: &[u8], begun: &[u8; 128], g: usize, n: usize)
 
 // 19: walks up from the task.
 pub fn branch_begun(plan: &[u8], state: &[u8], begun: &[u8; 128], task: usize) -> bool
-    requires { ⌜ (task < nodeCount (now plan)) × (stateRefusal (now plan) (now state) ≡ 0) ⌝ }
+    requires { ⌜ AtEvent (now plan) (now state) task ⌝ }
     requires { ⌜ Counted Begun (now plan) (now state) (now begun) ⌝ }
     ensures { λ r. ⌜ r ≡ branchBegunB (planOf (now (plan .entry)))
         (statusIn (now (plan .entry)) (now (state .entry))) task ⌝ }

@@ -12,11 +12,9 @@ use run_refusals::place_of;
 use run_refusals::refused;
 use run_state::check_state;
 ghost use mathlib.Core.Path.{_≡_};
-ghost use Prim.Native.Nat.{_<_};
-ghost use Rattle.plan_format.specs.Format.{nodeCount};
 ghost use Rattle.runs.specs.Execution as execution;
 ghost use Rattle.runs.specs.Calls.{statusByte};
-ghost use Rattle.run_state.specs.State.{stateRefusal};
+ghost use Rattle.run_state.specs.State.{AtEvent};
 ghost use Rattle.run_refusals.specs.Events.{eventOf};
 ghost use Rattle.run_monitor.specs.Status.{Told};
 ghost use Rattle.run_monitor.specs.Events.{withEvent, Called};
@@ -54,7 +52,7 @@ fn given(m: Move) -> u8
 
 // Writes the literals of the task at the place, and its byte.
 fn write_event(plan: &[u8], state: &mut [u8], place: u16, task: usize, byte: u8)
-    requires { ⌜ (task < nodeCount (now plan)) × (stateRefusal (now plan) (now state) ≡ 0) ⌝ }
+    requires { ⌜ AtEvent (now plan) (now state) task ⌝ }
     ensures { λ _. ⌜ now (state .exit) ≡ withEvent (now (plan .entry)) place task byte (now (state .entry)) ⌝ }
 {
     let next = with_literals(plan, place, task, load(state));

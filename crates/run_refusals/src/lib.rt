@@ -14,12 +14,10 @@ use run_flags::load;
 use run_progress::Tally;
 use run_progress::children;
 ghost use mathlib.Core.Path.{_≡_};
-ghost use Prim.Native.Nat.{_<_};
-ghost use Rattle.plan_format.specs.Format.{nodeCount};
 ghost use Rattle.runs.specs.Plan.{placeNumber};
 ghost use Rattle.runs.specs.Execution as execution;
 ghost use Rattle.runs.specs.Calls.{asks, statusByte};
-ghost use Rattle.run_state.specs.State.{stateRefusal};
+ghost use Rattle.run_state.specs.State.{AtEvent, stateRefusal};
 ghost use Rattle.run_refusals.specs.Events.{eventOf, eventPlace, eventRefusal};
 ghost use Rattle.run_refusals.specs.Parts.{treeRefusal, beginRefusal};
 
@@ -51,7 +49,7 @@ fn asked(m: Move) -> u8
 
 // Refusals 19 and 20, or 0.
 fn tree_refused(plan: &[u8], state: &[u8], task: usize) -> u32
-    requires { ⌜ (task < nodeCount (now plan)) × (stateRefusal (now plan) (now state) ≡ 0) ⌝ }
+    requires { ⌜ AtEvent (now plan) (now state) task ⌝ }
     ensures { λ r. ⌜ r ≡ treeRefusal (now (plan .entry)) (now (state .entry)) task ⌝ }
 {
     let begun = children(plan, state, Tally::Begun);
@@ -68,7 +66,7 @@ fn tree_refused(plan: &[u8], state: &[u8], task: usize) -> u32
 
 // Refusals 19 to 21 of a start, or 0.
 fn start_refused(plan: &[u8], state: &[u8], task: usize) -> u32
-    requires { ⌜ (task < nodeCount (now plan)) × (stateRefusal (now plan) (now state) ≡ 0) ⌝ }
+    requires { ⌜ AtEvent (now plan) (now state) task ⌝ }
     ensures { λ r. ⌜ r ≡ beginRefusal (now (plan .entry)) (now (state .entry)) (execution.start task) ⌝ }
 {
     let r = tree_refused(plan, state, task);
@@ -83,7 +81,7 @@ fn start_refused(plan: &[u8], state: &[u8], task: usize) -> u32
 
 // Refusals 19 to 21, which are asked of a start only, or 0.
 fn begin_refused(plan: &[u8], state: &[u8], m: Move, task: usize) -> u32
-    requires { ⌜ (task < nodeCount (now plan)) × (stateRefusal (now plan) (now state) ≡ 0) ⌝ }
+    requires { ⌜ AtEvent (now plan) (now state) task ⌝ }
     ensures { λ r. ⌜ r ≡ beginRefusal (now (plan .entry)) (now (state .entry)) (eventOf m task) ⌝ }
 {
     match m {

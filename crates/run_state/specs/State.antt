@@ -1,6 +1,7 @@
 -- A state (01: record): eight bytes of flags, then a byte for each node of its plan. When it is refused, and what it
 -- shows.
-use Prim.Native.Nat.{ℕ, _+_}
+use Prim.Native.Nat.{ℕ, _+_, _<_}
+use mathlib.Core.Path.{_≡_}
 use mathlib.Core.Bool.{Bool, false, cond, not, _&&_, _||_}
 use mathlib.Core.List.{List}
 use lib.ListN.{getD, length}
@@ -52,3 +53,8 @@ flagShown s f = cond (ltb f 64) (flagIn s f) false
 
 unfoldable pub worldOf : List ℕ → List ℕ → World
 worldOf b s = record { status = statusIn b s; flag = flagShown s }
+
+-- what is asked where an event of task t is judged or written: t is a node, and the state passes 1 to 16
+pub record AtEvent (b s : List ℕ) (t : ℕ) : Type 0 where
+  pub node : t < nodeCount b
+  pub passed : stateRefusal b s ≡ 0

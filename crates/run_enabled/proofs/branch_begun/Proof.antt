@@ -24,7 +24,7 @@ abbrev μ-loop : tie.MeasureT-loop
 μ-loop plan state begun task n₀ n = n
 
 room : (c : tie.Start Inv-loop μ-loop) → Roomy (now (c .args .plan)) (now (c .args .state))
-room c = has-room _ _ (c .pre .0 .1)
+room c = has-room _ _ (c .pre .0 .passed)
 
 abbrev start : tie.After-wide Inv-loop μ-loop → tie.Start Inv-loop μ-loop
 start c = c .before .before .before .before .before .before
@@ -34,22 +34,22 @@ parent-is : (c : tie.After-wide Inv-loop μ-loop)
 parent-is c = c .wide .ensures .0 ∙ c .before .parent .ensures
 
 loop-holds : tie.Need-loop-holds Inv-loop μ-loop
-loop-holds c = (itself, (c .before .before .pre .0 .0, λ x. x))
+loop-holds c = (itself, (c .before .before .pre .0 .node, λ x. x))
 
 parent-requires : tie.Need-parent-requires Inv-loop μ-loop
 parent-requires c κs = (c .before .loop .inv .1 .0, room (c .before .before .before .before) .plan .fits)
 
 rival-begun-requires : tie.Need-rival-begun-requires Inv-loop μ-loop
 rival-begun-requires c κs = let s = start c in
-    ((omega arith, (c .before .before .before .loop .inv .1 .0, (parent-is c, s .pre .0 .1))), s .pre .1)
+    ((omega arith, (c .before .before .before .loop .inv .1 .0, (parent-is c, s .pre .0 .passed))), s .pre .1)
 
 returns : tie.Need-returns Inv-loop μ-loop
 returns c =
     let w = c .before .before in
     let l = w .before .before .before in
     let s = start w in
-    begun-yes _ _ (s .pre .0 .1) (s .args .task)
-    (rival-here _ _ (s .pre .0 .1) (l .loop .n) (w .wide .result) (omega arith) (l .loop .inv .1 .0) (parent-is w)
+    begun-yes _ _ (s .pre .0 .passed) (s .args .task)
+    (rival-here _ _ (s .pre .0 .passed) (l .loop .n) (w .wide .result) (omega arith) (l .loop .inv .1 .0) (parent-is w)
     (l .loop .inv .0) (sym (c .before .rival-begun .ensures) ∙ c .if1 .taken))
 
 loop-less : tie.Need-loop-less Inv-loop μ-loop
@@ -71,7 +71,7 @@ loop-again c =
       (
         omega (arith, lower, l .loop .inv .1 .0),
         λ x.
-            rival-up _ _ (s .pre .0 .1) (l .loop .n) (w .wide .result) (omega arith) (l .loop .inv .1 .0) (parent-is w)
+            rival-up _ _ (s .pre .0 .passed) (l .loop .n) (w .wide .result) (omega arith) (l .loop .inv .1 .0) (parent-is w)
             (sym (c .before .rival-begun .ensures) ∙ c .if1 .left) (l .loop .inv .1 .1 x),
       ),
     )
@@ -81,7 +81,7 @@ returns-2 c =
     let l = c .before in
     let s = l .before .before .before in
     let e : l .loop .n ≡ 0 = omega arith in
-    begun-no _ _ (s .pre .0 .1) (s .args .task) (λ x. none-at-root _ _ (s .pre .0 .1) (rw e at (l .loop .inv .1 .1 x)))
+    begun-no _ _ (s .pre .0 .passed) (s .args .task) (λ x. none-at-root _ _ (s .pre .0 .passed) (rw e at (l .loop .inv .1 .1 x)))
 
 pub branch-begun-spec : {M : Type 1} → statement M
 branch-begun-spec =

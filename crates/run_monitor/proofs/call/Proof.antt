@@ -30,10 +30,12 @@ returns-2 c = called-22 _ _ _ (passed (c .before .before .before)) _ (c .before 
 write-event-requires : tie.Need-write-event-requires
 write-event-requires c κs =
     let a = c .before .before .before .before .before .before .before .before .before .before .before .args in
-    let ok = passed (c .before .before .before .before .before .before) in (
-      kind-is _ _ 0 (answer-task _ _ ok (a .task) _ (node-of (a .m) (a .task)) (none (c .before .before .before))) .0,
-      ok,
-    )
+    let ok = passed (c .before .before .before .before .before .before) in
+    record {
+      node = kind-is _ _ 0
+          (answer-task _ _ ok (a .task) _ (node-of (a .m) (a .task)) (none (c .before .before .before))) .0;
+      passed = ok;
+    }
 
 returns-3 : tie.Need-returns-3
 returns-3 c =

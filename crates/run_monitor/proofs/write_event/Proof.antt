@@ -8,11 +8,11 @@ use Rattle.run_monitor.proofs.write_event.Tie as tie
 
 add-state : tie.Need-add-state
 add-state c = let s = c .before .before .before .before .before .before .before .before .before in
-    omega (arith, s .pre .0, has-room _ _ (s .pre .1) .plan .fits .limits .nodes)
+    omega (arith, s .pre .node, has-room _ _ (s .pre .passed) .plan .fits .limits .nodes)
 
 slice-write-state : tie.Need-slice-write-state
 slice-write-state c = let s = c .before .before .before .before .before .before .before .before .before in
-    let l = s .pre .0 in let r = has-room _ _ (s .pre .1) .room in omega arith
+    let l = s .pre .node in let r = has-room _ _ (s .pre .passed) .room in omega arith
 
 returns : tie.Need-returns
 unfolding withEvent
@@ -26,9 +26,9 @@ pub write-event-spec : {M : Type 1} → statement M
 write-event-spec =
     tie.close
     (tie.spec
-    (λ c κs. omega (arith, has-room _ _ (c .before .before .before .pre .1) .room))
-    (λ c κs. has-room _ _ (c .before .before .before .before .pre .1) .accepted)
-    (λ c κs. omega (arith, has-room _ _ (c .before .before .before .before .before .before .pre .1) .room))
+    (λ c κs. omega (arith, has-room _ _ (c .before .before .before .pre .passed) .room))
+    (λ c κs. has-room _ _ (c .before .before .before .before .pre .passed) .accepted)
+    (λ c κs. omega (arith, has-room _ _ (c .before .before .before .before .before .before .pre .passed) .room))
     add-state
     slice-write-state
     (λ c. search needs)

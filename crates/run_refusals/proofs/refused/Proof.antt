@@ -89,10 +89,10 @@ returns-2 c = let s = c .before .before .before .before .before .before .before 
     (is-task (c .before .before .before)) (λ z. c .if2 .taken (z ∙ sym (asked-is (c .before))))
 
 begin-refused-requires : tie.Need-begin-refused-requires
-begin-refused-requires c κs = (
-  task-below (c .before .before .before),
-  c .before .before .before .before .before .before .before .pre,
-)
+begin-refused-requires c κs = record {
+  node = task-below (c .before .before .before);
+  passed = c .before .before .before .before .before .before .before .pre;
+}
 
 returns-3 : tie.Need-returns-3
 returns-3 c = let s = c .before .before .before .before .before .before .before .before .before in

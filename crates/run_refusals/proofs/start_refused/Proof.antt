@@ -26,7 +26,7 @@ unmet c =
     let s = c .before .before .before .before .before .before in
     sym (c .pre-unmet .ensures ∙ ap
     (λ (x : List ℕ). anyBelow (condCount (now (s .args .plan))) (unmetAt (now (s .args .plan)) x (s .args .task)))
-    (c .before .load .ensures) ∙ unmet-is _ _ (s .pre .1) (s .args .task))
+    (c .before .load .ensures) ∙ unmet-is _ _ (s .pre .passed) (s .args .task))
 
 returns : tie.Need-returns
 returns c = begin-tree _ _ _ _ (c .before .tree-refused .ensures) (c .if1 .taken)
@@ -47,7 +47,7 @@ start-refused-spec =
     (tie.spec
     (λ c κs. search needs)
     returns
-    (λ c κs. omega (arith, has-room _ _ (c .before .before .before .before .pre .1) .room))
-    (λ c κs. has-room _ _ (c .before .before .before .before .before .pre .1) .accepted)
+    (λ c κs. omega (arith, has-room _ _ (c .before .before .before .before .pre .passed) .room))
+    (λ c κs. has-room _ _ (c .before .before .before .before .before .pre .passed) .accepted)
     returns-2
     returns-3)

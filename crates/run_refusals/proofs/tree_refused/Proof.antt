@@ -18,7 +18,7 @@ opens : (c : tie.After-order-open)
     .before .args .state))) (c .before .before .before .before .before .before .before .before .before .before
     .before .args .task)
 opens c = c .order-open .ensures
-    ∙ open-is _ _ (c .before .before .before .before .before .before .before .before .before .before .before .pre .1) _
+    ∙ open-is _ _ (c .before .before .before .before .before .before .before .before .before .before .before .pre .passed) _
     _ (c .before .before .before .path .ensures .1)
 
 branch-begun-requires : tie.Need-branch-begun-requires
@@ -29,11 +29,11 @@ returns c = tree-19 _ _ _ (sym (c .before .branch-begun .ensures) ∙ c .if1 .ta
 
 path-requires : tie.Need-path-requires
 path-requires c κs = let s = c .before .before .before .before .before .before .before in
-    (s .pre .0, has-room _ _ (s .pre .1) .accepted)
+    (s .pre .node, has-room _ _ (s .pre .passed) .accepted)
 
 order-open-requires : tie.Need-order-open-requires
 order-open-requires c κs = (
-  c .before .before .before .before .before .before .before .before .before .before .pre .1,
+  c .before .before .before .before .before .before .before .before .before .before .pre .passed,
   c .before .before .before .children2 .ensures .1,
 )
 
@@ -49,10 +49,10 @@ pub tree-refused-spec : {M : Type 1} → statement M
 tree-refused-spec =
     tie.close
     (tie.spec
-    (λ c κs. c .before .before .pre .1)
+    (λ c κs. c .before .before .pre .passed)
     branch-begun-requires
     returns
-    (λ c κs. c .before .before .before .before .before .before .pre .1)
+    (λ c κs. c .before .before .before .before .before .before .pre .passed)
     path-requires
     order-open-requires
     returns-2
