@@ -19,7 +19,8 @@ kindAt k = cond (eqb k 0) task (cond (eqb k 1) all-of any-of)
 -- condition i is of task t, at place p, on flag f, with sign s
 unfoldable pub conditionIs : List ℕ → ℕ → ℕ → ℕ → ℕ → ℕ → Bool
 conditionIs b p t f s i =
-    (eqb (condNode b i) t && eqb (placeOf (condValue b i)) p) && (eqb (flagOf (condValue b i)) f && eqb (signOf (condValue b i)) s)
+    (eqb (condNode b i) t && eqb (placeOf (condValue b i)) p)
+    && (eqb (flagOf (condValue b i)) f && eqb (signOf (condValue b i)) s)
 
 unfoldable pub hasCondition : List ℕ → ℕ → ℕ → ℕ → ℕ → Bool
 hasCondition b p t f s = anyBelow (condCount b) (conditionIs b p t f s)

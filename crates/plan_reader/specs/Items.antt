@@ -28,7 +28,8 @@ itemCount b = nodeCount b + condCount b + orderCount b
 unfoldable pub itemOf : List ℕ → ℕ → Item
 itemOf b at =
     cond (ltb at (nodeCount b)) (item.Node (nodeOf b at))
-    (cond (ltb (at - nodeCount b) (condCount b)) (item.Condition (conditionOf b (at - nodeCount b))) (item.Order (orderOf b (at - nodeCount b - condCount b))))
+    (cond (ltb (at - nodeCount b) (condCount b)) (item.Condition (conditionOf b (at - nodeCount b)))
+    (item.Order (orderOf b (at - nodeCount b - condCount b))))
 
 -- the reader at the next position
 abbrev pub moved : Reader → Reader

@@ -18,7 +18,8 @@ impl<'a> Reader<'a> {
     // Hands over what stands at the position, and moves on.
     pub fn next<'s>(&'s mut self) -> Item
         requires { ⌜ (now self .at < itemCount (now (now self .plan))) × Whole (now (now self .plan)) ⌝ }
-        ensures { λ r. ⌜ (r ≡ itemOf (now (now (self .entry) .plan)) (now (self .entry) .at)) × (now (self .exit) ≡ moved (now (self .entry))) ⌝ }
+        ensures { λ r. ⌜ (r ≡ itemOf (now (now (self .entry) .plan)) (now (self .entry) .at))
+            × (now (self .exit) ≡ moved (now (self .entry))) ⌝ }
     {
         let at = self.at;
         let item = item_at(self.plan, at);

@@ -10,7 +10,8 @@ use Rattle.run_state.specs.State.{statusIn, flagShown}
 
 -- 19 and 20
 unfoldable pub treeRefusal : List ℕ → List ℕ → ℕ → ℕ
-treeRefusal b s t = cond (branchBegunB (planOf b) (statusIn b s) t) 19 (cond (orderOpenB (planOf b) (statusIn b s) t) 20 0)
+treeRefusal b s t =
+    cond (branchBegunB (planOf b) (statusIn b s) t) 19 (cond (orderOpenB (planOf b) (statusIn b s) t) 20 0)
 
 -- 19 to 21, which are asked of a start only
 unfoldable pub beginRefusal : List ℕ → List ℕ → Event → ℕ
