@@ -10,20 +10,22 @@ use lib.ListN.{getD}
 use Rattle.base.specs.Bits.{bit, Says}
 use Rattle.base.proofs.Says.{says-map, says-self, says-none, no-flag}
 use Rattle.runs.specs.Plan.{Plan, Child}
-use Rattle.marks_row.specs.Tables.{Position, AtGroup}
+use Rattle.marks_row.specs.declared.Segment.{Segment}
+use Rattle.marks_row.specs.Segments.{Position, AtSegment}
 use Rattle.marks_row.specs.Columns.{avoid}
 use Rattle.marks_row.proofs.Rows.{cell}
 use Rattle.marks_row.proofs.Segments.{listed, every-next, every-child, joined}
 use Rattle.marks_siblings.specs.Siblings.{Narrows}
 use Rattle.marks_siblings.proofs.Sibling.{silent-cell}
-use Rattle.marks_between.specs.Passing.{Passes, InTheWay, LetsPass, Part, PartWord, PassingPart, Pairing, PassingWord}
+use Rattle.marks_between.specs.Passing.{Passes, InTheWay, LetsPass, PartWord, PassingPart, Pairing, PassingWord}
 
--- the part from low to high of a segment
-pub part-of : {from kids : List ℕ} {size n low high : ℕ} → AtGroup from kids size n → getD from n 0 ≤ low → low ≤ high → high ≤ getD from (n + 1) 0 → Part kids low high
-part-of {n = n} s a b c = record {
+-- the part of a segment from low to high
+pub part-of : {kids : List ℕ} {segment : Segment} {low high : ℕ} → AtSegment kids segment → segment .start ≤ low → low ≤ high → high ≤ segment .end
+    → AtSegment kids (record { start = low; end = high })
+part-of s a b c = record {
   rises = b;
-  ends = omega (arith, s .shaped .ends n (s .below));
-  nodes = record { each = λ i x y. let k = s .shaped .rises n i (s .below) (record { low = omega arith; high = omega arith }) in omega (arith, s .shaped .small, k .1) };
+  ends = omega (arith, s .ends);
+  nodes = record { each = λ i x y. s .nodes .each i (omega arith) (omega arith) };
 }
 
 -- the given flags for which every child in a part has Q
@@ -56,10 +58,10 @@ module _ {kids : List ℕ} {flags low : ℕ} {Q : ℕ → ℕ → Type 0} where
     ) (y .says f l);
   }
 
-module _ {from kids order rows : List ℕ} {size n : ℕ} {p : Plan} (g : Pairing from kids order rows size n p) where
+module _ {kids : List ℕ} {segment : Segment} {order rows : List ℕ} {p : Plan} {n : ℕ} (g : Pairing kids segment order rows p n) where
   -- the child at a position of the segment
-  pub kid : {i x : ℕ} → x ≡ getD kids i 0 → Position from n i → Child p n x
-  kid e at = listed (g .group .tree) (g .group .node) e at
+  pub kid : {i x : ℕ} → x ≡ getD kids i 0 → Position segment i → Child p n x
+  kid e at = listed (g .group .listed) e at
 
   -- the flags that pass every child in the whole segment: by the tables and by the plan
   module _ {c d f : ℕ} (hc : Child p n c) (hd : Child p n d) (l : f < 64) where
@@ -81,17 +83,17 @@ module _ {from kids order rows : List ℕ} {size n : ℕ} {p : Plan} (g : Pairin
           (λ z. x .not-before ((g .orders .before b d (hb .node) (hd .node)) .1 z)) (λ z. x .not-after ((g .orders .after b c (hb .node) (hc .node)) .1 z))),
     )
 
-    pub passing-all : (always : Bool) {flags r : ℕ} → PassingPart kids order rows (getD from n 0) (getD from (n + 1) 0) always flags c d r
+    pub passing-all : (always : Bool) {flags r : ℕ} → PassingPart kids (segment .start) (segment .end) order rows always flags c d r
         → Says r f (T (bit flags f) × Passes p n f always c d)
-    passing-all always s = let every = every-child (g .group .tree) (g .group .node) (λ b hb. (λ x. x, λ x. x)) in
+    passing-all always s = let every = every-child (g .group .listed) (λ b hb. (λ x. x, λ x. x)) in
         says-map (λ x. (x .0, (every-passes always) .0 (every .0 (x .1))), λ x. (x .0, every .1 ((every-passes always) .1 (x .1)))) (s .says f l)
 
-pub passing-says : {from kids order rows : List ℕ} {size n flags c d r : ℕ} (always : Bool)
-    → PassingPart kids order rows (getD from n 0) (getD from (n + 1) 0) always flags c d r
-    → PassingWord from kids order rows size n always flags c d r
-passing-says always s = record { among = λ f l t. (s .says f l .to t) .0; says = λ p g hc hd f l. passing-all g hc hd l always s }
+pub passing-says : {kids : List ℕ} {segment : Segment} {order rows : List ℕ} {flags c d r : ℕ} (always : Bool)
+    → PassingPart kids (segment .start) (segment .end) order rows always flags c d r
+    → PassingWord kids segment order rows always flags c d r
+passing-says always s = record { among = λ f l t. (s .says f l .to t) .0; says = λ p n g hc hd f l. passing-all g hc hd l always s }
 
 -- the child at a position, by its number
-pub passing-kid : {from kids order rows : List ℕ} {size n flags c d k r : ℕ} {always : Bool} → d ≡ k → PassingWord from kids order rows size n always flags c k r
-    → PassingWord from kids order rows size n always flags c d r
+pub passing-kid : {kids : List ℕ} {segment : Segment} {order rows : List ℕ} {flags c d k r : ℕ} {always : Bool} → d ≡ k → PassingWord kids segment order rows always flags c k r
+    → PassingWord kids segment order rows always flags c d r
 passing-kid e h = rw e h

@@ -3,11 +3,12 @@ use mathlib.Core.Path.{_≡_}
 use mathlib.Core.Logic.{_≢_, _⊎_}
 use mathlib.Core.Bool.{Bool, true, false}
 use mathlib.Core.List.{List}
-use Prim.Native.Nat.{ℕ, _≤_, _<_}
+use Prim.Native.Nat.{ℕ, _<_}
 use lib.Dec.{T}
 use Rattle.base.specs.Bits.{bit, Says}
 use Rattle.runs.specs.Plan.{Plan, Child, Before}
 use Rattle.runs.specs.Summary.{Silent}
+use Rattle.marks_row.specs.declared.Segment.{Segment}
 use Rattle.marks_row.specs.Tables.{beforeCode, afterCode, code, RepresentsOrder}
 use Rattle.marks_row.specs.Columns.{avoid, asserts, Fact, wordIn}
 use Rattle.marks_row.specs.Musts.{SaysOf}
@@ -49,38 +50,32 @@ abbrev pub LetsPass : List ℕ → Bool → ℕ → ℕ → Type 0
 LetsPass rows false b f = T (bit (wordIn rows b avoid) f)
 LetsPass rows true b f = ¬ (T (bit (wordIn rows b (asserts false)) f) ⊎ T (bit (wordIn rows b (asserts true)) f))
 
--- a part of the table of children
-pub record Part (kids : List ℕ) (low high : ℕ) : Type 0 where
-  pub rises : low ≤ high
-  pub ends : high ≤ 128
-  pub nodes : Every kids low high (λ b. b < 128)
-
--- of the given flags, those for which every child in the part has Q
+-- of the given flags, those for which every child at the positions from low to high has Q
 pub record PartWord (kids : List ℕ) (low high flags : ℕ) (Q : ℕ → ℕ → Type 0) (r : ℕ) : Type 0 where
   pub says : (f : ℕ) → f < 64 → Says r f (T (bit flags f) × Every kids low high (Q f))
 
--- of the given flags, those that pass every child in the part, by the tables
-abbrev pub PassingPart : List ℕ → List ℕ → List ℕ → ℕ → ℕ → Bool → ℕ → ℕ → ℕ → ℕ → Type 0
-PassingPart kids order rows low high always flags c d r = PartWord kids low high flags (λ f b. InTheWay order always b c d → LetsPass rows always b f) r
+-- of the given flags, those that pass each of these children, by the tables
+abbrev pub PassingPart : List ℕ → ℕ → ℕ → List ℕ → List ℕ → Bool → ℕ → ℕ → ℕ → ℕ → Type 0
+PassingPart kids low high order rows always flags c d r = PartWord kids low high flags (λ f b. InTheWay order always b c d → LetsPass rows always b f) r
 
--- what is known of an all-of group whose pairs of children are looked at
-pub record Pairing (from kids order rows : List ℕ) (size n : ℕ) (p : Plan) : Type 0 where
-  pub group : Group from kids rows size n p
+-- what is known of an all-of group n whose pairs of children are looked at
+pub record Pairing (kids : List ℕ) (segment : Segment) (order rows : List ℕ) (p : Plan) (n : ℕ) : Type 0 where
+  pub group : Group kids segment rows p n
   pub orders : RepresentsOrder order p
 
--- what holds of every plan that the tables represent
-abbrev pub OfPlans : List ℕ → List ℕ → List ℕ → List ℕ → ℕ → ℕ → (Plan → Type 0) → Type 0
-OfPlans from kids order rows size n Q = (p : Plan) → Pairing from kids order rows size n p → Q p
+-- what holds of every plan and node n of which this is known
+abbrev pub OfGroups : List ℕ → Segment → List ℕ → List ℕ → (Plan → ℕ → Type 0) → Type 0
+OfGroups kids segment order rows Q = (p : Plan) (n : ℕ) → Pairing kids segment order rows p n → Q p n
 
 -- of the given flags, those that pass from d to c
-pub record PassingWord (from kids order rows : List ℕ) (size n : ℕ) (always : Bool) (flags c d r : ℕ) : Type 0 where
+pub record PassingWord (kids : List ℕ) (segment : Segment) (order rows : List ℕ) (always : Bool) (flags c d r : ℕ) : Type 0 where
   pub among : (f : ℕ) → f < 64 → T (bit r f) → T (bit flags f)
-  pub says : OfPlans from kids order rows size n (λ p. Child p n c → Child p n d → (f : ℕ) → f < 64 → Says r f (T (bit flags f) × Passes p n f always c d))
+  pub says : OfGroups kids segment order rows (λ p n. Child p n c → Child p n d → (f : ℕ) → f < 64 → Says r f (T (bit flags f) × Passes p n f always c d))
 
 -- the wanted flags of the sign s for which the pair c, d of children of n has P
-pub record PairWord (P : Plan → ℕ → ℕ → Bool → ℕ → ℕ → Type 0) (from kids order rows : List ℕ) (size n s wanted c d r : ℕ) : Type 0 where
+pub record PairWord (P : Plan → ℕ → ℕ → Bool → ℕ → ℕ → Type 0) (kids : List ℕ) (segment : Segment) (order rows : List ℕ) (s wanted c d r : ℕ) : Type 0 where
   pub among : (f : ℕ) → f < 64 → T (bit r f) → T (bit wanted f)
-  pub says : OfPlans from kids order rows size n (λ p. Child p n c → Child p n d → SaysOf s r (λ f v. T (bit wanted f) × P p n f v c d))
+  pub says : OfGroups kids segment order rows (λ p n. Child p n c → Child p n d → SaysOf s r (λ f v. T (bit wanted f) × P p n f v c d))
 
 -- some pair of children of n
 abbrev pub SomePair : Plan → ℕ → (ℕ → ℕ → Type 0) → Type 0

@@ -5,9 +5,10 @@ ghost use Prim.Native.Nat.{ℕ, _<_};
 ghost use lib.Dec.{T};
 ghost use lib.ListN.{getD};
 ghost use Rattle.base.specs.Bits.{bit};
-ghost use Rattle.marks_row.specs.Tables.{AtPair};
-ghost use Rattle.marks_between.specs.Passing.{StandsBetween, Disturbs, InTheWay, LetsPass, Part, PassingPart, PassingWord};
+ghost use Rattle.marks_row.specs.Segments.{AtSegment, AtPair};
+ghost use Rattle.marks_between.specs.Passing.{StandsBetween, Disturbs, InTheWay, LetsPass, PassingPart, PassingWord};
 use base::wide;
+use marks_row::Segment;
 use marks_row::codes::AFTER;
 use marks_row::codes::BEFORE;
 use marks_row::columns::ASSERTS;
@@ -66,24 +67,23 @@ fn lets_pass(rows: &[u64; 2688], always: bool, b: usize) -> u64
     word_at(rows, b, AVOID)
 }
 
-// Of the given flags, those that pass every child in a part of the table of children; it ends as soon as none is left.
+// Of the given flags, those that pass every child in the segment; it ends as soon as none is left.
 fn passing_part(
     kids: &[u8; 128],
+    segment: Segment,
     order: &[u8; 16384],
     rows: &[u64; 2688],
-    low: usize,
-    high: usize,
     always: bool,
     flags: u64,
     c: usize,
     d: usize,
 ) -> u64
-    requires { ⌜ Part (now kids) low high × ((c < 128) × (d < 128)) ⌝ }
-    ensures { λ r. ⌜ PassingPart (now (kids .entry)) (now (order .entry)) (now (rows .entry)) low high always flags c d r ⌝ }
+    requires { ⌜ AtSegment (now kids) segment × ((c < 128) × (d < 128)) ⌝ }
+    ensures { λ r. ⌜ PassingPart (now (kids .entry)) (segment .start) (segment .end) (now (order .entry)) (now (rows .entry)) always flags c d r ⌝ }
 {
     let mut left = flags;
-    let mut i = low;
-    while i < high {
+    let mut i = segment.start;
+    while i < segment.end {
         if left == 0 {
             return 0;
         }
@@ -101,23 +101,27 @@ fn passing_part(
 // Of the given flags, those that pass from the child at j to the child c. The children after the one at j in the table come first: there the flags are
 // soonest settled.
 pub fn passing(
-    from: &[u8; 129],
     kids: &[u8; 128],
+    segment: Segment,
     order: &[u8; 16384],
     rows: &[u64; 2688],
-    n: usize,
-    node: usize,
     always: bool,
     flags: u64,
     c: usize,
     j: usize,
 ) -> u64
-    requires { ⌜ AtPair (now from) (now kids) n node c j ⌝ }
-    ensures { λ r. ⌜ PassingWord (now (from .entry)) (now (kids .entry)) (now (order .entry)) (now (rows .entry)) n node always flags c (getD (now (kids .entry)) j 0) r ⌝ }
+    requires { ⌜ AtPair (now kids) segment c j ⌝ }
+    ensures { λ r. ⌜ PassingWord (now (kids .entry)) segment (now (order .entry)) (now (rows .entry)) always flags c (getD (now (kids .entry)) j 0) r ⌝ }
 {
     let d = wide(kids[j]);
-    let end = wide(from[node + 1]);
-    let start = wide(from[node]);
-    let left = passing_part(kids, order, rows, j + 1, end, always, flags, c, d);
-    passing_part(kids, order, rows, start, j + 1, always, left, c, d)
+    let later = Segment {
+        start: j + 1,
+        end: segment.end,
+    };
+    let earlier = Segment {
+        start: segment.start,
+        end: j + 1,
+    };
+    let left = passing_part(kids, later, order, rows, always, flags, c, d);
+    passing_part(kids, earlier, order, rows, always, left, c, d)
 }

@@ -10,7 +10,8 @@ use lib.Seq.{getD-set-same, getD-set-other}
 use Rattle.base.specs.Bits.{ones, Says}
 use Rattle.base.proofs.Says.{says-map, says-and, says-all}
 use Rattle.runs.specs.Plan.{all-of, any-of, Plan}
-use Rattle.marks_row.specs.Tables.{Position}
+use Rattle.marks_row.specs.declared.Segment.{Segment}
+use Rattle.marks_row.specs.Segments.{Position}
 use Rattle.marks_row.specs.Columns.{Column, avoid, covered, must-inc, indexOf, firstOf, Fact, wordAt, Right, Row}
 use Rattle.marks_siblings.specs.Group.{Group}
 use Rattle.marks_group.specs.Groups.{Others, WithinRow, Merged, Unmerged, Joined}
@@ -77,35 +78,35 @@ module _ {first last : ℕ} {kids : List ℕ} {lo : ℕ} {P M : Column → ℕ �
 pub unmasked : {mask : List ℕ} → Unmerged 0 21 mask → (k : Column) (f : ℕ) → f < 64 → Says (getD mask (indexOf k) 0) f (Unit {0})
 unmasked u k f l = says-all l (u .every (indexOf k) (index-small k) (omega arith) (index-small k)) tt
 
-module _ {from kids rows : List ℕ} {size n : ℕ} {p : Plan} (g : Group from kids rows size n p) where
+module _ {kids : List ℕ} {segment : Segment} {rows : List ℕ} {p : Plan} {n : ℕ} (g : Group kids segment rows p n) where
   -- the row of a child at a position of the segment
-  pub child-row : {i c : ℕ} → c ≡ getD kids i 0 → Position from n i → Right p rows c
-  child-row {c = c} e at = g .children c (listed (g .tree) (g .node) e at)
+  pub child-row : {i c : ℕ} → c ≡ getD kids i 0 → Position segment i → Right p rows c
+  child-row {c = c} e at = g .children c (listed (g .listed) e at)
 
   -- the words of an any-of group, over all its children
   abbrev pub AnyWords : ℕ → List ℕ → Type 0
-  AnyWords i r = Joined (firstOf must-inc) 21 kids (getD from n 0) i (λ k f c. Fact p c f k) (λ k f c. Unit {0}) r
+  AnyWords i r = Joined (firstOf must-inc) 21 kids (segment .start) i (λ k f c. Fact p c f k) (λ k f c. Unit {0}) r
 
-  pub any-row : p .tree .kind n ≡ any-of → {r : List ℕ} → AnyWords (getD from (n + 1) 0) r → Row p n r
+  pub any-row : p .tree .kind n ≡ any-of → {r : List ℕ} → AnyWords (segment .end) r → Row p n r
   any-row kn j = record {
     says = λ k f l. by-cases (decLt (indexOf k) (firstOf must-inc))
-        (λ s. says-map (Iff·trans (some-child (g .tree) (g .node) (λ c hc. (λ x. x .0, λ x. (x, tt)))) (Iff·symm (some-branch p (g .well-formed) kn f k s)))
+        (λ s. says-map (Iff·trans (some-child (g .listed) (λ c hc. (λ x. x .0, λ x. (x, tt)))) (Iff·symm (some-branch p (g .well-formed) kn f k s)))
         (j .some k (inl s) f l))
         (λ ns. let s : firstOf must-inc ≤ indexOf k = omega (arith, ns) in
-        says-map (Iff·trans (every-child (g .tree) (g .node) (λ c hc. (λ x. x, λ x. x))) (Iff·symm (every-branch p (g .well-formed) kn f k s)))
+        says-map (Iff·trans (every-child (g .listed) (λ c hc. (λ x. x, λ x. x))) (Iff·symm (every-branch p (g .well-formed) kn f k s)))
         (j .every k s (index-small k) f l));
   }
 
   -- the words of an all-of group, over all its children
   abbrev pub AllWords : ℕ → List ℕ → Type 0
-  AllWords i r = Joined (indexOf avoid) (firstOf covered) kids (getD from n 0) i (λ k f c. Fact p c f k) (λ k f c. Others p n c f k) r
+  AllWords i r = Joined (indexOf avoid) (firstOf covered) kids (segment .start) i (λ k f c. Fact p c f k) (λ k f c. Others p n c f k) r
 
-  pub all-row : p .tree .kind n ≡ all-of → {r : List ℕ} → AllWords (getD from (n + 1) 0) r → WithinRow p n r
+  pub all-row : p .tree .kind n ≡ all-of → {r : List ℕ} → AllWords (segment .end) r → WithinRow p n r
   all-row kn j = record {
     says = λ k f l. by-cases (decLt (indexOf k) (firstOf covered))
-        (λ s. says-map (Iff·trans (every-child (g .tree) (g .node) (λ c hc. (λ x. x, λ x. x))) (Iff·symm (every-part p (g .well-formed) (g .node) kn f k s)))
+        (λ s. says-map (Iff·trans (every-child (g .listed) (λ c hc. (λ x. x, λ x. x))) (Iff·symm (every-part p (g .well-formed) (g .node) kn f k s)))
         (j .every k (omega arith) s f l))
         (λ ns. let s : firstOf covered ≤ indexOf k = omega (arith, ns) in
-        says-map (Iff·trans (some-child (g .tree) (g .node) (λ c hc. (λ x. x, λ x. x))) (Iff·symm (some-part p (g .well-formed) (g .node) kn f k s)))
+        says-map (Iff·trans (some-child (g .listed) (λ c hc. (λ x. x, λ x. x))) (Iff·symm (some-part p (g .well-formed) (g .node) kn f k s)))
         (j .some k (inr s) f l));
   }

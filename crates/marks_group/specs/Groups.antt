@@ -8,6 +8,7 @@ use lib.ListN.{getD}
 use Rattle.base.specs.Bits.{ones, Says}
 use Rattle.runs.specs.Plan.{all-of, any-of, Plan, Child, Before, Unordered}
 use Rattle.runs.specs.Summary.{MayClobber, Silent, MustClobber}
+use Rattle.marks_row.specs.declared.Segment.{Segment}
 use Rattle.marks_row.specs.Tables.{RepresentsOrder}
 use Rattle.marks_row.specs.Columns.{Column, avoid, quiet, covered, may-pre, may-post, may-inc, requires, asserts, may-clobber, must-inc, must-clobber}
 use Rattle.marks_row.specs.Columns.{indexOf, Fact, wordAt, Row}
@@ -47,12 +48,12 @@ Within p n f (must-clobber v) = (c : ℕ) × Child p n c × (MustClobber p f v c
 pub record WithinRow (p : Plan) (n : ℕ) (w : List ℕ) : Type 0 where
   pub says : (k : Column) (f : ℕ) → f < 64 → Says (getD w (indexOf k) 0) f (Within p n f k)
 
--- for every plan that the tables represent: the words of the any-of group n; of the all-of group n, by its children one by one
-abbrev pub AnyRow : List ℕ → List ℕ → List ℕ → ℕ → ℕ → List ℕ → Type 0
-AnyRow from kids rows size n r = (p : Plan) → Group from kids rows size n p → p .tree .kind n ≡ any-of → Row p n r
+-- for every plan and node n of which the segment has the children: the words of the any-of group n; of the all-of group n, by its children one by one
+abbrev pub AnyRow : List ℕ → Segment → List ℕ → List ℕ → Type 0
+AnyRow kids segment rows r = (p : Plan) (n : ℕ) → Group kids segment rows p n → p .tree .kind n ≡ any-of → Row p n r
 
-abbrev pub AllRow : List ℕ → List ℕ → List ℕ → List ℕ → ℕ → ℕ → List ℕ → Type 0
-AllRow from kids order rows size n r = (p : Plan) → Group from kids rows size n p → RepresentsOrder order p → p .tree .kind n ≡ all-of → WithinRow p n r
+abbrev pub AllRow : List ℕ → Segment → List ℕ → List ℕ → List ℕ → Type 0
+AllRow kids segment order rows r = (p : Plan) (n : ℕ) → Group kids segment rows p n → RepresentsOrder order p → p .tree .kind n ≡ all-of → WithinRow p n r
 
 -- r is the word x and that of a child, y, in column k: from first to last both, in the others one or, under the mask, the other
 pub record JoinedWord (first last k x y mask r : ℕ) : Type 0 where

@@ -1,11 +1,12 @@
 // The row of an any-of group from the rows of its children; that of an all-of group but for the pairs of children that clobber.
 ghost use Prim.Native.Nat.{_≤_, _<_};
 ghost use Rattle.marks_row.specs.Columns.{RowIs};
-ghost use Rattle.marks_row.specs.Tables.{AtGroup};
+ghost use Rattle.marks_row.specs.Segments.{AtSegment};
 ghost use Rattle.marks_group.specs.Groups.{AnyRow, AllRow, JoinedWord, Merged, Unmerged};
 ghost use Rattle.marks_group.specs.Masks.{maskOf};
 use base::ALL;
 use base::wide;
+use marks_row::Segment;
 use marks_row::columns::AVOID;
 use marks_row::columns::COVERED;
 use marks_row::columns::END;
@@ -92,21 +93,14 @@ fn merged(
 }
 
 // The row of an any-of group, from the rows of its children.
-pub fn any_words(
-    from: &[u8; 129],
-    kids: &[u8; 128],
-    rows: &[u64; 2688],
-    n: usize,
-    node: usize,
-) -> [u64; 21]
-    requires { ⌜ AtGroup (now from) (now kids) n node ⌝ }
-    ensures { λ r. ⌜ AnyRow (now (from .entry)) (now (kids .entry)) (now (rows .entry)) n node r ⌝ }
+pub fn any_words(kids: &[u8; 128], segment: Segment, rows: &[u64; 2688]) -> [u64; 21]
+    requires { ⌜ AtSegment (now kids) segment ⌝ }
+    ensures { λ r. ⌜ AnyRow (now (kids .entry)) segment (now (rows .entry)) r ⌝ }
 {
     let mask = start_words(AVOID, END);
     let mut words = start_words(MUST_INC, END);
-    let end = wide(from[node + 1]);
-    let mut i = wide(from[node]);
-    while i < end {
+    let mut i = segment.start;
+    while i < segment.end {
         let next = merged(MUST_INC, END, words, rows, wide(kids[i]), mask);
         words = next;
         i += 1;
@@ -116,22 +110,19 @@ pub fn any_words(
 
 // What an all-of group shows by its children one by one, from their rows.
 pub fn all_words(
-    from: &[u8; 129],
     kids: &[u8; 128],
+    segment: Segment,
     order: &[u8; 16384],
     rows: &[u64; 2688],
-    n: usize,
-    node: usize,
 ) -> [u64; 21]
-    requires { ⌜ AtGroup (now from) (now kids) n node ⌝ }
-    ensures { λ r. ⌜ AllRow (now (from .entry)) (now (kids .entry)) (now (order .entry)) (now (rows .entry)) n node r ⌝ }
+    requires { ⌜ AtSegment (now kids) segment ⌝ }
+    ensures { λ r. ⌜ AllRow (now (kids .entry)) segment (now (order .entry)) (now (rows .entry)) r ⌝ }
 {
     let mut words = start_words(AVOID, COVERED);
-    let end = wide(from[node + 1]);
-    let mut i = wide(from[node]);
-    while i < end {
+    let mut i = segment.start;
+    while i < segment.end {
         let child = wide(kids[i]);
-        let mask = mask_words(all_siblings(from, kids, order, rows, n, node, child));
+        let mask = mask_words(all_siblings(kids, segment, order, rows, child));
         let next = merged(AVOID, COVERED, words, rows, child, mask);
         words = next;
         i += 1;

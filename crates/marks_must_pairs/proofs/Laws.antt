@@ -12,33 +12,34 @@ use Rattle.base.specs.Bits.{bit, ones, Says}
 use Rattle.base.proofs.Says.{says-map, says-dec, says-self, says-and, says-or, says-not, no-flag}
 use Rattle.runs.specs.Plan.{Plan, Child}
 use Rattle.runs.specs.Summary.{Must, ExternalPre, ExternalPost}
+use Rattle.marks_row.specs.declared.Segment.{Segment}
 use Rattle.marks_row.specs.Tables.{code}
 use Rattle.marks_row.specs.Segments.{Some}
 use Rattle.marks_row.specs.Musts.{SaysOf, MustPreWord, MustPostWord}
 use Rattle.runs.proofs.Plan.Numbers.{opposite}
 use Rattle.marks_row.proofs.Segments.{some-next, some-child}
-use Rattle.marks_between.specs.Passing.{OfPlans, PassingWord, Pairing, PairWord}
+use Rattle.marks_between.specs.Passing.{OfGroups, PassingWord, Pairing, PairWord}
 use Rattle.marks_between.proofs.Pair.{no-pair, pass-none, pass-some}
 use Rattle.marks_must_pairs.specs.MustPairs.{MustPair}
 
 -- a word for each place where `must_pair_word` returns
-module _ {from kids order rows : List ℕ} {size n s c d : ℕ} (w : ℕ) where
+module _ {kids : List ℕ} {segment : Segment} {order rows : List ℕ} {s c d : ℕ} (w : ℕ) where
   -- d stands before c: what d must leave, and c must require
   module _ (x y : ℕ) (q : code order d c ≡ 1) (ex : MustPostWord rows d (1 - s) x) (ey : MustPreWord rows c s y) where
-    shared : OfPlans from kids order rows size n (λ p. Child p n c → Child p n d
+    shared : OfGroups kids segment order rows (λ p n. Child p n c → Child p n d
         → SaysOf s (bitAnd x y) (λ f v. Must p d (ExternalPost p f (not v)) × Must p c (ExternalPre p f v)))
-    shared p g hc hd v e f l = let formed = g .group .well-formed in says-and {x = x} {y = y} refl
+    shared p n g hc hd v e f l = let formed = g .group .well-formed in says-and {x = x} {y = y} refl
         (ex _ formed (g .group .children d hd) (not v) (opposite v s e) f l) (ey _ formed (hc .node) (g .group .children c hc) v e f l)
 
-    pub none-shared : bitAnd w (bitAnd x y) ≡ 0 → PairWord MustPair from kids order rows size n s w c d 0
-    none-shared = pass-none w (bitAnd x y) true q (λ p b f v. (λ u. (b, u), λ u. u .1)) shared
+    pub none-shared : bitAnd w (bitAnd x y) ≡ 0 → PairWord MustPair kids segment order rows s w c d 0
+    none-shared = pass-none w (bitAnd x y) true q (λ p n b f v. (λ u. (b, u), λ u. u .1)) shared
 
-    pub shared-passes : {r : ℕ} → PassingWord from kids order rows size n true (bitAnd w (bitAnd x y)) c d r
-        → PairWord MustPair from kids order rows size n s w c d r
-    shared-passes = pass-some w (bitAnd x y) true q (λ p b f v. (λ u. (b, u), λ u. u .1)) shared
+    pub shared-passes : {r : ℕ} → PassingWord kids segment order rows true (bitAnd w (bitAnd x y)) c d r
+        → PairWord MustPair kids segment order rows s w c d r
+    shared-passes = pass-some w (bitAnd x y) true q (λ p n b f v. (λ u. (b, u), λ u. u .1)) shared
 
-  pub not-before : ¬ (code order d c ≡ 1) → PairWord MustPair from kids order rows size n s w c d 0
-  not-before k = no-pair w (λ p g hc hd f v u. k ((g .orders .before _ _ (hd .node) (hc .node)) .1 (u .0)))
+  pub not-before : ¬ (code order d c ≡ 1) → PairWord MustPair kids segment order rows s w c d 0
+  not-before k = no-pair w (λ p n g hc hd f v u. k ((g .orders .before _ _ (hd .node) (hc .node)) .1 (u .0)))
 
 module _ {p : Plan} {n c f : ℕ} {v : Bool} where
   -- no pair with c adds a flag, if c must not require one that is not yet known
@@ -93,14 +94,14 @@ module _ {kids : List ℕ} {low f : ℕ} {Q : ℕ → Type 0} where
       back (inl k) = inl (h .from (inl k))
       back (inr s) = at ((some-next a) .1 s)
 
-pub all-more : {from kids order rows : List ℕ} {size n : ℕ} {p : Plan} → Pairing from kids order rows size n p → {w f : ℕ} {K : Type 0} {Q : ℕ → Type 0}
-    → Says w f (K ⊎ Some kids (getD from n 0) (getD from (n + 1) 0) Q) → Says w f (K ⊎ ((c : ℕ) × Child p n c × Q c))
-all-more {from} {kids} {n = n} {p = p} g {K = K} {Q = Q} s = says-map (to, back) s
+pub all-more : {kids : List ℕ} {segment : Segment} {order rows : List ℕ} {p : Plan} {n : ℕ} → Pairing kids segment order rows p n → {w f : ℕ} {K : Type 0} {Q : ℕ → Type 0}
+    → Says w f (K ⊎ Some kids (segment .start) (segment .end) Q) → Says w f (K ⊎ ((c : ℕ) × Child p n c × Q c))
+all-more {kids} {segment} {p = p} {n = n} g {K = K} {Q = Q} s = says-map (to, back) s
   where
-    to : K ⊎ Some kids (getD from n 0) (getD from (n + 1) 0) Q → K ⊎ ((c : ℕ) × Child p n c × Q c)
+    to : K ⊎ Some kids (segment .start) (segment .end) Q → K ⊎ ((c : ℕ) × Child p n c × Q c)
     to (inl k) = inl k
-    to (inr x) = inr ((some-child (g .group .tree) (g .group .node) (λ d hd. (λ y. y, λ y. y))) .0 x)
+    to (inr x) = inr ((some-child (g .group .listed) (λ d hd. (λ y. y, λ y. y))) .0 x)
 
-    back : K ⊎ ((c : ℕ) × Child p n c × Q c) → K ⊎ Some kids (getD from n 0) (getD from (n + 1) 0) Q
+    back : K ⊎ ((c : ℕ) × Child p n c × Q c) → K ⊎ Some kids (segment .start) (segment .end) Q
     back (inl k) = inl k
-    back (inr x) = inr ((some-child (g .group .tree) (g .group .node) (λ d hd. (λ y. y, λ y. y))) .1 x)
+    back (inr x) = inr ((some-child (g .group .listed) (λ d hd. (λ y. y, λ y. y))) .1 x)

@@ -12,6 +12,7 @@ use Rattle.base.proofs.Says.{says-map, says-self, says-and, says-or, no-flag}
 use Rattle.base.proofs.Words.{or-zero}
 use Rattle.runs.specs.Plan.{Plan, Child, Before, Unordered}
 use Rattle.runs.specs.Summary.{MayClobber, ClobberByPairs, in-child, unordered-pair, passed-on}
+use Rattle.marks_row.specs.declared.Segment.{Segment}
 use Rattle.marks_row.specs.Tables.{code}
 use Rattle.marks_row.specs.Columns.{may-pre, may-post, requires, asserts, indexOf, firstOf, Fact, wordAt}
 use Rattle.runs.proofs.Plan.Numbers.{opposite}
@@ -19,7 +20,7 @@ use Rattle.marks_row.proofs.Rows.{read}
 use Rattle.marks_siblings.specs.Siblings.{Apart}
 use Rattle.marks_siblings.proofs.Sibling.{apart-is}
 use Rattle.marks_row.specs.Musts.{SaysOf}
-use Rattle.marks_between.specs.Passing.{Between, OfPlans, PassingWord, Pairing, PairWord, SomePair}
+use Rattle.marks_between.specs.Passing.{Between, OfGroups, PassingWord, Pairing, PairWord, SomePair}
 use Rattle.marks_between.proofs.Pair.{no-pair, pair-of, pass-none, pass-some}
 use Rattle.marks_pair.specs.declared.Literals.{Literals}
 use Rattle.marks_pair.specs.Pairs.{Pair, signWord, PairWords, NoneRequired}
@@ -45,45 +46,45 @@ module _ {p : Plan} {n c d f : ℕ} {v : Bool} where
   unpaired k u (inr x) = k (x .0)
 
 -- a word for each place where `pair_word` returns
-module _ {from kids order rows : List ℕ} {size n s c d : ℕ} (w x y : ℕ) where
+module _ {kids : List ℕ} {segment : Segment} {order rows : List ℕ} {s c d : ℕ} (w x y : ℕ) where
   -- d stands before c: what d may leave, and c may require
   module _ (q : code order d c ≡ 1) (ex : x ≡ wordAt rows d (firstOf may-post + (1 - s))) (ey : y ≡ wordAt rows c (firstOf may-pre + s)) where
-    shared : OfPlans from kids order rows size n (λ p. Child p n c → Child p n d
+    shared : OfGroups kids segment order rows (λ p n. Child p n c → Child p n d
         → SaysOf s (bitAnd x y) (λ f v. Fact p d f (may-post (not v)) × Fact p c f (may-pre v)))
-    shared p g hc hd v e f l = says-and {x = x} {y = y} refl
+    shared p n g hc hd v e f l = says-and {x = x} {y = y} refl
         (read (g .group .children d hd) (may-post (not v)) (firstOf may-post + (1 - s)) x f (omega (arith, opposite v s e)) ex l)
         (read (g .group .children c hc) (may-pre v) (firstOf may-pre + s) y f (omega (arith, e)) ey l)
 
-    pub none-shared : bitAnd w (bitAnd x y) ≡ 0 → PairWord Pair from kids order rows size n s w c d 0
-    none-shared = pass-none w (bitAnd x y) false q (λ p b f v. passed-pair b) shared
+    pub none-shared : bitAnd w (bitAnd x y) ≡ 0 → PairWord Pair kids segment order rows s w c d 0
+    none-shared = pass-none w (bitAnd x y) false q (λ p n b f v. passed-pair b) shared
 
-    pub shared-passes : {r : ℕ} → PassingWord from kids order rows size n false (bitAnd w (bitAnd x y)) c d r → PairWord Pair from kids order rows size n s w c d r
-    shared-passes = pass-some w (bitAnd x y) false q (λ p b f v. passed-pair b) shared
+    pub shared-passes : {r : ℕ} → PassingWord kids segment order rows false (bitAnd w (bitAnd x y)) c d r → PairWord Pair kids segment order rows s w c d r
+    shared-passes = pass-some w (bitAnd x y) false q (λ p n b f v. passed-pair b) shared
 
   -- c and d are unordered
   pub apart-both : Apart order c d → x ≡ wordAt rows c (firstOf requires + s) → y ≡ wordAt rows d (firstOf asserts + (1 - s))
-      → PairWord Pair from kids order rows size n s w c d (bitAnd w (bitAnd x y))
-  apart-both u ex ey = pair-of w (bitAnd x y) (λ p g hc hd v e f l. says-map (apart-pair ((apart-is (g .orders) hc hd) .0 u)) (says-and {x = x} {y = y} refl
+      → PairWord Pair kids segment order rows s w c d (bitAnd w (bitAnd x y))
+  apart-both u ex ey = pair-of w (bitAnd x y) (λ p n g hc hd v e f l. says-map (apart-pair ((apart-is (g .orders) hc hd) .0 u)) (says-and {x = x} {y = y} refl
       (read (g .group .children c hc) (requires v) (firstOf requires + s) x f (omega (arith, e)) ex l)
       (read (g .group .children d hd) (asserts (not v)) (firstOf asserts + (1 - s)) y f (omega (arith, opposite v s e)) ey l)))
 
-pub neither-rule : {from kids order rows : List ℕ} {size n s c d : ℕ} (w : ℕ) → ¬ (code order d c ≡ 1) → ¬ Apart order c d
-    → PairWord Pair from kids order rows size n s w c d 0
-neither-rule w k u = no-pair w (λ p g hc hd f v. unpaired (λ z. k ((g .orders .before _ _ (hd .node) (hc .node)) .1 z)) (λ z. u ((apart-is (g .orders) hc hd) .1 z)))
+pub neither-rule : {kids : List ℕ} {segment : Segment} {order rows : List ℕ} {s c d : ℕ} (w : ℕ) → ¬ (code order d c ≡ 1) → ¬ Apart order c d
+    → PairWord Pair kids segment order rows s w c d 0
+neither-rule w k u = no-pair w (λ p n g hc hd f v. unpaired (λ z. k ((g .orders .before _ _ (hd .node) (hc .node)) .1 z)) (λ z. u ((apart-is (g .orders) hc hd) .1 z)))
 
 -- both signs of a pair
-pub pair-words : {from kids order rows : List ℕ} {size n c d : ℕ} {wanted r : Literals} → PairWord Pair from kids order rows size n 0 (wanted .clear) c d (r .clear)
-    → PairWord Pair from kids order rows size n 1 (wanted .set) c d (r .set) → PairWords from kids order rows size n wanted c d r
-pair-words {from} {kids} {order} {rows} {size} {n} {c} {d} {wanted} {r} a b = record { among = among; says = says }
+pub pair-words : {kids : List ℕ} {segment : Segment} {order rows : List ℕ} {c d : ℕ} {wanted r : Literals} → PairWord Pair kids segment order rows 0 (wanted .clear) c d (r .clear)
+    → PairWord Pair kids segment order rows 1 (wanted .set) c d (r .set) → PairWords kids segment order rows wanted c d r
+pair-words {kids} {segment} {order} {rows} {c} {d} {wanted} {r} a b = record { among = among; says = says }
   where
     among : (v : Bool) (f : ℕ) → f < 64 → T (bit (signWord r v) f) → T (bit (signWord wanted v) f)
     among false = a .among
     among true = b .among
 
-    says : (p : Plan) → Pairing from kids order rows size n p → Child p n c → Child p n d → (v : Bool) (f : ℕ) → f < 64
+    says : (p : Plan) (n : ℕ) → Pairing kids segment order rows p n → Child p n c → Child p n d → (v : Bool) (f : ℕ) → f < 64
         → Says (signWord r v) f (T (bit (signWord wanted v) f) × Pair p n f v c d)
-    says p g hc hd false f l = a .says p g hc hd false refl f l
-    says p g hc hd true f l = b .says p g hc hd true refl f l
+    says p n g hc hd false f l = a .says p n g hc hd false refl f l
+    says p n g hc hd true f l = b .says p n g hc hd true refl f l
 
 -- 01's rule by pairs: a child has it, or some pair
 pub by-pairs : (p : Plan) (n f : ℕ) (v : Bool) → ClobberByPairs p f v n ↔ (((c : ℕ) × Child p n c × MayClobber p f v c) ⊎ SomePair p n (Pair p n f v))

@@ -7,8 +7,9 @@ use Prim.Native.Nat.{ℕ, _<_}
 use lib.Dec.{T}
 use Rattle.base.specs.Bits.{bit, Says}
 use Rattle.runs.specs.Plan.{Plan, Child, Before, Unordered}
+use Rattle.marks_row.specs.declared.Segment.{Segment}
 use Rattle.marks_row.specs.Columns.{may-pre, may-post, requires, asserts, Fact, wordIn}
-use Rattle.marks_between.specs.Passing.{Between, OfPlans}
+use Rattle.marks_between.specs.Passing.{Between, OfGroups}
 use Rattle.marks_pair.specs.declared.Literals.{Literals}
 
 -- the two rules by pairs of 01's mark 6
@@ -22,9 +23,9 @@ signWord w false = w .clear
 signWord w true = w .set
 
 -- the wanted literals that the pair c, d of children clobbers
-pub record PairWords (from kids order rows : List ℕ) (size n : ℕ) (wanted : Literals) (c d : ℕ) (r : Literals) : Type 0 where
+pub record PairWords (kids : List ℕ) (segment : Segment) (order rows : List ℕ) (wanted : Literals) (c d : ℕ) (r : Literals) : Type 0 where
   pub among : (v : Bool) (f : ℕ) → f < 64 → T (bit (signWord r v) f) → T (bit (signWord wanted v) f)
-  pub says : OfPlans from kids order rows size n (λ p. Child p n c → Child p n d → (v : Bool) (f : ℕ) → f < 64
+  pub says : OfGroups kids segment order rows (λ p n. Child p n c → Child p n d → (v : Bool) (f : ℕ) → f < 64
       → Says (signWord r v) f (T (bit (signWord wanted v) f) × Pair p n f v c d))
 
 -- no wanted literal is one that c requires, or that may be its external precondition

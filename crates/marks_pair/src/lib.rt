@@ -1,11 +1,12 @@
 // The literals that a pair of children of an all-of group may clobber: for all flags at once, from the rows of the children.
 ghost use Prim.Native.Nat.{_<_};
 ghost use lib.ListN.{getD};
-ghost use Rattle.marks_row.specs.Tables.{AtPair};
+ghost use Rattle.marks_row.specs.Segments.{AtPair};
 ghost use Rattle.marks_between.specs.Passing.{PairWord};
 ghost use Rattle.marks_pair.specs.Pairs.{Pair, PairWords, NextPartner};
 use base::wide;
 use marks_between::passing;
+use marks_row::Segment;
 use marks_row::codes::BEFORE;
 use marks_row::columns::ASSERTS;
 use marks_row::columns::MAY_POST;
@@ -22,19 +23,17 @@ pub struct Literals {
 
 // The wanted flags of one sign that the child c and the child at j clobber.
 fn pair_word(
-    from: &[u8; 129],
     kids: &[u8; 128],
+    segment: Segment,
     order: &[u8; 16384],
     rows: &[u64; 2688],
-    n: usize,
-    node: usize,
     sign: usize,
     wanted: u64,
     c: usize,
     j: usize,
 ) -> u64
-    requires { ⌜ AtPair (now from) (now kids) n node c j × (sign < 2) ⌝ }
-    ensures { λ r. ⌜ PairWord Pair (now (from .entry)) (now (kids .entry)) (now (order .entry)) (now (rows .entry)) n node sign wanted c (getD (now (kids .entry)) j 0) r ⌝ }
+    requires { ⌜ AtPair (now kids) segment c j × (sign < 2) ⌝ }
+    ensures { λ r. ⌜ PairWord Pair (now (kids .entry)) segment (now (order .entry)) (now (rows .entry)) sign wanted c (getD (now (kids .entry)) j 0) r ⌝ }
 {
     let d = wide(kids[j]);
     if order[d * 128 + c] == BEFORE {
@@ -43,7 +42,7 @@ fn pair_word(
         if shared == 0 {
             return 0;
         }
-        return passing(from, kids, order, rows, n, node, false, shared, c, j);
+        return passing(kids, segment, order, rows, false, shared, c, j);
     }
     if apart(order, c, d) {
         return wanted
@@ -54,21 +53,19 @@ fn pair_word(
 
 // The wanted literals that the child c and the child at j clobber.
 pub fn pair_words(
-    from: &[u8; 129],
     kids: &[u8; 128],
+    segment: Segment,
     order: &[u8; 16384],
     rows: &[u64; 2688],
-    n: usize,
-    node: usize,
     wanted: Literals,
     c: usize,
     j: usize,
 ) -> Literals
-    requires { ⌜ AtPair (now from) (now kids) n node c j ⌝ }
-    ensures { λ r. ⌜ PairWords (now (from .entry)) (now (kids .entry)) (now (order .entry)) (now (rows .entry)) n node wanted c (getD (now (kids .entry)) j 0) r ⌝ }
+    requires { ⌜ AtPair (now kids) segment c j ⌝ }
+    ensures { λ r. ⌜ PairWords (now (kids .entry)) segment (now (order .entry)) (now (rows .entry)) wanted c (getD (now (kids .entry)) j 0) r ⌝ }
 {
-    let clear = pair_word(from, kids, order, rows, n, node, 0, wanted.clear, c, j);
-    let set = pair_word(from, kids, order, rows, n, node, 1, wanted.set, c, j);
+    let clear = pair_word(kids, segment, order, rows, 0, wanted.clear, c, j);
+    let set = pair_word(kids, segment, order, rows, 1, wanted.set, c, j);
     Literals {
         clear: clear,
         set: set,

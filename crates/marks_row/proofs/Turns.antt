@@ -1,50 +1,50 @@
--- A loop over the children of a group g: i goes through the positions of its segment. Assumes nothing.
+-- A loop over the children in a segment: i goes through its positions. Assumes nothing.
 use mathlib.Core.Path.{_≡_}
 use mathlib.Core.List.{List}
 use Prim.Native.Nat.{ℕ, _+_, _-_, _≤_, _<_}
 use native.Mathlib.Omega.{arith}
 use lib.ListN.{getD}
-use Rattle.marks_row.specs.Tables.{Position, AtGroup, AtPair}
+use Rattle.marks_row.specs.declared.Segment.{Segment}
+use Rattle.marks_row.specs.Segments.{segmentOf, Position, Reached, AtSegment, AtPair}
+use Rattle.marks_row.specs.Tables.{AtGroup}
 
-pub record Turn (from : List ℕ) (g end i : ℕ) : Type 0 where
-  pub low : getD from g 0 ≤ i
-  pub high : i ≤ end
-  pub ends : end ≡ getD from (g + 1) 0
+-- the segment of a node of shaped tables
+module _ {from kids : List ℕ} {size g : ℕ} {s : Segment} (a : AtGroup from kids size g) (e : s ≡ segmentOf from g) where
+  -- a child has a greater number than its group
+  pub kid-later : {i x : ℕ} → Position s i → x ≡ getD kids i 0 → (g < x) × (x < size)
+  kid-later {i} p q = rw q (a .shaped .rises g i (a .below) (rw e at p))
 
-pub turn-at : {from : List ℕ} {g end i : ℕ} → end ≡ getD from (g + 1) 0 → getD from g 0 ≤ i → i ≤ getD from (g + 1) 0 → Turn from g end i
-turn-at e l h = record { low = l; high = omega (arith, e, h); ends = e }
+  pub at-segment : AtSegment kids s
+  at-segment = rw e (record {
+    rises = a .shaped .starts g (a .below);
+    ends = a .shaped .ends g (a .below);
+    nodes = record { each = λ i l h. omega (arith, a .shaped .small, a .shaped .rises g i (a .below) (record { low = l; high = h }) .1) };
+  })
 
-module _ {from kids : List ℕ} {size g : ℕ} (s : AtGroup from kids size g) where
-  pub first-turn : {end i : ℕ} → end ≡ getD from (g + 1) 0 → i ≡ getD from g 0 → Turn from g end i
-  first-turn e q = turn-at e (omega (arith, q)) (omega (arith, q, s .shaped .starts g (s .below)))
+module _ {kids : List ℕ} {s : Segment} (a : AtSegment kids s) where
+  pub first-turn : Reached s (s .start)
+  first-turn = record { low = omega arith; high = a .rises }
 
   -- a position is one of the table of children, and what stands there is a node
-  pub position-small : {i : ℕ} → Position from g i → i < 128
-  position-small p = omega (arith, p .high, s .shaped .ends g (s .below))
+  pub position-small : {i : ℕ} → Position s i → i < 128
+  position-small p = omega (arith, p .high, a .ends)
 
-  pub kid-below : {i x : ℕ} → Position from g i → x ≡ getD kids i 0 → x < size
-  kid-below {i} p e = omega (arith, e, s .shaped .rises g i (s .below) p .1)
-
-  -- a child has a greater number than its group
-  pub kid-later : {i x : ℕ} → Position from g i → x ≡ getD kids i 0 → (g < x) × (x < size)
-  kid-later {i} p e = rw e (s .shaped .rises g i (s .below) p)
-
-  pub kid-small : {i x : ℕ} → Position from g i → x ≡ getD kids i 0 → x < 128
-  kid-small p e = omega (arith, kid-below p e, s .shaped .small)
+  pub kid-small : {i x : ℕ} → Position s i → x ≡ getD kids i 0 → x < 128
+  kid-small {i} p q = omega (arith, q, a .nodes .each i (p .low) (p .high))
 
 -- both children of a pair are nodes
-pub pair-small : {from kids : List ℕ} {size g c j d : ℕ} → AtPair from kids size g c j → d ≡ getD kids j 0 → (c < 128) × (d < 128)
-pair-small s e = (omega (arith, s .child, s .group .shaped .small), kid-small (s .group) (s .other) e)
+pub pair-small : {kids : List ℕ} {s : Segment} {c j d : ℕ} → AtPair kids s c j → d ≡ getD kids j 0 → (c < 128) × (d < 128)
+pair-small a e = (a .child, kid-small (a .segment) (a .other) e)
 
-module _ {from : List ℕ} {g end i : ℕ} (t : Turn from g end i) where
-  pub position : i < end → Position from g i
-  position l = record { low = t .low; high = omega (arith, t .ends, l) }
+module _ {s : Segment} {i : ℕ} (t : Reached s i) where
+  pub position : i < s .end → Position s i
+  position l = record { low = t .low; high = l }
 
-  pub next-turn : i < end → Turn from g end (i + 1)
-  next-turn l = record { low = omega (arith, t .low); high = omega (arith, l); ends = t .ends }
+  pub next-turn : i < s .end → Reached s (i + 1)
+  next-turn l = record { low = omega (arith, t .low); high = omega (arith, l) }
 
-  pub last-turn : end ≤ i → i ≡ getD from (g + 1) 0
-  last-turn l = omega (arith, l, t .high, t .ends)
+  pub last-turn : s .end ≤ i → i ≡ s .end
+  last-turn l = omega (arith, l, t .high)
 
 -- a child is nearer to n than its group
 pub nearer : {n g c t : ℕ} → n - g ≡ t → (g < c) × (c < n) → n - c < t

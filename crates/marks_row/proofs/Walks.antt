@@ -5,10 +5,10 @@ use mathlib.Core.List.{List}
 use Prim.Native.Nat.{ℕ, _+_, _≤_}
 use native.Mathlib.Omega.{arith}
 use lib.ListN.{getD}
-use Rattle.runs.specs.Plan.{Plan, Node, Under}
+use Rattle.runs.specs.Plan.{Plan, Under}
 use Rattle.runs.proofs.Plan.Trees.{Branch, branch}
-use Rattle.marks_row.specs.Tables.{RepresentsTree}
-use Rattle.marks_row.specs.Segments.{Every}
+use Rattle.marks_row.specs.declared.Segment.{Segment}
+use Rattle.marks_row.specs.Segments.{ChildrenOf, Every}
 use Rattle.marks_row.specs.Walks.{RightUnder}
 use Rattle.marks_row.proofs.Segments.{every-next, every-child}
 
@@ -29,10 +29,10 @@ module _ {p : Plan} {kids : List ℕ} {low : ℕ} {R : ℕ → Type 0} where
   }
 
 -- all children, and then the group g itself
-module _ {from kids : List ℕ} {n : ℕ} {p : Plan} (r : RepresentsTree from kids n p) {g : ℕ} (l : Node p g) where
-  pub right-all : {R R' R″ : ℕ → Type 0} → RightTo p kids (getD from g 0) R R' (getD from (g + 1) 0) → ((m : ℕ) → R' m → R″ m) → R″ g → RightUnder p R R″ g
+module _ {kids : List ℕ} {s : Segment} {p : Plan} {g : ℕ} (r : ChildrenOf kids s p g) where
+  pub right-all : {R R' R″ : ℕ → Type 0} → RightTo p kids (s .start) R R' (s .end) → ((m : ℕ) → R' m → R″ m) → R″ g → RightUnder p R R″ g
   right-all {R} {R'} {R″} h keep own = record { kept = λ m x. keep m (h .kept m x); right = λ m u. at m (branch p u) }
     where
       at : (m : ℕ) → (g ≡ m) ⊎ Branch p g m → R″ m
       at m (inl e) = rw e at own
-      at m (inr b) = keep m ((every-child r l (λ c k. (λ y. y, λ y. y))) .0 (h .right) (b .via) (b .child) m (b .beneath))
+      at m (inr b) = keep m ((every-child r (λ c k. (λ y. y, λ y. y))) .0 (h .right) (b .via) (b .child) m (b .beneath))

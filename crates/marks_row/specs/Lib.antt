@@ -1,7 +1,7 @@
 -- Tables of a plan, and rows of words that hold the facts of its nodes.
+pub mod Segments
 pub mod Tables
 pub mod Columns
-pub mod Segments
 pub mod Walks
 pub mod Tasks
 pub mod Musts

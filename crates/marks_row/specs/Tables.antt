@@ -7,18 +7,8 @@ use mathlib.Core.List.{List}
 use Prim.Native.Nat.{ℕ, _+_, _*_, _≤_, _<_}
 use lib.ListN.{getD}
 use Rattle.base.specs.Bits.{Says}
-use Rattle.runs.specs.Plan.{task, Place, Plan, Node, Child, Before, kindNumber, placeNumber, signNumber}
-
--- i is a position of the segment of g
-pub record Position (from : List ℕ) (g i : ℕ) : Type 0 where
-  pub low : getD from g 0 ≤ i
-  pub high : i < getD from (g + 1) 0
-
--- c is listed in the segment of g
-pub record Listed (from kids : List ℕ) (g c : ℕ) : Type 0 where
-  pub at : ℕ
-  pub position : Position from g at
-  pub is : getD kids at 0 ≡ c
+use Rattle.runs.specs.Plan.{task, Place, Plan, Node, Before, kindNumber, placeNumber, signNumber}
+use Rattle.marks_row.specs.Segments.{segmentOf, Position, ChildrenOf}
 
 -- the word of a task's conditions at a place and with a sign
 abbrev pub condition : List ℕ → ℕ → Place → Bool → ℕ
@@ -39,25 +29,19 @@ pub record Shaped (from kids : List ℕ) (n : ℕ) : Type 0 where
   pub small : n ≤ 128
   pub starts : (g : ℕ) → g < n → getD from g 0 ≤ getD from (g + 1) 0
   pub ends : (g : ℕ) → g < n → getD from (g + 1) 0 ≤ 128
-  pub rises : (g i : ℕ) → g < n → Position from g i → (g < getD kids i 0) × (getD kids i 0 < n)
+  pub rises : (g i : ℕ) → g < n → Position (segmentOf from g) i → (g < getD kids i 0) × (getD kids i 0 < n)
 
 -- what is asked where a node is worked out: it is one of shaped tables
 pub record AtGroup (from kids : List ℕ) (n node : ℕ) : Type 0 where
   pub shaped : Shaped from kids n
   pub below : node < n
 
--- what is asked where two children of a node are compared: c, and the one at position j
-pub record AtPair (from kids : List ℕ) (n node c j : ℕ) : Type 0 where
-  pub group : AtGroup from kids n node
-  pub child : c < n
-  pub other : Position from node j
-
 pub record RepresentsKinds (kind : List ℕ) (p : Plan) : Type 0 where
   pub is : (i : ℕ) → Node p i → getD kind i 0 ≡ kindNumber (p .tree .kind i)
 
 pub record RepresentsTree (from kids : List ℕ) (n : ℕ) (p : Plan) : Type 0 where
   pub size : p .tree .size ≡ n
-  pub children : (g c : ℕ) → Node p g → Child p g c ↔ Listed from kids g c
+  pub children : (g : ℕ) → Node p g → ChildrenOf kids (segmentOf from g) p g
 
 pub record RepresentsOrder (order : List ℕ) (p : Plan) : Type 0 where
   pub before : (a b : ℕ) → Node p a → Node p b → (code order a b ≡ beforeCode) ↔ Before p a b

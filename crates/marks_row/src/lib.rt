@@ -9,14 +9,35 @@ ghost use lib.Bits.{bitOr, bitXor};
 ghost use lib.ListN.{length, getD};
 ghost use Rattle.base.specs.Bits.{ones};
 ghost use Rattle.runs.specs.Plan.{Plan, signNumber};
+ghost use Rattle.marks_row.specs.Segments.{segmentOf};
 ghost use Rattle.marks_row.specs.Columns.{wordAt, Row, Written};
 ghost use Rattle.marks_row.specs.Tasks.{Task, WordsOfSign};
 ghost use Rattle.marks_row.specs.Musts.{MustPreWord, MustPostWord};
 use base::ALL;
+use base::wide;
 use columns::AVOID;
 use columns::COVERED;
 use columns::MAY_POST;
 use columns::QUIET;
+
+// The children of a group: the positions of the table of children from `start` to `end`.
+pub struct Segment {
+    pub start: usize,
+    pub end: usize,
+}
+
+// The children of a node.
+pub fn children(from: &[u8; 129], node: usize) -> Segment
+    requires { ⌜ node < 128 ⌝ }
+    ensures { λ r. ⌜ r ≡ segmentOf (now (from .entry)) node ⌝ }
+{
+    let start = wide(from[node]);
+    let end = wide(from[node + 1]);
+    Segment {
+        start: start,
+        end: end,
+    }
+}
 
 // The words of a task for one sign.
 pub struct SignWords {

@@ -17,6 +17,7 @@ use Rattle.runs.specs.Execution.{Event, start, finish, nodeOf, asserts as signO
 use Rattle.runs.specs.Summary.{TaskWith, Silent}
 use Rattle.runs.proofs.Reflect.{clash}
 use Rattle.marks_siblings.specs.declared.Siblings.{Siblings}
+use Rattle.marks_row.specs.declared.Segment.{Segment}
 use Rattle.marks_row.specs.Tables.{code, RepresentsOrder}
 use Rattle.marks_row.specs.Columns.{avoid, quiet, asserts, Fact, wordIn, Right}
 use Rattle.marks_row.specs.Segments.{Every}
@@ -104,7 +105,7 @@ narrows-more q l m e h f k = says-map (
   λ x. let y = (every-next l) .1 x in (h f k .from (y .0), (e f k) .1 (rw q (y .1))),
 ) (m .says f k)
 
-module _ {from kids order rows : List ℕ} {size n c : ℕ} {p : Plan} (g : Group from kids rows size n p) (o : RepresentsOrder order p) (hc : Child p n c) where
+module _ {kids : List ℕ} {segment : Segment} {order rows : List ℕ} {p : Plan} {n c : ℕ} (g : Group kids segment rows p n) (o : RepresentsOrder order p) (hc : Child p n c) where
   module _ {lo i : ℕ} (l : lo ≤ i) where
     pub with-sibling : {b : ℕ} → b ≡ getD kids i 0 → Child p n b → {s r : Siblings} → Limits order rows c b s r → SiblingWords p c (Every kids lo i) s
         → SiblingWords p c (Every kids lo (i + 1)) r
@@ -133,7 +134,7 @@ module _ {from kids order rows : List ℕ} {size n c : ℕ} {p : Plan} (g : Grou
   })
 
   -- over the whole segment: all siblings
-  pub all-siblings : {s : Siblings} → SiblingWords p c (Every kids (getD from n 0) (getD from (n + 1) 0)) s → SiblingWords p c (λ Q. (b : ℕ) → Child p n b → Q b) s
+  pub all-siblings : {s : Siblings} → SiblingWords p c (Every kids (segment .start) (segment .end)) s → SiblingWords p c (λ Q. (b : ℕ) → Child p n b → Q b) s
   all-siblings h = record {
     avoid-before = λ f l. says-map same (h .avoid-before f l);
     clear-before = λ f l. says-map same (h .clear-before f l);
@@ -142,5 +143,5 @@ module _ {from kids order rows : List ℕ} {size n c : ℕ} {p : Plan} (g : Grou
     silent-apart = λ f l. says-map same (h .silent-apart f l);
   }
     where
-      same : {Q : ℕ → Type 0} → Every kids (getD from n 0) (getD from (n + 1) 0) Q ↔ ((b : ℕ) → Child p n b → Q b)
-      same = every-child (g .tree) (g .node) (λ b hb. (λ x. x, λ x. x))
+      same : {Q : ℕ → Type 0} → Every kids (segment .start) (segment .end) Q ↔ ((b : ℕ) → Child p n b → Q b)
+      same = every-child (g .listed) (λ b hb. (λ x. x, λ x. x))

@@ -9,6 +9,7 @@ use Rattle.base.specs.Bits.{bit, Says}
 use Rattle.runs.specs.Plan.{Plan, Child, Before, Unordered}
 use Rattle.runs.specs.Summary.{Silent}
 use Rattle.marks_siblings.specs.declared.Siblings.{Siblings}
+use Rattle.marks_row.specs.declared.Segment.{Segment}
 use Rattle.marks_row.specs.Tables.{beforeCode, afterCode, code, RepresentsOrder}
 use Rattle.marks_row.specs.Columns.{avoid, quiet, asserts, Fact, wordIn}
 use Rattle.marks_siblings.specs.Group.{Group}
@@ -41,7 +42,7 @@ pub record SiblingWords (p : Plan) (c : ℕ) (E : (ℕ → Type 0) → Type 0) (
   pub avoid-after : (f : ℕ) → f < 64 → Says (s .«avoid_after») f (E (λ b. Before p c b → Fact p b f avoid))
   pub silent-apart : (f : ℕ) → f < 64 → Says (s .«silent_apart») f (E (λ b. Unordered p b c → Silent p f b))
 
--- for every plan that the tables represent: what the words say of all siblings of the child c of n
-abbrev pub SiblingsOf : List ℕ → List ℕ → List ℕ → List ℕ → ℕ → ℕ → ℕ → Siblings → Type 0
-SiblingsOf from kids order rows size n c s = (p : Plan) → Group from kids rows size n p → RepresentsOrder order p → Child p n c
+-- for every plan and node n of which the segment has the children: what the words say of all siblings of the child c of n
+abbrev pub SiblingsOf : List ℕ → Segment → List ℕ → List ℕ → ℕ → Siblings → Type 0
+SiblingsOf kids segment order rows c s = (p : Plan) (n : ℕ) → Group kids segment rows p n → RepresentsOrder order p → Child p n c
     → SiblingWords p c (λ Q. (b : ℕ) → Child p n b → Q b) s

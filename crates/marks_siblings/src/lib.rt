@@ -3,10 +3,11 @@ ghost use mathlib.Core.Logic.{_↔_};
 ghost use Prim.Native.Nat.{_<_};
 ghost use lib.Dec.{T};
 ghost use Rattle.base.specs.Bits.{bit};
-ghost use Rattle.marks_row.specs.Tables.{AtGroup};
+ghost use Rattle.marks_row.specs.Segments.{AtSegment};
 ghost use Rattle.marks_siblings.specs.Siblings.{Apart, Narrows, Limits, SiblingsOf};
 use base::ALL;
 use base::wide;
+use marks_row::Segment;
 use marks_row::codes::AFTER;
 use marks_row::codes::BEFORE;
 use marks_row::columns::ASSERTS;
@@ -93,16 +94,14 @@ fn with_sibling(
 
 // One pass over the siblings of a child of the all-of group.
 pub fn all_siblings(
-    from: &[u8; 129],
     kids: &[u8; 128],
+    segment: Segment,
     order: &[u8; 16384],
     rows: &[u64; 2688],
-    n: usize,
-    node: usize,
     child: usize,
 ) -> Siblings
-    requires { ⌜ AtGroup (now from) (now kids) n node × (child < n) ⌝ }
-    ensures { λ r. ⌜ SiblingsOf (now (from .entry)) (now (kids .entry)) (now (order .entry)) (now (rows .entry)) n node child r ⌝ }
+    requires { ⌜ AtSegment (now kids) segment × (child < 128) ⌝ }
+    ensures { λ r. ⌜ SiblingsOf (now (kids .entry)) segment (now (order .entry)) (now (rows .entry)) child r ⌝ }
 {
     let mut s = Siblings {
         avoid_before: ALL,
@@ -111,9 +110,8 @@ pub fn all_siblings(
         avoid_after: ALL,
         silent_apart: ALL,
     };
-    let end = wide(from[node + 1]);
-    let mut i = wide(from[node]);
-    while i < end {
+    let mut i = segment.start;
+    while i < segment.end {
         s = with_sibling(order, rows, child, wide(kids[i]), s);
         i += 1;
     }

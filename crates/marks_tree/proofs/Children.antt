@@ -7,17 +7,20 @@ use native.Mathlib.Decide.{ℕ-discrete}
 use native.Mathlib.Omega.{arith}
 use lib.ListN.{length, getD}
 use Rattle.base.proofs.Says.{says-eq}
-use Rattle.runs.specs.Plan.{Kind, task, all-of, any-of, Plan, Node, Under, itself, WellFormed, kindNumber}
+use Rattle.runs.specs.Plan.{Kind, task, all-of, any-of, Plan, Node, itself, WellFormed, kindNumber}
 use Rattle.runs.proofs.Plan.Trees.{under-root}
 use Rattle.runs.proofs.Execution.Final.{under-task}
-use Rattle.marks_row.specs.Tables.{Position, RepresentsKinds, RepresentsConditions, Represents}
+use Rattle.marks_row.specs.declared.Segment.{Segment}
+use Rattle.marks_row.specs.Segments.{segmentOf, Position}
+use Rattle.marks_row.specs.Tables.{RepresentsKinds, RepresentsConditions, Represents}
 use Rattle.marks_row.specs.Columns.{indexOf, Right, Row, Written}
 use Rattle.marks_row.specs.Tasks.{Task}
 use Rattle.marks_siblings.specs.Group.{Group}
 use Rattle.marks_row.proofs.Rows.{index-small, written-right, written-keeps}
-use Rattle.marks_row.proofs.Segments.{listed, every-child}
+use Rattle.marks_row.proofs.Segments.{has-children, listed, every-child}
 use Rattle.marks_row.proofs.Walks.{RightTo, right-none, right-more, right-all}
-use Rattle.marks_between.specs.Passing.{Pairing}
+use Rattle.marks_group.specs.Groups.{AnyRow}
+use Rattle.marks_tree.specs.Clobbers.{AllOfRow}
 use Rattle.marks_tree.specs.Filled.{Given, Filled, TasksFilled, AllFilled}
 
 -- in every plan that the table of kinds represents, c is of kind k
@@ -50,19 +53,26 @@ module _ {kind : List ℕ} {c : ℕ} where
       at all-of a b = absurd (a refl)
       at any-of a b = absurd (b refl)
 
-module _ (kind from kids order : List ℕ) (n node : ℕ) where
+-- a task, whose row stands
+pub task-filled : {kind from kids order rows : List ℕ} {n node : ℕ} → length rows ≡ 2688 → Filled task kind from kids order rows rows n node
+task-filled {node = node} e = record {
+  long = e;
+  under = λ p g k. record { kept = λ m x. x; right = λ m u. rw (under-task p (g .well-formed) k u) at (g .tasks node (g .is-node) k) };
+}
+
+module _ (kind from kids order : List ℕ) (n node : ℕ) (segment : Segment) where
   -- the children at the positions before i are worked out, with all under them
   pub record ChildrenTo (rows₀ rows : List ℕ) (i : ℕ) : Type 0 where
     pub long : length rows ≡ 2688
-    pub walked : (p : Plan) → Given kind from kids order rows₀ n node p → RightTo p kids (getD from node 0) (Right p rows₀) (Right p rows) i
+    pub walked : (p : Plan) → Given kind from kids order rows₀ n node p → RightTo p kids (segment .start) (Right p rows₀) (Right p rows) i
 
-  pub children-none : (rows : List ℕ) → length rows ≡ 2688 → ChildrenTo rows rows (getD from node 0)
+  pub children-none : (rows : List ℕ) → length rows ≡ 2688 → ChildrenTo rows rows (segment .start)
   children-none rows e = record { long = e; walked = λ p g. right-none refl }
 
   -- one child more
-  pub child-more : {rows₀ rows rows' rows″ : List ℕ} {i c : ℕ} {k : Kind} → c ≡ getD kids i 0 → Position from node i → ChildrenTo rows₀ rows i → rows″ ≡ rows'
+  pub child-more : {rows₀ rows rows' rows″ : List ℕ} {i c : ℕ} {k : Kind} → segment ≡ segmentOf from node → c ≡ getD kids i 0 → Position segment i → ChildrenTo rows₀ rows i → rows″ ≡ rows'
       → OfKind kind c k → Filled k kind from kids order rows rows' n c → ChildrenTo rows₀ rows″ (i + 1)
-  child-more {rows₀} {rows} {c = c} {k = k} e at h q is x = rw q (record {
+  child-more {rows₀} {rows} {c = c} {k = k} z e at h q is x = rw q (record {
     long = x .long;
     walked = λ p g. right-more (at .low) e (h .walked p g) (x .under p (given p g) (kn p g));
   })
@@ -73,44 +83,37 @@ module _ (kind from kids order : List ℕ) (n node : ℕ) where
         kinds = g .kinds;
         tree = g .tree;
         orders = g .orders;
-        is-node = (listed (g .tree) (g .is-node) e at) .node;
+        is-node = (listed (has-children (g .tree) (g .is-node) z) e at) .node;
         tasks = λ t l k. h .walked p g .kept t (g .tasks t l k);
       }
 
       kn : (p : Plan) → Given kind from kids order rows₀ n node p → p .tree .kind c ≡ k
       kn p g = is p (g .kinds) (given p g .is-node)
 
-  -- a task, whose row stands
-  pub task-filled : {rows : List ℕ} → length rows ≡ 2688 → Filled task kind from kids order rows rows n node
-  task-filled e = record {
-    long = e;
-    under = λ p g k. record { kept = λ m x. x; right = λ m u. rw (under-task p (g .well-formed) k u) at (g .tasks node (g .is-node) k) };
-  }
-
-  module _ {rows₀ rows rows' words : List ℕ} (h : ChildrenTo rows₀ rows (getD from (node + 1) 0)) (x : Written rows rows' node words) where
+  module _ {rows₀ rows rows' words : List ℕ} (z : segment ≡ segmentOf from node) (h : ChildrenTo rows₀ rows (segment .end)) (x : Written rows rows' node words) where
     -- all children are right
-    group : (p : Plan) → Given kind from kids order rows₀ n node p → Group from kids rows n node p
+    group : (p : Plan) → Given kind from kids order rows₀ n node p → Group kids segment rows p node
     group p g = record {
       well-formed = g .well-formed;
-      tree = g .tree;
       node = g .is-node;
-      children = λ c hc. (every-child (g .tree) (g .is-node) (λ b hb. (λ y. y, λ y. y))) .0 (h .walked p g .right) c hc c itself;
+      listed = has-children (g .tree) (g .is-node) z;
+      children = λ c hc. (every-child (has-children (g .tree) (g .is-node) z) (λ b hb. (λ y. y, λ y. y))) .0 (h .walked p g .right) c hc c itself;
     }
 
     filled : (k : Kind) → ((p : Plan) → Given kind from kids order rows₀ n node p → p .tree .kind node ≡ k → Row p node words)
         → Filled k kind from kids order rows₀ rows' n node
     filled k r = record {
       long = x .long;
-      under = λ p g q. right-all (g .tree) (g .is-node) (h .walked p g) (written-keeps x (r p g q)) (written-right x (r p g q));
+      under = λ p g q. right-all (has-children (g .tree) (g .is-node) z) (h .walked p g) (written-keeps x (r p g q)) (written-right x (r p g q));
     }
 
-    pub all-filled : ((p : Plan) → Pairing from kids order rows n node p → p .tree .kind node ≡ all-of → Row p node words)
+    pub all-filled : AllOfRow kids segment order rows words
         → Filled all-of kind from kids order rows₀ rows' n node
-    all-filled r = filled all-of (λ p g. r p (record { group = group p g; orders = g .orders }))
+    all-filled r = filled all-of (λ p g. r p node (record { group = group p g; orders = g .orders }))
 
-    pub any-filled : ((p : Plan) → Group from kids rows n node p → p .tree .kind node ≡ any-of → Row p node words)
+    pub any-filled : AnyRow kids segment rows words
         → Filled any-of kind from kids order rows₀ rows' n node
-    any-filled r = filled any-of (λ p g. r p (group p g))
+    any-filled r = filled any-of (λ p g. r p node (group p g))
 
 -- the tasks below i
 module _ {kind conds rows : List ℕ} where

@@ -6,16 +6,17 @@ use Prim.Native.Nat.{ℕ, _<_}
 use lib.Bits.{bitOr}
 use lib.ListN.{getD}
 use Rattle.runs.specs.Plan.{all-of, Plan}
-use Rattle.marks_row.specs.Columns.{Column, avoid, quiet, covered, may-pre, may-post, may-inc, requires, asserts, may-clobber, must-inc, must-clobber, indexOf, Row}
+use Rattle.marks_row.specs.declared.Segment.{Segment}
+use Rattle.marks_row.specs.Columns.{Column, avoid, quiet, covered, may-pre, may-post, may-inc, requires, asserts, may-clobber, must-inc, must-clobber, Row}
 use Rattle.marks_group.specs.Groups.{Within}
 use Rattle.marks_pair.specs.declared.Literals.{Literals}
-use Rattle.marks_between.specs.Passing.{SomePair, OfPlans}
+use Rattle.marks_between.specs.Passing.{SomePair, OfGroups}
 use Rattle.marks_pair.specs.Pairs.{Pair, signWord}
 use Rattle.marks_must_pairs.specs.MustPairs.{MustPair}
 
--- for every plan that the tables represent: the row of the all-of group n
-abbrev pub AllOfRow : List ℕ → List ℕ → List ℕ → List ℕ → ℕ → ℕ → List ℕ → Type 0
-AllOfRow from kids order rows size n r = OfPlans from kids order rows size n (λ p. p .tree .kind n ≡ all-of → Row p n r)
+-- for every plan and all-of group n of which the segment has the children: the row of n
+abbrev pub AllOfRow : List ℕ → Segment → List ℕ → List ℕ → List ℕ → Type 0
+AllOfRow kids segment order rows r = OfGroups kids segment order rows (λ p n. p .tree .kind n ≡ all-of → Row p n r)
 
 -- may clobber: where no child has it, some pair; must clobber: a child has it, or some pair
 abbrev pub Extra : Plan → ℕ → ℕ → Column → Type 0

@@ -4,6 +4,7 @@ ghost use Prim.Native.Nat.{_≤_, _<_};
 ghost use lib.ListN.{length};
 ghost use Rattle.runs.specs.Plan.{all-of, any-of};
 ghost use Rattle.marks_row.specs.Columns.{RowIs};
+ghost use Rattle.marks_row.specs.Segments.{AtSegment};
 ghost use Rattle.marks_row.specs.Tables.{AtGroup};
 ghost use Rattle.marks_tree.specs.Clobbers.{AllOfRow, clobberOf, Ored};
 ghost use Rattle.marks_tree.specs.Filled.{Filled, TasksFilled, AllFilled};
@@ -14,6 +15,8 @@ use marks_group::any_words;
 use marks_may_pairs::clobbering_pairs;
 use marks_must_pairs::must_pairs;
 use marks_pair::Literals;
+use marks_row::Segment;
+use marks_row::children;
 use marks_row::codes::ALL_OF;
 use marks_row::codes::ANY_OF;
 use marks_row::codes::TASK;
@@ -64,25 +67,18 @@ fn ored(a: [u64; 21], b: [u64; 21]) -> [u64; 21]
 }
 
 // The row of an all-of group, from the rows of its children.
-fn all_row(
-    from: &[u8; 129],
-    kids: &[u8; 128],
-    order: &[u8; 16384],
-    rows: &[u64; 2688],
-    n: usize,
-    node: usize,
-) -> [u64; 21]
-    requires { ⌜ AtGroup (now from) (now kids) n node ⌝ }
-    ensures { λ r. ⌜ AllOfRow (now (from .entry)) (now (kids .entry)) (now (order .entry)) (now (rows .entry)) n node r ⌝ }
+fn all_row(kids: &[u8; 128], segment: Segment, order: &[u8; 16384], rows: &[u64; 2688]) -> [u64; 21]
+    requires { ⌜ AtSegment (now kids) segment ⌝ }
+    ensures { λ r. ⌜ AllOfRow (now (kids .entry)) segment (now (order .entry)) (now (rows .entry)) r ⌝ }
 {
-    let words = all_words(from, kids, order, rows, n, node);
+    let words = all_words(kids, segment, order, rows);
     let wanted = Literals {
         clear: words[MAY_CLOBBER] ^ ALL,
         set: words[MAY_CLOBBER + 1] ^ ALL,
     };
-    let may = clobbering_pairs(from, kids, order, rows, n, node, wanted);
-    let clear = must_pairs(from, kids, order, rows, n, node, 0, words[MUST_CLOBBER]);
-    let set = must_pairs(from, kids, order, rows, n, node, 1, words[MUST_CLOBBER + 1]);
+    let may = clobbering_pairs(kids, segment, order, rows, wanted);
+    let clear = must_pairs(kids, segment, order, rows, 0, words[MUST_CLOBBER]);
+    let set = must_pairs(kids, segment, order, rows, 1, words[MUST_CLOBBER + 1]);
     let must = Literals {
         clear: clear,
         set: set,
@@ -104,9 +100,9 @@ fn all_of(
     requires { ⌜ AtGroup (now from) (now kids) n node × (length (now rows) ≡ 2688) ⌝ }
     ensures { λ r. ⌜ Filled all-of (now (kind .entry)) (now (from .entry)) (now (kids .entry)) (now (order .entry)) (now (rows .entry)) (now (rows .exit)) n node ⌝ }
 {
-    let end = wide(from[node + 1]);
-    let mut i = wide(from[node]);
-    while i < end {
+    let segment = children(from, node);
+    let mut i = segment.start;
+    while i < segment.end {
         let child = wide(kids[i]);
         let k = kind[child];
         if k == ALL_OF {
@@ -116,7 +112,7 @@ fn all_of(
         }
         i += 1;
     }
-    let words = all_row(from, kids, order, rows, n, node);
+    let words = all_row(kids, segment, order, rows);
     write_row(rows, node, words);
 }
 
@@ -133,9 +129,9 @@ fn any_of(
     requires { ⌜ AtGroup (now from) (now kids) n node × (length (now rows) ≡ 2688) ⌝ }
     ensures { λ r. ⌜ Filled any-of (now (kind .entry)) (now (from .entry)) (now (kids .entry)) (now (order .entry)) (now (rows .entry)) (now (rows .exit)) n node ⌝ }
 {
-    let end = wide(from[node + 1]);
-    let mut i = wide(from[node]);
-    while i < end {
+    let segment = children(from, node);
+    let mut i = segment.start;
+    while i < segment.end {
         let child = wide(kids[i]);
         let k = kind[child];
         if k == ALL_OF {
@@ -145,7 +141,7 @@ fn any_of(
         }
         i += 1;
     }
-    let words = any_words(from, kids, rows, n, node);
+    let words = any_words(kids, segment, rows);
     write_row(rows, node, words);
 }
 

@@ -8,8 +8,9 @@ use lib.ListN.{getD}
 use Rattle.plan_format.specs.Format.{nodeCount, orderCount, earlierOf, laterOf}
 use Rattle.plan_rules.specs.Rules.{isChild}
 use Rattle.plan_check.proofs.Accepted.{Clean, clean}
-use Rattle.marks_row.specs.Tables.{Position, AtGroup}
-use Rattle.marks_row.specs.Segments.{Every}
+use Rattle.marks_row.specs.declared.Segment.{Segment}
+use Rattle.marks_row.specs.Segments.{segmentOf, Position, Every}
+use Rattle.marks_row.specs.Tables.{AtGroup}
 use Rattle.marks_row.proofs.Segments.{every-next}
 use Rattle.table_children.proofs.Listed.{listed-child, every-listed, lower-before}
 use Rattle.wait_lengths.specs.Waits.{greatest, lengthOf, waitWithin}
@@ -43,24 +44,25 @@ module _ {b from kids : List ℕ} {k g : ℕ} (o : GroupOf b from kids k g) wher
   pub at-group : AtGroup from kids (nodeCount b) g
   at-group = record { shaped = o .tree .shaped; below = o .node }
 
-  pub child-at : {i c : ℕ} → c ≡ getD kids i 0 → Position from g i → isChild b g c ≡ true
-  child-at = listed-child (o .tree) (o .node)
+  module _ {segment : Segment} (here : segment ≡ segmentOf from g) where
+    pub child-at : {i c : ℕ} → c ≡ getD kids i 0 → Position segment i → isChild b g c ≡ true
+    child-at = listed-child (o .tree) (o .node) here
 
-  greatest-all : {f : ℕ → ℕ} {v : ℕ} → GreatestTo kids (getD from g 0) f (getD from (g + 1) 0) v
-      → v ≡ greatest (nodeCount b) (isChild b g) f
-  greatest-all {f} {v} h =
-      let up = h .least (greatest (nodeCount b) (isChild b g) f) (record {
-        each = λ j l m.
-            let e = child-at refl (record { low = l; high = m }) in
-            greatest-le (isChild b g) f (nodeCount b) (getD kids j 0) (child-lower b ok g (getD kids j 0) e .1) e;
-      }) in
-      let low = greatest-least (isChild b g) f (nodeCount b) v (λ c l e. every-listed (o .tree) (o .node) (h .bound) c e) in
-      omega arith
+    greatest-all : {f : ℕ → ℕ} {v : ℕ} → GreatestTo kids (segment .start) f (segment .end) v
+        → v ≡ greatest (nodeCount b) (isChild b g) f
+    greatest-all {f} {v} h =
+        let up = h .least (greatest (nodeCount b) (isChild b g) f) (record {
+          each = λ j l m.
+              let e = child-at refl (record { low = l; high = m }) in
+              greatest-le (isChild b g) f (nodeCount b) (getD kids j 0) (child-lower b ok g (getD kids j 0) e .1) e;
+        }) in
+        let low = greatest-least (isChild b g) f (nodeCount b) v (λ c l e. every-listed (o .tree) (o .node) here (h .bound) c e) in
+        omega arith
 
 -- an any-of group
-pub any-all : {b from kids : List ℕ} {g v : ℕ} → GroupOf b from kids 2 g
-    → GreatestTo kids (getD from g 0) (lengthOf b) (getD from (g + 1) 0) v → v ≡ lengthOf b g
-any-all {b} {g = g} o h = greatest-all o h ∙ sym (length-any b (ok o) g (o .node) (o .kind))
+pub any-all : {b from kids : List ℕ} {g v : ℕ} {segment : Segment} → GroupOf b from kids 2 g → segment ≡ segmentOf from g
+    → GreatestTo kids (segment .start) (lengthOf b) (segment .end) v → v ≡ lengthOf b g
+any-all {b} {g = g} o here h = greatest-all o here h ∙ sym (length-any b (ok o) g (o .node) (o .kind))
 
 -- ---- the children of an all-of group, those at the positions before i
 -- a child's wait stands in the table, and what waits for it by an order waits long enough
@@ -68,39 +70,38 @@ pub record ChildDone (b waits : List ℕ) (c : ℕ) : Type 0 where
   pub wait : getD waits c 0 ≡ waitWithin b c
   pub met : (j : ℕ) → j < orderCount b → earlierOf b j ≡ c → waitWithin b c + lengthOf b c ≤ getD waits (laterOf b j) 0
 
-pub record SpreadTo (b from kids lengths waits₀ waits : List ℕ) (g i v : ℕ) : Type 0 where
+pub record SpreadTo (b kids : List ℕ) (segment : Segment) (lengths waits₀ waits : List ℕ) (i v : ℕ) : Type 0 where
   pub tables : Tables b lengths waits
   pub grown : (m : ℕ) → getD waits₀ m 0 ≤ getD waits m 0
-  pub done : Every kids (getD from g 0) i (ChildDone b waits)
-  pub longest : GreatestTo kids (getD from g 0) (λ c. waitWithin b c + lengthOf b c) i v
+  pub done : Every kids (segment .start) i (ChildDone b waits)
+  pub longest : GreatestTo kids (segment .start) (λ c. waitWithin b c + lengthOf b c) i v
 
-module _ {b from kids lengths waits₀ : List ℕ} {g : ℕ} (o : GroupOf b from kids 1 g) where
-  pub spread-none : {i : ℕ} → i ≡ getD from g 0 → Tables b lengths waits₀
-      → SpreadTo b from kids lengths waits₀ waits₀ g i 0
-  spread-none e t = record {
+module _ {b from kids lengths waits₀ : List ℕ} {g : ℕ} {segment : Segment} (o : GroupOf b from kids 1 g) (here : segment ≡ segmentOf from g) where
+  pub spread-none : Tables b lengths waits₀ → SpreadTo b kids segment lengths waits₀ waits₀ (segment .start) 0
+  spread-none t = record {
     tables = t;
     grown = λ m. omega arith;
     done = record { each = λ j a k. absurd (omega arith) };
-    longest = greatest-start e;
+    longest = greatest-start refl;
   }
 
-  module _ {waits : List ℕ} {i c v : ℕ} (e : c ≡ getD kids i 0) (p : Position from g i) (s : SpreadTo b from kids lengths waits₀ waits g i v) where
+  module _ {waits : List ℕ} {i c v : ℕ} (e : c ≡ getD kids i 0) (p : Position segment i) (s : SpreadTo b kids segment lengths waits₀ waits i v) where
     -- all orders into c are met: their earlier nodes have lower numbers, so they stand before it
     spread-wait : getD waits c 0 ≡ waitWithin b c
     spread-wait =
-        let h = child-at o e p in
+        let h = child-at o here e p in
         let up = s .tables .within c (child-lower b (ok o) g c h .1) in
         let low = waits-least b (ok o) g c (getD waits c 0) h (o .kind) (λ j l q.
         let x = earlier-child b (ok o) g c j l q h in
-        rw q at (lower-before (o .tree) (o .node) p (s .done) (earlierOf b j) (x .1) (rw e at (x .0)) .met j l refl)) in
+        rw q at (lower-before (o .tree) (o .node) here p (s .done) (earlierOf b j) (x .1) (rw e at (x .0)) .met j l refl)) in
         omega arith
 
     pub spread-end : ChildLengths b lengths g
         → (getD waits c 0 + getD lengths c 0 ≡ waitWithin b c + lengthOf b c) × (waitWithin b c + lengthOf b c ≤ 1290240)
-    spread-end h = (omega (arith, spread-wait, h .is c (child-at o e p)), child-limit b (ok o) g c (child-at o e p))
+    spread-end h = (omega (arith, spread-wait, h .is c (child-at o here e p)), child-limit b (ok o) g c (child-at o here e p))
 
     pub spread-more : {waits' : List ℕ} {x y : ℕ} → x ≡ waitWithin b c + lengthOf b c → Raised b waits waits' c x
-        → y ≡ max v x → SpreadTo b from kids lengths waits₀ waits' g (i + 1) y
+        → y ≡ max v x → SpreadTo b kids segment lengths waits₀ waits' (i + 1) y
     spread-more {waits'} {x} q r m = record {
       tables = record { lengths-long = s .tables .lengths-long; waits-long = r .long; tasks = s .tables .tasks; within = within };
       grown = λ n. omega (arith, s .grown n, r .grown n);
@@ -116,21 +117,21 @@ module _ {b from kids lengths waits₀ : List ℕ} {g : ℕ} (o : GroupOf b from
         kept : (d : ℕ) → isChild b g d ≡ true → getD waits d 0 ≡ waitWithin b d → getD waits' d 0 ≡ waitWithin b d
         kept d h z = let up = within d (child-lower b (ok o) g d h .1) in let low = r .grown d in omega arith
 
-        still : (j : ℕ) → getD from g 0 ≤ j → j < i → ChildDone b waits (getD kids j 0)
+        still : (j : ℕ) → segment .start ≤ j → j < i → ChildDone b waits (getD kids j 0)
             → ChildDone b waits' (getD kids j 0)
         still j l k z = record {
-          wait = kept (getD kids j 0) (child-at o refl (record { low = l; high = omega (arith, p .high) })) (z .wait);
+          wait = kept (getD kids j 0) (child-at o here refl (record { low = l; high = omega (arith, p .high) })) (z .wait);
           met = λ n m w. omega (arith, z .met n m w, r .grown (laterOf b n));
         }
 
         own : ChildDone b waits' c
-        own = record { wait = kept c (child-at o e p) spread-wait; met = λ j l w. omega (arith, r .reached j l w) }
+        own = record { wait = kept c (child-at o here e p) spread-wait; met = λ j l w. omega (arith, r .reached j l w) }
 
-  pub spread-all : {waits : List ℕ} {v : ℕ} → SpreadTo b from kids lengths waits₀ waits g (getD from (g + 1) 0) v
+  pub spread-all : {waits : List ℕ} {v : ℕ} → SpreadTo b kids segment lengths waits₀ waits (segment .end) v
       → Spread b lengths waits₀ waits g v
   spread-all s = record {
     tables = s .tables;
     grown = s .grown;
-    children = λ c h. every-listed (o .tree) (o .node) (s .done) c h .wait;
-    greatest = greatest-all o (s .longest) ∙ sym (length-all b (ok o) g (o .node) (o .kind));
+    children = λ c h. every-listed (o .tree) (o .node) here (s .done) c h .wait;
+    greatest = greatest-all o here (s .longest) ∙ sym (length-all b (ok o) g (o .node) (o .kind));
   }

@@ -6,6 +6,7 @@ ghost use Rattle.plan_rules.specs.Rules.{refusal};
 ghost use Rattle.wait_lengths.specs.Waits.{lengthOf};
 ghost use Rattle.wait_group.specs.Spread.{FirstOrder, Raised, GroupOf, Tables, ChildLengths, Spread};
 use base::wide;
+use marks_row::children;
 use plan_format::fields::earlier;
 use plan_format::fields::later;
 use plan_format::fields::orders;
@@ -66,9 +67,9 @@ pub fn spread(
     ensures { λ r. ⌜ Spread (now (plan .entry)) (now (lengths .entry)) (now (waits .entry)) (now (waits .exit)) node r ⌝ }
 {
     let mut longest = 0u32;
-    let end = wide(from[node + 1]);
-    let mut i = wide(from[node]);
-    while i < end {
+    let segment = children(from, node);
+    let mut i = segment.start;
+    while i < segment.end {
         let child = wide(kids[i]);
         let child_end = waits[child] + lengths[child];
         raise(plan, waits, child, child_end);
@@ -90,9 +91,9 @@ pub fn longest_child(
     ensures { λ r. ⌜ r ≡ lengthOf (now (plan .entry)) node ⌝ }
 {
     let mut longest = 0u32;
-    let end = wide(from[node + 1]);
-    let mut i = wide(from[node]);
-    while i < end {
+    let segment = children(from, node);
+    let mut i = segment.start;
+    while i < segment.end {
         longest = greater(longest, lengths[wide(kids[i])]);
         i += 1;
     }

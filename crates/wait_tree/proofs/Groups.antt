@@ -1,5 +1,5 @@
 -- The groups, worked out from the children up. Assumes nothing.
-use mathlib.Core.Path.{_≡_, sym, _∙_}
+use mathlib.Core.Path.{_≡_, refl, sym, _∙_}
 use mathlib.Core.Logic.{⊎-elim, by-cases}
 use mathlib.Core.Bool.{true}
 use mathlib.Core.List.{List}
@@ -18,10 +18,11 @@ use Rattle.plan_check.proofs.Accepted.{Clean, clean}
 use Rattle.plan_rules.proofs.Causes.{parent-group}
 use Rattle.plan_check.proofs.Meaning.{kind-limit, kind-task, means-well-formed}
 use Rattle.plan_check.proofs.Nodes.{is-node, plan-kind}
-use Rattle.marks_row.specs.Tables.{Position}
-use Rattle.marks_row.proofs.Turns.{kid-below}
+use Rattle.marks_row.specs.declared.Segment.{Segment}
+use Rattle.marks_row.specs.Segments.{segmentOf, Position}
+use Rattle.marks_row.proofs.Turns.{kid-later}
 use Rattle.marks_row.proofs.Walks.{RightTo, right-none, right-more, right-all}
-use Rattle.table_children.proofs.Listed.{every-listed}
+use Rattle.table_children.proofs.Listed.{its-children, every-listed}
 use Rattle.wait_lengths.specs.Waits.{lengthOf, waitWithin}
 use Rattle.wait_group.specs.Spread.{GroupOf, Tables, ChildLengths, Spread}
 use Rattle.wait_group.proofs.Children.{at-group}
@@ -76,30 +77,30 @@ task-worked {b} {t = t} e l n o s = record {
   under = record { kept = λ m d. d; right = λ m u. task-done e t m l (omega (arith, kind-limit b (clean b e) t l)) s u };
 }
 
--- ---- the children of g at the positions before i, with all under them
-pub record ChildrenTo (b from kids lengths₀ waits₀ lengths waits : List ℕ) (g i : ℕ) : Type 0 where
+-- ---- the children at the positions before i, with all under them
+pub record ChildrenTo (b kids : List ℕ) (segment : Segment) (lengths₀ waits₀ lengths waits : List ℕ) (i : ℕ) : Type 0 where
   pub tables : Tables b lengths waits
-  pub walked : RightTo (planOf b) kids (getD from g 0) (Done b lengths₀ waits₀) (Done b lengths waits) i
+  pub walked : RightTo (planOf b) kids (segment .start) (Done b lengths₀ waits₀) (Done b lengths waits) i
 
-module _ {b from kids lengths₀ waits₀ : List ℕ} {g : ℕ} where
-  pub children-none : {i : ℕ} → i ≡ getD from g 0 → Tables b lengths₀ waits₀
-      → ChildrenTo b from kids lengths₀ waits₀ lengths₀ waits₀ g i
-  children-none e t = record { tables = t; walked = right-none e }
+module _ {b kids : List ℕ} {segment : Segment} {lengths₀ waits₀ : List ℕ} where
+  pub children-none : Tables b lengths₀ waits₀ → ChildrenTo b kids segment lengths₀ waits₀ lengths₀ waits₀ (segment .start)
+  children-none t = record { tables = t; walked = right-none refl }
 
-  pub child-more : {lengths waits lengths' waits' l' w' : List ℕ} {i c : ℕ} → c ≡ getD kids i 0 → Position from g i
-      → ChildrenTo b from kids lengths₀ waits₀ lengths waits g i
+  pub child-more : {lengths waits lengths' waits' l' w' : List ℕ} {i c : ℕ} → c ≡ getD kids i 0 → Position segment i
+      → ChildrenTo b kids segment lengths₀ waits₀ lengths waits i
       → l' ≡ lengths' → w' ≡ waits' → Worked b lengths waits lengths' waits' c
-      → ChildrenTo b from kids lengths₀ waits₀ l' w' g (i + 1)
+      → ChildrenTo b kids segment lengths₀ waits₀ l' w' (i + 1)
   child-more e p s y z x = rw (y, z) (record { tables = x .tables; walked = right-more (p .low) e (s .walked) (x .under) })
 
 -- a child that is a group
-pub child-group : {b from kids : List ℕ} {k g i c x k' : ℕ} → GroupOf b from kids k g → Position from g i
+pub child-group : {b from kids : List ℕ} {k g i c x k' : ℕ} {segment : Segment} → GroupOf b from kids k g → segment ≡ segmentOf from g → Position segment i
     → c ≡ getD kids i 0 → x ≡ kindOf b c → x ≡ k' → GroupOf b from kids k' c
-child-group o p e q z = record { accepted = o .accepted; tree = o .tree; node = kid-below (at-group o) p e; kind = sym q ∙ z }
+child-group o here p e q z = record { accepted = o .accepted; tree = o .tree; node = kid-later (at-group o) here p e .1; kind = sym q ∙ z }
 
-module _ {b from kids lengths₀ waits₀ lengths waits : List ℕ} {k g : ℕ} (o : GroupOf b from kids k g) (s : ChildrenTo b from kids lengths₀ waits₀ lengths waits g (getD from (g + 1) 0)) where
+module _ {b from kids lengths₀ waits₀ lengths waits : List ℕ} {k g : ℕ} {segment : Segment} (o : GroupOf b from kids k g) (here : segment ≡ segmentOf from g)
+    (s : ChildrenTo b kids segment lengths₀ waits₀ lengths waits (segment .end)) where
   pub child-lengths : ChildLengths b lengths g
-  child-lengths = record { is = λ c h. every-listed (o .tree) (o .node) (s .walked .right) c h c itself .own }
+  child-lengths = record { is = λ c h. every-listed (o .tree) (o .node) here (s .walked .right) c h c itself .own }
 
   -- the group itself
   worked : {waits' : List ℕ} {v : ℕ} → v ≡ lengthOf b g → Tables b lengths waits'
@@ -110,7 +111,7 @@ module _ {b from kids lengths₀ waits₀ lengths waits : List ℕ} {k g : ℕ} 
       let ok = clean b (o .accepted) in
       record {
         tables = tables-written ok (o .node) q t;
-        under = right-all (o .tree .tree) (is-node b g (o .node)) (s .walked) (λ m d. done-written ok (o .node) q t (done-grown ok t up d))
+        under = right-all (its-children (o .tree) (o .node) here) (s .walked) (λ m d. done-written ok (o .node) q t (done-grown ok t up d))
             (record { own = written ok (o .node) q t; children = h });
       }
 

@@ -14,6 +14,7 @@ use base::no_nodes;
 use base::no_starts;
 use base::no_times;
 use base::wide;
+use marks_row::children;
 use plan_format::fields::kind;
 use plan_format::fields::minutes;
 use plan_format::fields::nodes;
@@ -34,9 +35,9 @@ fn all_length(
     requires { ⌜ GroupOf (now plan) (now from) (now kids) 1 node × Tables (now plan) (now lengths) (now waits) ⌝ }
     ensures { λ r. ⌜ Worked (now (plan .entry)) (now (lengths .entry)) (now (waits .entry)) (now (lengths .exit)) (now (waits .exit)) node ⌝ }
 {
-    let end = wide(from[node + 1]);
-    let mut i = wide(from[node]);
-    while i < end {
+    let segment = children(from, node);
+    let mut i = segment.start;
+    while i < segment.end {
         let child = wide(kids[i]);
         let k = kind(plan, child);
         if k == ALL_OF {
@@ -62,9 +63,9 @@ fn any_length(
     requires { ⌜ GroupOf (now plan) (now from) (now kids) 2 node × Tables (now plan) (now lengths) (now waits) ⌝ }
     ensures { λ r. ⌜ Worked (now (plan .entry)) (now (lengths .entry)) (now (waits .entry)) (now (lengths .exit)) (now (waits .exit)) node ⌝ }
 {
-    let end = wide(from[node + 1]);
-    let mut i = wide(from[node]);
-    while i < end {
+    let segment = children(from, node);
+    let mut i = segment.start;
+    while i < segment.end {
         let child = wide(kids[i]);
         let k = kind(plan, child);
         if k == ALL_OF {

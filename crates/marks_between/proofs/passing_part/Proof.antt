@@ -1,6 +1,7 @@
 -- `passing_part` meets its contract. Assumes nothing.
-use Prim.Native.Nat.{_≤_, _-_}
-use mathlib.Core.Path.{_≡_}
+use Prim.Native.Nat.{_-_}
+use Rattle.marks_row.specs.Segments.{Reached}
+use Rattle.marks_row.proofs.Turns.{first-turn, position-small, kid-small, position, next-turn, last-turn}
 use Rattle.marks_siblings.proofs.Sibling.{implied}
 use Rattle.marks_between.specs.Passing.{PassingPart}
 use Rattle.marks_between.proofs.Laws.{part-none, part-more, part-empty}
@@ -9,46 +10,44 @@ use Rattle.marks_between.proofs.passing_part.Statement.{statement}
 use Rattle.marks_between.proofs.passing_part.Tie as tie
 
 abbrev Inv-loop : tie.InvT-loop
-Inv-loop kids order rows low high always flags c d left₀ i₀ left i = ((low ≤ i) × (i ≤ high)) × PassingPart kids order rows low i always flags c d left
+Inv-loop kids segment order rows always flags c d left₀ i₀ left i = Reached segment i × PassingPart kids (segment .start) i order rows always flags c d left
 
 abbrev μ-loop : tie.MeasureT-loop
-μ-loop kids order rows low high always flags c d left₀ i₀ left i = high - i
+μ-loop kids segment order rows always flags c d left₀ i₀ left i = segment .end - i
 
 loop-holds : tie.Need-loop-holds Inv-loop μ-loop
-loop-holds c = (omega (arith, c .pre .0 .rises), part-none)
+loop-holds c = (first-turn (c .pre .0), part-none)
 
 returns : tie.Need-returns Inv-loop μ-loop
-returns c = let l = c .before .before in part-empty (omega (arith, l .loop .inv .0)) (c .if1 .taken) (l .loop .inv .1)
+returns c = let l = c .before .before .before in part-empty (l .loop .inv .0 .high) (c .if2 .taken) (l .loop .inv .1)
 
 element-copy-out-wide : tie.Need-element-copy-out-wide Inv-loop μ-loop
-element-copy-out-wide c = omega (arith, c .before .before .before .pre .0 .ends)
+element-copy-out-wide c =
+    let l = c .before .before .before in
+    position-small (l .before .pre .0) (position (l .loop .inv .0) (c .before .if1 .taken))
 
 in-the-way-requires : tie.Need-in-the-way-requires Inv-loop μ-loop
 in-the-way-requires c κs =
-    let l = c .before .before .before .before in
-    let kid = l .before .pre .0 .nodes .each (l .loop .i) (l .loop .inv .0 .0) (omega arith) in
-    omega (arith, l .before .pre .1, kid, c .wide .ensures .0)
+    let l = c .before .before .before .before .before in
+    (kid-small (l .before .pre .0) (position (l .loop .inv .0) (c .before .before .before .if1 .taken)) (c .wide .ensures .0), l .before .pre .1)
 
 lets-pass-requires : tie.Need-lets-pass-requires Inv-loop μ-loop
 lets-pass-requires c κs =
-    let l = c .before .before .before .before .before in
-    let kid = l .before .pre .0 .nodes .each (l .loop .i) (l .loop .inv .0 .0) (omega arith) in
-    omega (arith, kid, c .before .wide .ensures .0)
+    let l = c .before .before .before .before .before .before in
+    kid-small (l .before .pre .0) (position (l .loop .inv .0) (c .before .before .before .before .if1 .taken)) (c .before .wide .ensures .0)
 
 loop-again : tie.Need-loop-again Inv-loop μ-loop
 loop-again c =
-    let l = c .before .before .before .before .before .before .before in
+    let l = c .before .before .before .before .before .before .before .before in
+    let turn = l .loop .inv .0 in
     let e = c .before .before .before .wide .ensures .0 in (
-      omega arith,
-      part-more (l .loop .inv .0 .0) (c .narrowed .ensures)
+      next-turn turn (c .before .before .before .before .before .before .if1 .taken),
+      part-more (turn .low) (c .narrowed .ensures)
           (λ f k. implied (rw e at (c .before .before .in-the-way .ensures)) (rw e at (c .before .lets-pass .ensures f k))) (l .loop .inv .1),
     )
 
 returns-2 : tie.Need-returns-2 Inv-loop μ-loop
-returns-2 c =
-    let l = c .before in
-    let e : l .loop .i ≡ l .before .args .high = omega (arith, l .loop .inv .0) in
-    rw e at (l .loop .inv .1)
+returns-2 c = let l = c .before .before in rw (last-turn (l .loop .inv .0) (c .if1 .left)) at (l .loop .inv .1)
 
 pub passing-part-spec : {M : Type 1} → statement M
 passing-part-spec =

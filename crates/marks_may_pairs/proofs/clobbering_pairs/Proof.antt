@@ -6,21 +6,19 @@ use Rattle.marks_may_pairs.proofs.clobbering_pairs.Statement.{statement
 use Rattle.marks_may_pairs.proofs.clobbering_pairs.Tie as tie
 
 abbrev Inv-loop : tie.InvT-loop
-Inv-loop from kids order rows n node left₀ found₀ child₀ partner₀ left found child partner = Progress from kids order rows n node left₀ left found child partner
+Inv-loop kids segment order rows left₀ found₀ child₀ partner₀ left found child partner = Progress kids segment order rows left₀ left found child partner
 
 abbrev μ-loop : tie.MeasureT-loop
-μ-loop from kids order rows n node left₀ found₀ child₀ partner₀ left found child partner = left .clear + left .set
+μ-loop kids segment order rows left₀ found₀ child₀ partner₀ left found child partner = left .clear + left .set
 
 loop-holds : tie.Need-loop-holds Inv-loop μ-loop
-loop-holds c =
-    let s = c .before .before in
-    rw (c .wide .ensures .0) (at-first _ _ _ _ _ _ _ (s .pre .shaped .starts (s .args .node) (s .pre .below)))
+loop-holds c = at-first _ _ _ _ _ (c .pre .rises)
 
 clobbering-pair-requires : tie.Need-clobbering-pair-requires Inv-loop μ-loop
-clobbering-pair-requires c κs = (c .before .before .before .pre, c .loop .inv .stands)
+clobbering-pair-requires c κs = (c .before .pre, c .loop .inv .stands)
 
 returns : tie.Need-returns Inv-loop μ-loop
-returns c = all-found _ _ _ _ _ _ _ _ (c .before .before .before .before .loop .inv) (c .before .before .before .clobbering-pair .ensures) (c .if1 .taken)
+returns c = all-found _ _ _ _ _ _ (c .before .before .before .before .loop .inv) (c .before .before .before .clobbering-pair .ensures) (c .if1 .taken)
 
 loop-less : tie.Need-loop-less Inv-loop μ-loop
 loop-less c =
@@ -32,7 +30,7 @@ loop-less c =
 loop-again : tie.Need-loop-again Inv-loop μ-loop
 loop-again c =
     let here = c .before .before .before .before .before .before .before .before .before .before .before .before .before in
-    found-more _ _ _ _ _ _ _ _ (here .before .loop .inv) (here .clobbering-pair .ensures)
+    found-more _ _ _ _ _ _ (here .before .loop .inv) (here .clobbering-pair .ensures)
 
 pub clobbering-pairs-spec : {M : Type 1} → statement M
 clobbering-pairs-spec =
@@ -40,8 +38,6 @@ clobbering-pairs-spec =
     (tie.spec
     Inv-loop
     μ-loop
-    (λ c. omega arith)
-    (λ c κs. omega arith)
     loop-holds
     clobbering-pair-requires
     returns

@@ -21,7 +21,7 @@ returns-3 : tie.Need-returns-3
 returns-3 c = pair-kid (c .before .before .wide .ensures .0) (not-before _ (c .if1 .left))
 
 element-copy-out-wide : tie.Need-element-copy-out-wide
-element-copy-out-wide c = position-small (c .pre .0 .group) (c .pre .0 .other)
+element-copy-out-wide c = position-small (c .pre .0 .segment) (c .pre .0 .other)
 
 mul-if1 : tie.Need-mul-if1
 mul-if1 c = let s = c .before .before in omega (arith, s .pre .1, pair-small (s .pre .0) (c .wide .ensures .0))

@@ -26,7 +26,7 @@ returns-4 c = pair-kid (c .before .before .before .before .wide .ensures .0)
     (neither-rule _ (c .before .before .if1 .left) (λ u. rw (c .if3 .left) at ((c .before .apart .ensures) .1 u)))
 
 element-copy-out-wide : tie.Need-element-copy-out-wide
-element-copy-out-wide c = position-small (c .pre .0 .group) (c .pre .0 .other)
+element-copy-out-wide c = position-small (c .pre .0 .segment) (c .pre .0 .other)
 
 mul-if1 : tie.Need-mul-if1
 mul-if1 c = let s = c .before .before in omega (arith, s .pre .1, pair-small (s .pre .0) (c .wide .ensures .0))

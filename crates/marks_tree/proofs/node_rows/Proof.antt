@@ -13,7 +13,7 @@ returns-2 c = all-nodes (c .before .before .before .before .before .task-rows .e
 returns-3 : tie.Need-returns-3
 returns-3 c =
     let tasks = c .before .before .before .task-rows .ensures in
-    all-nodes tasks (is-task (c .before .if1 .left) (c .if2 .left)) (task-filled _ _ _ _ _ _ (tasks .long))
+    all-nodes tasks (is-task (c .before .if1 .left) (c .if2 .left)) (task-filled (tasks .long))
 
 pub node-rows-spec : {M : Type 1} → statement M
 node-rows-spec =

@@ -1,6 +1,7 @@
 -- `spread` meets its contract: the children before i are done, and the orders of each are met. Assumes nothing.
 use Prim.Native.Nat.{_-_}
-use Rattle.marks_row.proofs.Turns.{Turn, first-turn, position-small, kid-small, position, next-turn, last-turn}
+use Rattle.marks_row.specs.Segments.{Reached}
+use Rattle.marks_row.proofs.Turns.{at-segment, first-turn, position-small, kid-small, position, next-turn, last-turn}
 use Rattle.wait_group.proofs.Children.{at-group, SpreadTo, spread-none, spread-end, spread-more, spread-all}
 use native.Mathlib.Omega.{arith}
 use borrow.Author.Needs.{needs}
@@ -8,85 +9,79 @@ use Rattle.wait_group.proofs.spread.Statement.{statement}
 use Rattle.wait_group.proofs.spread.Tie as tie
 
 abbrev Inv-loop : tie.InvT-loop
-Inv-loop plan from kids lengths waits₀ node longest₀ end i₀ waits longest i =
-    Turn from node end i × SpreadTo plan from kids lengths waits₀ waits node i longest
+Inv-loop plan from kids lengths waits₀ node longest₀ segment i₀ waits longest i = Reached segment i × SpreadTo plan kids segment lengths waits₀ waits i longest
 
 abbrev μ-loop : tie.MeasureT-loop
-μ-loop plan from kids lengths waits₀ node longest₀ end i₀ waits longest i = end - i
+μ-loop plan from kids lengths waits₀ node longest₀ segment i₀ waits longest i = segment .end - i
 
-add-wide : tie.Need-add-wide Inv-loop μ-loop
-add-wide c = let o = at-group (c .before .pre .0) in omega (arith, o .shaped .small, o .below)
-
-element-copy-out-wide : tie.Need-element-copy-out-wide Inv-loop μ-loop
-element-copy-out-wide c = let o = at-group (c .before .pre .0) in omega (arith, o .shaped .small, o .below)
-
-element-copy-out-wide-2 : tie.Need-element-copy-out-wide-2 Inv-loop μ-loop
-element-copy-out-wide-2 c = let o = at-group (c .before .before .before .pre .0) in omega (arith, o .shaped .small, o .below)
+children-requires : tie.Need-children-requires Inv-loop μ-loop
+children-requires c κs = let o = at-group (c .before .pre .0) in omega (arith, o .shaped .small, o .below)
 
 loop-holds : tie.Need-loop-holds Inv-loop μ-loop
 loop-holds c =
-    let s = c .before .before .before .before .before in
-    let t = first-turn (at-group (s .pre .0)) (c .before .before .wide .ensures .0) (c .wide2 .ensures .0) in
-    (t, spread-none (s .pre .0) (c .wide2 .ensures .0) (s .pre .1))
+    let s = c .before .before in
+    (first-turn (at-segment (at-group (s .pre .0)) (c .children .ensures)), spread-none (s .pre .0) (c .children .ensures) (s .pre .1))
 
-element-copy-out-wide-3 : tie.Need-element-copy-out-wide-3 Inv-loop μ-loop
-element-copy-out-wide-3 c =
-    let o = at-group (c .before .before .before .before .before .before .before .pre .0) in
-    position-small o (position (c .before .loop .inv .0) (c .loop-test .taken))
+element-copy-out-wide : tie.Need-element-copy-out-wide Inv-loop μ-loop
+element-copy-out-wide c =
+    let l = c .before .before in
+    let a = at-segment (at-group (l .before .before .before .pre .0)) (l .before .children .ensures) in
+    position-small a (position (l .loop .inv .0) (c .if1 .taken))
 
 mul-child-end : tie.Need-mul-child-end Inv-loop μ-loop
 mul-child-end c =
-    let l = c .before .before .before in
-    let o = at-group (l .before .before .before .before .before .before .pre .0) in
-    omega (arith, kid-small o (position (l .loop .inv .0) (c .before .before .loop-test .taken)) (c .wide3 .ensures .0))
+    let l = c .before .before .before .before in
+    let a = at-segment (at-group (l .before .before .before .pre .0)) (l .before .children .ensures) in
+    omega (arith, kid-small a (position (l .loop .inv .0) (c .before .before .if1 .taken)) (c .wide .ensures .0))
 
 element-copy-out-child-end : tie.Need-element-copy-out-child-end Inv-loop μ-loop
 element-copy-out-child-end c =
-    let l = c .before .before .before in
-    let o = at-group (l .before .before .before .before .before .before .pre .0) in
-    kid-small o (position (l .loop .inv .0) (c .before .before .loop-test .taken)) (c .wide3 .ensures .0)
+    let l = c .before .before .before .before in
+    let a = at-segment (at-group (l .before .before .before .pre .0)) (l .before .children .ensures) in
+    kid-small a (position (l .loop .inv .0) (c .before .before .if1 .taken)) (c .wide .ensures .0)
 
 mul-child-end-2 : tie.Need-mul-child-end-2 Inv-loop μ-loop
 mul-child-end-2 c =
-    let l = c .before .before .before .before in
-    let o = at-group (l .before .before .before .before .before .before .pre .0) in
-    omega (arith, kid-small o (position (l .loop .inv .0) (c .before .before .before .loop-test .taken)) (c .before .wide3 .ensures .0))
+    let l = c .before .before .before .before .before in
+    let a = at-segment (at-group (l .before .before .before .pre .0)) (l .before .children .ensures) in
+    omega (arith, kid-small a (position (l .loop .inv .0) (c .before .before .before .if1 .taken)) (c .before .wide .ensures .0))
 
 element-copy-out-child-end-2 : tie.Need-element-copy-out-child-end-2 Inv-loop μ-loop
 element-copy-out-child-end-2 c =
-    let l = c .before .before .before .before in
-    let o = at-group (l .before .before .before .before .before .before .pre .0) in
-    kid-small o (position (l .loop .inv .0) (c .before .before .before .loop-test .taken)) (c .before .wide3 .ensures .0)
+    let l = c .before .before .before .before .before in
+    let a = at-segment (at-group (l .before .before .before .pre .0)) (l .before .children .ensures) in
+    kid-small a (position (l .loop .inv .0) (c .before .before .before .if1 .taken)) (c .before .wide .ensures .0)
 
 add-child-end : tie.Need-add-child-end Inv-loop μ-loop
 add-child-end c =
-    let l = c .before .before .before .before .before in
-    let s = l .before .before .before .before .before .before in
-    let at = position (l .loop .inv .0) (c .before .before .before .before .loop-test .taken) in
-    let e = spread-end (s .pre .0) (c .before .before .wide3 .ensures .0) at (l .loop .inv .1) (s .pre .2) in
+    let l = c .before .before .before .before .before .before in
+    let s = l .before .before .before in
+    let at = position (l .loop .inv .0) (c .before .before .before .before .if1 .taken) in
+    let e = spread-end (s .pre .0) (l .before .children .ensures) (c .before .before .wide .ensures .0) at (l .loop .inv .1) (s .pre .2) in
     omega (arith, e .0, e .1)
 
 raise-requires : tie.Need-raise-requires Inv-loop μ-loop
 raise-requires c κs =
-    let l = c .before .before .before .before .before .before in
-    (l .before .before .before .before .before .before .pre .0 .accepted, l .loop .inv .1 .tables .waits-long)
+    let l = c .before .before .before .before .before .before .before in
+    (l .before .before .before .pre .0 .accepted, l .loop .inv .1 .tables .waits-long)
 
 loop-again : tie.Need-loop-again Inv-loop μ-loop
 loop-again c =
-    let l = c .before .before .before .before .before .before .before .before in
-    let s = l .before .before .before .before .before .before in
+    let l = c .before .before .before .before .before .before .before .before .before in
+    let s = l .before .before .before in
+    let here = l .before .children .ensures in
     let turn = l .loop .inv .0 in
-    let test = c .before .before .before .before .before .before .before .loop-test .taken in
-    let e = c .before .before .before .before .before .wide3 .ensures .0 in
+    let test = c .before .before .before .before .before .before .before .if1 .taken in
+    let e = c .before .before .before .before .before .wide .ensures .0 in
     let at = position turn test in
-    let x = spread-end (s .pre .0) e at (l .loop .inv .1) (s .pre .2) in
-    (next-turn turn test, spread-more (s .pre .0) e at (l .loop .inv .1) (x .0) (c .before .raise .ensures) (c .greater .ensures))
+    let x = spread-end (s .pre .0) here e at (l .loop .inv .1) (s .pre .2) in
+    (next-turn turn test, spread-more (s .pre .0) here e at (l .loop .inv .1) (x .0) (c .before .raise .ensures) (c .greater .ensures))
 
 returns : tie.Need-returns Inv-loop μ-loop
 returns c =
-    let l = c .before in
-    let e = last-turn (l .loop .inv .0) (c .loop-test .left) in
-    spread-all (l .before .before .before .before .before .before .pre .0) (rw e at (l .loop .inv .1))
+    let l = c .before .before in
+    let e = last-turn (l .loop .inv .0) (c .if1 .left) in
+    spread-all (l .before .before .before .pre .0) (l .before .children .ensures) (rw e at (l .loop .inv .1))
 
 pub spread-spec : {M : Type 1} → statement M
 spread-spec =
@@ -94,13 +89,9 @@ spread-spec =
     (tie.spec
     Inv-loop
     μ-loop
-    add-wide
-    element-copy-out-wide
-    (λ c κs. search needs)
-    element-copy-out-wide-2
-    (λ c κs. search needs)
+    children-requires
     loop-holds
-    element-copy-out-wide-3
+    element-copy-out-wide
     (λ c κs. search needs)
     mul-child-end
     element-copy-out-child-end
