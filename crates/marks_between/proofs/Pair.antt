@@ -13,12 +13,15 @@ use Rattle.marks_row.specs.Musts.{SaysOf}
 use Rattle.marks_between.specs.Passing.{Passes, OfGroups, PassingWord, PairWord}
 
 -- the child d by its position
-pub pair-kid : {P : Plan → ℕ → ℕ → Bool → ℕ → ℕ → Type 0} {kids : List ℕ} {segment : Segment} {order rows : List ℕ} {s w c d k r : ℕ} → d ≡ k
+pub pair-kid : {P : Plan → ℕ → ℕ → Bool → ℕ → ℕ → Type 0} {kids : List ℕ} {segment : Segment} {order rows : List ℕ}
+    {s w c d k r : ℕ} → d ≡ k
     → PairWord P kids segment order rows s w c d r → PairWord P kids segment order rows s w c k r
 pair-kid e h = rw e at h
 
-module _ {P : Plan → ℕ → ℕ → Bool → ℕ → ℕ → Type 0} {kids : List ℕ} {segment : Segment} {order rows : List ℕ} {s c d : ℕ} (w : ℕ) where
-  pub no-pair : OfGroups kids segment order rows (λ p n. Child p n c → Child p n d → (f : ℕ) (v : Bool) → ¬ P p n f v c d)
+module _ {P : Plan → ℕ → ℕ → Bool → ℕ → ℕ → Type 0} {kids : List ℕ} {segment : Segment} {order rows : List ℕ}
+    {s c d : ℕ} (w : ℕ) where
+  pub no-pair : OfGroups kids segment order rows
+      (λ p n. Child p n c → Child p n d → (f : ℕ) (v : Bool) → ¬ P p n f v c d)
       → PairWord P kids segment order rows s w c d 0
   no-pair k = record {
     among = λ f l t. absurd (no-flag 0 f refl t);
@@ -26,7 +29,8 @@ module _ {P : Plan → ℕ → ℕ → Bool → ℕ → ℕ → Type 0} {kids : 
   }
 
   -- a word says for which flags the pair has P
-  pub pair-of : (x : ℕ) → OfGroups kids segment order rows (λ p n. Child p n c → Child p n d → SaysOf s x (λ f v. P p n f v c d))
+  pub pair-of : (x : ℕ) → OfGroups kids segment order rows
+      (λ p n. Child p n c → Child p n d → SaysOf s x (λ f v. P p n f v c d))
       → PairWord P kids segment order rows s w c d (bitAnd w x)
   pair-of x h = record {
     among = λ f l t. among-left w x f t;
@@ -35,19 +39,23 @@ module _ {P : Plan → ℕ → ℕ → Bool → ℕ → ℕ → Type 0} {kids : 
 
   -- d stands before c, and a word says for which flags the two share S: of these, those that pass from d to c
   module _ (x : ℕ) (always : Bool) {S : Plan → ℕ → Bool → Type 0} (q : code order d c ≡ 1)
-      (pair : (p : Plan) (n : ℕ) → Before p d c → (f : ℕ) (v : Bool) → (S p f v × Passes p n f always c d) ↔ P p n f v c d)
+      (pair : (p : Plan) (n : ℕ) → Before p d c → (f : ℕ) (v : Bool)
+      → (S p f v × Passes p n f always c d) ↔ P p n f v c d)
       (h : OfGroups kids segment order rows (λ p n. Child p n c → Child p n d → SaysOf s x (S p))) where
     pub pass-none : bitAnd w x ≡ 0 → PairWord P kids segment order rows s w c d 0
     pass-none z = record {
       among = λ f l t. absurd (no-flag 0 f refl t);
-      says = λ p n g hc hd v e f l. says-none refl (λ u. no-flag _ f z (says-and {x = w} {y = x} refl (says-self w f) (h p n g hc hd v e f l) .from
+      says = λ p n g hc hd v e f l. says-none refl
+          (λ u. no-flag _ f z (says-and {x = w} {y = x} refl (says-self w f) (h p n g hc hd v e f l) .from
           (u .0, (pair p n ((g .orders .before d c (hd .node) (hc .node)) .0 q) f v) .1 (u .1) .0)));
     }
 
-    pub pass-some : {r : ℕ} → PassingWord kids segment order rows always (bitAnd w x) c d r → PairWord P kids segment order rows s w c d r
+    pub pass-some : {r : ℕ} → PassingWord kids segment order rows always (bitAnd w x) c d r
+        → PairWord P kids segment order rows s w c d r
     pass-some k = record {
       among = λ f l t. among-left w x f (k .among f l t);
       says = λ p n g hc hd v e f l. let is = pair p n ((g .orders .before d c (hd .node) (hc .node)) .0 q) f v in
           says-map (λ u. (u .0 .0, is .0 (u .0 .1, u .1)), λ u. let y = is .1 (u .1) in ((u .0, y .0), y .1))
-          (says-among (says-and {x = w} {y = x} refl (says-self w f) (h p n g hc hd v e f l)) (k .says p n g hc hd f l));
+          (says-among (says-and {x = w} {y = x} refl (says-self w f) (h p n g hc hd v e f l))
+          (k .says p n g hc hd f l));
     }

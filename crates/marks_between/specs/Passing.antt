@@ -56,7 +56,8 @@ pub record PartWord (kids : List ℕ) (low high flags : ℕ) (Q : ℕ → ℕ �
 
 -- of the given flags, those that pass each of these children, by the tables
 abbrev pub PassingPart : List ℕ → ℕ → ℕ → List ℕ → List ℕ → Bool → ℕ → ℕ → ℕ → ℕ → Type 0
-PassingPart kids low high order rows always flags c d r = PartWord kids low high flags (λ f b. InTheWay order always b c d → LetsPass rows always b f) r
+PassingPart kids low high order rows always flags c d r =
+    PartWord kids low high flags (λ f b. InTheWay order always b c d → LetsPass rows always b f) r
 
 -- what is known of an all-of group n whose pairs of children are looked at
 pub record Pairing (kids : List ℕ) (segment : Segment) (order rows : List ℕ) (p : Plan) (n : ℕ) : Type 0 where
@@ -68,14 +69,18 @@ abbrev pub OfGroups : List ℕ → Segment → List ℕ → List ℕ → (Plan �
 OfGroups kids segment order rows Q = (p : Plan) (n : ℕ) → Pairing kids segment order rows p n → Q p n
 
 -- of the given flags, those that pass from d to c
-pub record PassingWord (kids : List ℕ) (segment : Segment) (order rows : List ℕ) (always : Bool) (flags c d r : ℕ) : Type 0 where
+pub record PassingWord (kids : List ℕ) (segment : Segment) (order rows : List ℕ) (always : Bool)
+    (flags c d r : ℕ) : Type 0 where
   pub among : (f : ℕ) → f < 64 → T (bit r f) → T (bit flags f)
-  pub says : OfGroups kids segment order rows (λ p n. Child p n c → Child p n d → (f : ℕ) → f < 64 → Says r f (T (bit flags f) × Passes p n f always c d))
+  pub says : OfGroups kids segment order rows
+      (λ p n. Child p n c → Child p n d → (f : ℕ) → f < 64 → Says r f (T (bit flags f) × Passes p n f always c d))
 
 -- the wanted flags of the sign s for which the pair c, d of children of n has P
-pub record PairWord (P : Plan → ℕ → ℕ → Bool → ℕ → ℕ → Type 0) (kids : List ℕ) (segment : Segment) (order rows : List ℕ) (s wanted c d r : ℕ) : Type 0 where
+pub record PairWord (P : Plan → ℕ → ℕ → Bool → ℕ → ℕ → Type 0) (kids : List ℕ) (segment : Segment) (order rows : List ℕ)
+    (s wanted c d r : ℕ) : Type 0 where
   pub among : (f : ℕ) → f < 64 → T (bit r f) → T (bit wanted f)
-  pub says : OfGroups kids segment order rows (λ p n. Child p n c → Child p n d → SaysOf s r (λ f v. T (bit wanted f) × P p n f v c d))
+  pub says : OfGroups kids segment order rows
+      (λ p n. Child p n c → Child p n d → SaysOf s r (λ f v. T (bit wanted f) × P p n f v c d))
 
 -- some pair of children of n
 abbrev pub SomePair : Plan → ℕ → (ℕ → ℕ → Type 0) → Type 0

@@ -1,4 +1,5 @@
-// The flags that pass from a child d of an all-of group to a child c after it: may pass, where every child between the two can avoid the flag; always pass,
+// The flags that pass from a child d of an all-of group to a child c after it: may pass, where every child between the
+// two can avoid the flag; always pass,
 // where no task under any other child asserts it, unless that child stands before d or after c.
 ghost use mathlib.Core.Logic.{_↔_};
 ghost use Prim.Native.Nat.{ℕ, _<_};
@@ -6,7 +7,8 @@ ghost use lib.Dec.{T};
 ghost use lib.ListN.{getD};
 ghost use Rattle.base.specs.Bits.{bit};
 ghost use Rattle.marks_row.specs.Segments.{AtSegment, AtPair};
-ghost use Rattle.marks_between.specs.Passing.{StandsBetween, Disturbs, InTheWay, LetsPass, PassingPart, PassingWord};
+ghost use Rattle.marks_between.specs.Passing.{StandsBetween, Disturbs, InTheWay, LetsPass, PassingPart};
+ghost use Rattle.marks_between.specs.Passing.{PassingWord};
 use base::wide;
 use marks_row::Segment;
 use marks_row::codes::AFTER;
@@ -79,7 +81,8 @@ fn passing_part(
     d: usize,
 ) -> u64
     requires { ⌜ AtSegment (now kids) segment × ((c < 128) × (d < 128)) ⌝ }
-    ensures { λ r. ⌜ PassingPart (now (kids .entry)) (segment .start) (segment .end) (now (order .entry)) (now (rows .entry)) always flags c d r ⌝ }
+    ensures { λ r. ⌜ PassingPart (now (kids .entry)) (segment .start) (segment .end) (now (order .entry))
+        (now (rows .entry)) always flags c d r ⌝ }
 {
     let mut left = flags;
     let mut i = segment.start;
@@ -98,7 +101,8 @@ fn passing_part(
     left
 }
 
-// Of the given flags, those that pass from the child at j to the child c. The children after the one at j in the table come first: there the flags are
+// Of the given flags, those that pass from the child at j to the child c. The children after the one at j in the table
+// come first: there the flags are
 // soonest settled.
 pub fn passing(
     kids: &[u8; 128],
@@ -111,7 +115,8 @@ pub fn passing(
     j: usize,
 ) -> u64
     requires { ⌜ AtPair (now kids) segment c j ⌝ }
-    ensures { λ r. ⌜ PassingWord (now (kids .entry)) segment (now (order .entry)) (now (rows .entry)) always flags c (getD (now (kids .entry)) j 0) r ⌝ }
+    ensures { λ r. ⌜ PassingWord (now (kids .entry)) segment (now (order .entry)) (now (rows .entry)) always flags c
+        (getD (now (kids .entry)) j 0) r ⌝ }
 {
     let d = wide(kids[j]);
     let later = Segment {

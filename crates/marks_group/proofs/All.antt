@@ -10,7 +10,8 @@ use Rattle.runs.specs.Classes.{Neutral, Covers}
 use Rattle.runs.proofs.Summary.Quiet.{quiet-all}
 use Rattle.runs.proofs.Summary.Meet.{meet-all}
 use Rattle.runs.proofs.Summary.ByChildren.{avoids-all, may-pre-all, may-post-all, may-inc-all, must-inc-all}
-use Rattle.marks_row.specs.Columns.{Column, avoid, quiet, covered, may-pre, may-post, may-inc, requires, asserts, may-clobber, must-inc, must-clobber}
+use Rattle.marks_row.specs.Columns.{Column, avoid, quiet, covered, may-pre, may-post, may-inc, requires, asserts}
+use Rattle.marks_row.specs.Columns.{may-clobber, must-inc, must-clobber}
 use Rattle.marks_row.specs.Columns.{indexOf, firstOf, Fact}
 use Rattle.marks_group.specs.Groups.{Others, Within}
 use Rattle.runs.proofs.Plan.Numbers.{sign-small}
@@ -34,10 +35,12 @@ module _ (p : Plan) (w : WellFormed p) {n : ℕ} (l : Node p n) (k : p .tree .ki
   every-part (must-clobber v) s = absurd (omega arith)
 
   -- a rule that says nothing of the siblings
-  alone : {A : Type 0} {P : ℕ → Type 0} → A ↔ ((c : ℕ) × Child p n c × P c) → A ↔ ((c : ℕ) × Child p n c × (P c × Unit {0}))
+  alone : {A : Type 0} {P : ℕ → Type 0} → A ↔ ((c : ℕ) × Child p n c × P c)
+      → A ↔ ((c : ℕ) × Child p n c × (P c × Unit {0}))
   alone e = (λ a. let x = e .0 a in (x .0, x .1, (x .2, tt)), λ x. e .1 (x .0, x .1, x .2 .0))
 
-  pub some-part : (c : Column) → firstOf covered ≤ indexOf c → Within p n f c ↔ ((b : ℕ) × Child p n b × (Fact p b f c × Others p n b f c))
+  pub some-part : (c : Column) → firstOf covered ≤ indexOf c
+      → Within p n f c ↔ ((b : ℕ) × Child p n b × (Fact p b f c × Others p n b f c))
   some-part avoid s = absurd (omega arith)
   some-part (quiet v) s = absurd (omega (arith, sign-small v))
   some-part (covered v) s = let e = meet-all p w (Neutral p f v) (Covers p f v) k in (

@@ -1,4 +1,5 @@
--- The facts of a group by those of its children, where the rule is the same for all properties: an any-of group has a fact where some branch has it, in
+-- The facts of a group by those of its children, where the rule is the same for all properties: an any-of group has a
+-- fact where some branch has it, in
 -- the last columns where every branch has it. Assumes nothing.
 use mathlib.Core.Path.{_≡_}
 use mathlib.Core.Logic.{_≢_, _⊎_, inl, inr, _↔_}
@@ -16,7 +17,8 @@ use Rattle.runs.proofs.Summary.Meet.{meet-any}
 use Rattle.runs.proofs.Summary.MayMust.{may-any, must-any}
 use Rattle.runs.proofs.Summary.Clobber.{clobber-any}
 use Rattle.runs.proofs.Summary.ReflectClobber.{must-clobber-any}
-use Rattle.marks_row.specs.Columns.{Column, avoid, quiet, covered, may-pre, may-post, may-inc, requires, asserts, may-clobber, must-inc, must-clobber}
+use Rattle.marks_row.specs.Columns.{Column, avoid, quiet, covered, may-pre, may-post, may-inc, requires, asserts}
+use Rattle.marks_row.specs.Columns.{may-clobber, must-inc, must-clobber}
 use Rattle.marks_row.specs.Columns.{indexOf, firstOf, Fact}
 use Rattle.runs.proofs.Plan.Numbers.{sign-small}
 
@@ -27,18 +29,29 @@ module _ (p : Plan) (w : WellFormed p) where
   with-child {n} k i j f v = (
     λ x. at x (branch p (x .beneath)),
     λ y. let x = y .2 in
-        record { who = x .who; is-task = x .is-task; has = x .has; beneath = under-trans p (child-under p (y .1)) (x .beneath) },
+        record {
+          who = x .who;
+          is-task = x .is-task;
+          has = x .has;
+          beneath = under-trans p (child-under p (y .1)) (x .beneath);
+        },
   )
     where
-      at : (x : TaskWith p i j f v n) → (n ≡ x .who) ⊎ Branch p n (x .who) → (c : ℕ) × Child p n c × TaskWith p i j f v c
+      at : (x : TaskWith p i j f v n) → (n ≡ x .who) ⊎ Branch p n (x .who)
+          → (c : ℕ) × Child p n c × TaskWith p i j f v c
       at x (inl e) = absurd (k (rw e (x .is-task)))
-      at x (inr b) = (b .via, b .child, record { who = x .who; is-task = x .is-task; has = x .has; beneath = b .beneath })
+      at x (inr b) = (
+        b .via,
+        b .child,
+        record { who = x .who; is-task = x .is-task; has = x .has; beneath = b .beneath },
+      )
 
   group-any : {n : ℕ} → p .tree .kind n ≡ any-of → p .tree .kind n ≢ task
   group-any k e = clash cc
 
   module _ {n : ℕ} (k : p .tree .kind n ≡ any-of) (f : ℕ) where
-    pub some-branch : (c : Column) → indexOf c < firstOf must-inc → Fact p n f c ↔ ((b : ℕ) × Child p n b × Fact p b f c)
+    pub some-branch : (c : Column) → indexOf c < firstOf must-inc
+        → Fact p n f c ↔ ((b : ℕ) × Child p n b × Fact p b f c)
     some-branch avoid l = may-any p w (λ h. lastAsserted p h f ≡ none) k
     some-branch (quiet v) l = may-any p w (All (Neutral p f v)) k
     some-branch (covered v) l = meet-any p w (Neutral p f v) (Covers p f v) k
@@ -51,7 +64,8 @@ module _ (p : Plan) (w : WellFormed p) where
     some-branch (must-inc v) l = absurd (omega arith)
     some-branch (must-clobber v) l = absurd (omega arith)
 
-    pub every-branch : (c : Column) → firstOf must-inc ≤ indexOf c → Fact p n f c ↔ ((b : ℕ) → Child p n b → Fact p b f c)
+    pub every-branch : (c : Column) → firstOf must-inc ≤ indexOf c
+        → Fact p n f c ↔ ((b : ℕ) → Child p n b → Fact p b f c)
     every-branch avoid l = absurd (omega arith)
     every-branch (quiet v) l = absurd (omega (arith, sign-small v))
     every-branch (covered v) l = absurd (omega (arith, sign-small v))

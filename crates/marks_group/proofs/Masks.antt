@@ -5,7 +5,8 @@ use Prim.Native.Nat.{ℕ, _<_}
 use Rattle.base.specs.Bits.{Says}
 use Rattle.base.proofs.Says.{says-all}
 use Rattle.runs.specs.Plan.{Plan, Child}
-use Rattle.marks_row.specs.Columns.{Column, avoid, quiet, covered, may-pre, may-post, may-inc, requires, asserts, may-clobber, must-inc, must-clobber}
+use Rattle.marks_row.specs.Columns.{Column, avoid, quiet, covered, may-pre, may-post, may-inc, requires, asserts}
+use Rattle.marks_row.specs.Columns.{may-clobber, must-inc, must-clobber}
 use Rattle.marks_siblings.specs.declared.Siblings.{Siblings}
 use Rattle.marks_siblings.specs.Siblings.{SiblingWords}
 use Rattle.marks_group.specs.Groups.{Others}

@@ -39,7 +39,8 @@ pub record Starting (first k : ℕ) (out : List ℕ) : Type 0 where
 pub start-none : (first : ℕ) → Starting first first (zeros 21)
 start-none first = record { long = refl; every = λ j a b. absurd (omega arith); some = λ j x. zeros-at 21 j }
 
-pub start-more : {first k : ℕ} {out : List ℕ} → first ≤ k → k < 21 → Starting first k out → Starting first (k + 1) (set out k ones)
+pub start-more : {first k : ℕ} {out : List ℕ} → first ≤ k → k < 21 → Starting first k out
+    → Starting first (k + 1) (set out k ones)
 start-more {first} {k} {out} l m s = record {
   long = length-set out k ones ∙ s .long;
   every = λ j a b. by-cases (ℕ-discrete j k) (λ e. rw (e, getD-set-same out k ones 0 (omega (arith, s .long))))
@@ -70,12 +71,15 @@ module _ {first last : ℕ} {kids : List ℕ} {lo : ℕ} {P M : Column → ℕ �
       → ((k : Column) (f : ℕ) → f < 64 → Says (getD mask (indexOf k) 0) f (M k f c))
       → Joined first last kids lo i P M a → Joined first last kids lo (i + 1) P M r
   joined-more e l m rp rm j = let here = rw e at m in record {
-    every = λ k a b f s. every-more l ((here .words (indexOf k) (index-small k)) .every a b) (j .every k a b f s) (rw e at (rp k f s));
-    some = λ k x f s. some-more l ((here .words (indexOf k) (index-small k)) .some x) (j .some k x f s) (says-and refl (rw e at (rp k f s)) (rw e at (rm k f s)));
+    every = λ k a b f s. every-more l ((here .words (indexOf k) (index-small k)) .every a b) (j .every k a b f s)
+        (rw e at (rp k f s));
+    some = λ k x f s. some-more l ((here .words (indexOf k) (index-small k)) .some x) (j .some k x f s)
+        (says-and refl (rw e at (rp k f s)) (rw e at (rm k f s)));
   }
 
 -- a mask of ones
-pub unmasked : {mask : List ℕ} → Unmerged 0 21 mask → (k : Column) (f : ℕ) → f < 64 → Says (getD mask (indexOf k) 0) f (Unit {0})
+pub unmasked : {mask : List ℕ} → Unmerged 0 21 mask → (k : Column) (f : ℕ) → f < 64
+    → Says (getD mask (indexOf k) 0) f (Unit {0})
 unmasked u k f l = says-all l (u .every (indexOf k) (index-small k) (omega arith) (index-small k)) tt
 
 module _ {kids : List ℕ} {segment : Segment} {rows : List ℕ} {p : Plan} {n : ℕ} (g : Group kids segment rows p n) where
@@ -90,23 +94,28 @@ module _ {kids : List ℕ} {segment : Segment} {rows : List ℕ} {p : Plan} {n :
   pub any-row : p .tree .kind n ≡ any-of → {r : List ℕ} → AnyWords (segment .end) r → Row p n r
   any-row kn j = record {
     says = λ k f l. by-cases (decLt (indexOf k) (firstOf must-inc))
-        (λ s. says-map (Iff·trans (some-child (g .listed) (λ c hc. (λ x. x .0, λ x. (x, tt)))) (Iff·symm (some-branch p (g .well-formed) kn f k s)))
+        (λ s. says-map (Iff·trans (some-child (g .listed) (λ c hc. (λ x. x .0, λ x. (x, tt))))
+        (Iff·symm (some-branch p (g .well-formed) kn f k s)))
         (j .some k (inl s) f l))
         (λ ns. let s : firstOf must-inc ≤ indexOf k = omega (arith, ns) in
-        says-map (Iff·trans (every-child (g .listed) (λ c hc. (λ x. x, λ x. x))) (Iff·symm (every-branch p (g .well-formed) kn f k s)))
+        says-map (Iff·trans (every-child (g .listed) (λ c hc. (λ x. x, λ x. x)))
+        (Iff·symm (every-branch p (g .well-formed) kn f k s)))
         (j .every k s (index-small k) f l));
   }
 
   -- the words of an all-of group, over all its children
   abbrev pub AllWords : ℕ → List ℕ → Type 0
-  AllWords i r = Joined (indexOf avoid) (firstOf covered) kids (segment .start) i (λ k f c. Fact p c f k) (λ k f c. Others p n c f k) r
+  AllWords i r = Joined (indexOf avoid) (firstOf covered) kids (segment .start) i (λ k f c. Fact p c f k)
+      (λ k f c. Others p n c f k) r
 
   pub all-row : p .tree .kind n ≡ all-of → {r : List ℕ} → AllWords (segment .end) r → WithinRow p n r
   all-row kn j = record {
     says = λ k f l. by-cases (decLt (indexOf k) (firstOf covered))
-        (λ s. says-map (Iff·trans (every-child (g .listed) (λ c hc. (λ x. x, λ x. x))) (Iff·symm (every-part p (g .well-formed) (g .node) kn f k s)))
+        (λ s. says-map (Iff·trans (every-child (g .listed) (λ c hc. (λ x. x, λ x. x)))
+        (Iff·symm (every-part p (g .well-formed) (g .node) kn f k s)))
         (j .every k (omega arith) s f l))
         (λ ns. let s : firstOf covered ≤ indexOf k = omega (arith, ns) in
-        says-map (Iff·trans (some-child (g .listed) (λ c hc. (λ x. x, λ x. x))) (Iff·symm (some-part p (g .well-formed) (g .node) kn f k s)))
+        says-map (Iff·trans (some-child (g .listed) (λ c hc. (λ x. x, λ x. x)))
+        (Iff·symm (some-part p (g .well-formed) (g .node) kn f k s)))
         (j .some k (inr s) f l));
   }

@@ -10,7 +10,8 @@ use Rattle.runs.specs.Plan.{all-of, any-of, Plan, Child, Before, Unordered}
 use Rattle.runs.specs.Summary.{MayClobber, Silent, MustClobber}
 use Rattle.marks_row.specs.declared.Segment.{Segment}
 use Rattle.marks_row.specs.Tables.{RepresentsOrder}
-use Rattle.marks_row.specs.Columns.{Column, avoid, quiet, covered, may-pre, may-post, may-inc, requires, asserts, may-clobber, must-inc, must-clobber}
+use Rattle.marks_row.specs.Columns.{Column, avoid, quiet, covered, may-pre, may-post, may-inc, requires, asserts}
+use Rattle.marks_row.specs.Columns.{may-clobber, must-inc, must-clobber}
 use Rattle.marks_row.specs.Columns.{indexOf, Fact, wordAt, Row}
 use Rattle.marks_row.specs.Segments.{Every, Some}
 use Rattle.marks_siblings.specs.Group.{Group}
@@ -48,14 +49,17 @@ Within p n f (must-clobber v) = (c : ℕ) × Child p n c × (MustClobber p f v c
 pub record WithinRow (p : Plan) (n : ℕ) (w : List ℕ) : Type 0 where
   pub says : (k : Column) (f : ℕ) → f < 64 → Says (getD w (indexOf k) 0) f (Within p n f k)
 
--- for every plan and node n of which the segment has the children: the words of the any-of group n; of the all-of group n, by its children one by one
+-- for every plan and node n of which the segment has the children: the words of the any-of group n; of the all-of group
+-- n, by its children one by one
 abbrev pub AnyRow : List ℕ → Segment → List ℕ → List ℕ → Type 0
 AnyRow kids segment rows r = (p : Plan) (n : ℕ) → Group kids segment rows p n → p .tree .kind n ≡ any-of → Row p n r
 
 abbrev pub AllRow : List ℕ → Segment → List ℕ → List ℕ → List ℕ → Type 0
-AllRow kids segment order rows r = (p : Plan) (n : ℕ) → Group kids segment rows p n → RepresentsOrder order p → p .tree .kind n ≡ all-of → WithinRow p n r
+AllRow kids segment order rows r = (p : Plan) (n : ℕ) → Group kids segment rows p n → RepresentsOrder order p
+    → p .tree .kind n ≡ all-of → WithinRow p n r
 
--- r is the word x and that of a child, y, in column k: from first to last both, in the others one or, under the mask, the other
+-- r is the word x and that of a child, y, in column k: from first to last both, in the others one or, under the mask,
+-- the other
 pub record JoinedWord (first last k x y mask r : ℕ) : Type 0 where
   pub every : first ≤ k → k < last → r ≡ bitAnd x y
   pub some : (k < first) ⊎ (last ≤ k) → r ≡ bitOr x (bitAnd y mask)
@@ -69,9 +73,12 @@ pub record Unmerged (first last : ℕ) (r : List ℕ) : Type 0 where
   pub every : (k : ℕ) → k < 21 → first ≤ k → k < last → getD r k 0 ≡ ones
   pub some : (k : ℕ) → k < 21 → (k < first) ⊎ (last ≤ k) → getD r k 0 ≡ 0
 
--- the words r say of the children at the positions from low to high: in the columns from first to last that every one has P, in the others that some one
+-- the words r say of the children at the positions from low to high: in the columns from first to last that every one
+-- has P, in the others that some one
 -- has P and M
-pub record Joined (first last : ℕ) (kids : List ℕ) (low high : ℕ) (P M : Column → ℕ → ℕ → Type 0) (r : List ℕ) : Type 0 where
-  pub every : (k : Column) → first ≤ indexOf k → indexOf k < last → (f : ℕ) → f < 64 → Says (getD r (indexOf k) 0) f (Every kids low high (P k f))
+pub record Joined (first last : ℕ) (kids : List ℕ) (low high : ℕ) (P M : Column → ℕ → ℕ → Type 0)
+    (r : List ℕ) : Type 0 where
+  pub every : (k : Column) → first ≤ indexOf k → indexOf k < last → (f : ℕ) → f < 64
+      → Says (getD r (indexOf k) 0) f (Every kids low high (P k f))
   pub some : (k : Column) → (indexOf k < first) ⊎ (last ≤ indexOf k) → (f : ℕ) → f < 64
       → Says (getD r (indexOf k) 0) f (Some kids low high (λ c. P k f c × M k f c))

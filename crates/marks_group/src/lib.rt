@@ -1,4 +1,5 @@
-// The row of an any-of group from the rows of its children; that of an all-of group but for the pairs of children that clobber.
+// The row of an any-of group from the rows of its children; that of an all-of group but for the pairs of children that
+// clobber.
 ghost use Prim.Native.Nat.{_≤_, _<_};
 ghost use Rattle.marks_row.specs.Columns.{RowIs};
 ghost use Rattle.marks_row.specs.Segments.{AtSegment};
@@ -58,7 +59,8 @@ fn start_words(first: usize, last: usize) -> [u64; 21]
     out
 }
 
-// The word of one child more in column k: from first to last, both have it; in the others, one of them does, the child under the mask.
+// The word of one child more in column k: from first to last, both have it; in the others, one of them does, the child
+// under the mask.
 fn joined(first: usize, last: usize, k: usize, word: u64, child: u64, mask: u64) -> u64
     ensures { λ r. ⌜ JoinedWord first last k word child mask r ⌝ }
 {

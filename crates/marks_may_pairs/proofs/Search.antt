@@ -30,7 +30,8 @@ word-zero r e true = (or-zero (r .clear) (r .set) e) .1
 next : {segment : Segment} {i : ℕ} → Position segment i → Reached segment (i + 1)
 next at = record { low = omega (arith, at .low); high = omega (arith, at .high) }
 
-module _ {kids : List ℕ} {segment : Segment} {order rows : List ℕ} {wanted : Literals} {i j : ℕ} (s : Stands kids segment order rows wanted i j) where
+module _ {kids : List ℕ} {segment : Segment} {order rows : List ℕ} {wanted : Literals} {i j : ℕ}
+    (s : Stands kids segment order rows wanted i j) where
   -- the pairs with c that are passed over clobber no wanted literal
   pub goes-on : {k c : ℕ} → Position segment i → c ≡ getD kids i 0 → NextPartner rows wanted c j (segment .end) k
       → Stands kids segment order rows wanted i k
@@ -42,12 +43,14 @@ module _ {kids : List ℕ} {segment : Segment} {order rows : List ℕ} {wanted :
     here = λ p n g. rw e at (none p n g);
   }
     where
-      required : (p : Plan) (n : ℕ) → Pairing kids segment order rows p n → (v : Bool) (f : ℕ) → f < 64 → {d : ℕ} → Pair p n f v c d
+      required : (p : Plan) (n : ℕ) → Pairing kids segment order rows p n → (v : Bool) (f : ℕ) → f < 64 → {d : ℕ}
+          → Pair p n f v c d
           → T (bit (wordAt rows c (indexOf (requires v))) f) ⊎ T (bit (wordAt rows c (indexOf (may-pre v))) f)
       required p n g v f l (inl x) = inl ((cell (g .group .children c (kid g e at)) l (requires v)) .1 (x .1 .0))
       required p n g v f l (inr x) = inr ((cell (g .group .children c (kid g e at)) l (may-pre v)) .1 (x .1 .0 .1))
 
-      none : (p : Plan) (n : ℕ) → Pairing kids segment order rows p n → Every kids (segment .start) k (NoClobber p n wanted c)
+      none : (p : Plan) (n : ℕ) → Pairing kids segment order rows p n
+          → Every kids (segment .start) k (NoClobber p n wanted c)
       none p n g = record { each = λ x y z v f l t q. h .1 .none v f l t (required p n g v f l q) }
 
   module _ {c : ℕ} {r : Literals} (at : Position segment i) (to : Position segment j) (e : c ≡ getD kids i 0)
@@ -63,16 +66,22 @@ module _ {kids : List ℕ} {segment : Segment} {order rows : List ℕ} {wanted :
       );
     }
 
-    pub pair-found : bitOr (r .clear) (r .set) ≢ 0 → Search kids segment order rows wanted (record { literals = r; child = i; partner = j })
+    pub pair-found : bitOr (r .clear) (r .set) ≢ 0
+        → Search kids segment order rows wanted (record { literals = r; child = i; partner = j })
     pair-found ne = record {
       among = w .among;
-      sound = λ p n g v f l t. (_, kid g e at, (_, kid g refl to, (w .says p n g (kid g e at) (kid g refl to) v f l .to t) .1));
+      sound = λ p n g v f l t. (
+        _,
+        kid g e at,
+        (_, kid g refl to, (w .says p n g (kid g e at) (kid g refl to) v f l .to t) .1),
+      );
       stands = s;
       ended = λ z. absurd (ne z);
     }
 
   -- all partners of the child at i are passed: on to the next child, and the first partner
-  pub child-passed : Position segment i → j ≡ segment .end → Stands kids segment order rows wanted (i + 1) (segment .start)
+  pub child-passed : Position segment i → j ≡ segment .end
+      → Stands kids segment order rows wanted (i + 1) (segment .start)
   child-passed at z = record {
     child = next at;
     partner = record { low = omega arith; high = omega (arith, at .low, at .high) };

@@ -22,18 +22,23 @@ NoClobber p n wanted c d = (v : Bool) (f : ℕ) → f < 64 → T (bit (signWord 
 abbrev pub Unclobbered : Plan → ℕ → Literals → ℕ → Type 0
 Unclobbered p n wanted c = (d : ℕ) → Child p n d → NoClobber p n wanted c d
 
--- The search stands at the child at position i and the partner at position j: no pair that it has passed clobbers a wanted literal. These are the pairs of the
+-- The search stands at the child at position i and the partner at position j: no pair that it has passed clobbers a
+-- wanted literal. These are the pairs of the
 -- children before i, and those of the child at i with a partner before j.
 pub record Stands (kids : List ℕ) (segment : Segment) (order rows : List ℕ) (wanted : Literals) (i j : ℕ) : Type 0 where
   pub child : Reached segment i
   pub partner : Reached segment j
   pub before : OfGroups kids segment order rows (λ p n. Every kids (segment .start) i (Unclobbered p n wanted))
-  pub here : OfGroups kids segment order rows (λ p n. Every kids (segment .start) j (NoClobber p n wanted (getD kids i 0)))
+  pub here : OfGroups kids segment order rows
+      (λ p n. Every kids (segment .start) j (NoClobber p n wanted (getD kids i 0)))
 
--- What a search answers: wanted literals that some pair clobbers, and where it stands; with no literal it has passed all.
-pub record Search (kids : List ℕ) (segment : Segment) (order rows : List ℕ) (wanted : Literals) (r : Found) : Type 0 where
+-- What a search answers: wanted literals that some pair clobbers, and where it stands; with no literal it has passed
+-- all.
+pub record Search (kids : List ℕ) (segment : Segment) (order rows : List ℕ) (wanted : Literals)
+    (r : Found) : Type 0 where
   pub among : (v : Bool) (f : ℕ) → f < 64 → T (bit (signWord (r .literals) v) f) → T (bit (signWord wanted v) f)
-  pub sound : OfGroups kids segment order rows (λ p n. (v : Bool) (f : ℕ) → f < 64 → T (bit (signWord (r .literals) v) f) → SomePair p n (Pair p n f v))
+  pub sound : OfGroups kids segment order rows
+      (λ p n. (v : Bool) (f : ℕ) → f < 64 → T (bit (signWord (r .literals) v) f) → SomePair p n (Pair p n f v))
   pub stands : Stands kids segment order rows wanted (r .child) (r .partner)
   pub ended : bitOr (r .literals .clear) (r .literals .set) ≡ 0 → r .child ≡ segment .end
 

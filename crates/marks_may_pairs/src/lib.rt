@@ -1,4 +1,5 @@
-// The pairs of children of an all-of group that may clobber a literal: a search that ends as soon as a pair is found, asked again for what is still wanted.
+// The pairs of children of an all-of group that may clobber a literal: a search that ends as soon as a pair is found,
+// asked again for what is still wanted.
 ghost use Rattle.marks_row.specs.Segments.{AtSegment};
 ghost use Rattle.marks_may_pairs.specs.Search.{Stands, Search, AllPairs};
 use base::wide;
@@ -7,14 +8,16 @@ use marks_pair::next_partner;
 use marks_pair::pair_words;
 use marks_row::Segment;
 
-// The literals of the pair at which a search stopped, and the positions of its two children; with no literal, the child is past them all.
+// The literals of the pair at which a search stopped, and the positions of its two children; with no literal, the child
+// is past them all.
 pub struct Found {
     pub literals: Literals,
     pub child: usize,
     pub partner: usize,
 }
 
-// Looks for a pair of children that clobbers a wanted literal, from the pair at two positions on; the search ends as soon as one is found.
+// Looks for a pair of children that clobbers a wanted literal, from the pair at two positions on; the search ends as
+// soon as one is found.
 pub fn clobbering_pair(
     kids: &[u8; 128],
     segment: Segment,
@@ -24,7 +27,8 @@ pub fn clobbering_pair(
     child: usize,
     partner: usize,
 ) -> Found
-    requires { ⌜ AtSegment (now kids) segment × Stands (now kids) segment (now order) (now rows) wanted child partner ⌝ }
+    requires { ⌜ AtSegment (now kids) segment
+        × Stands (now kids) segment (now order) (now rows) wanted child partner ⌝ }
     ensures { λ r. ⌜ Search (now (kids .entry)) segment (now (order .entry)) (now (rows .entry)) wanted r ⌝ }
 {
     let mut found = Literals { clear: 0, set: 0 };
@@ -51,7 +55,8 @@ pub fn clobbering_pair(
     }
 }
 
-// The wanted literals that some pair of children clobbers: the search is asked again for those still wanted, and goes on at the pair where it stood.
+// The wanted literals that some pair of children clobbers: the search is asked again for those still wanted, and goes
+// on at the pair where it stood.
 pub fn clobbering_pairs(
     kids: &[u8; 128],
     segment: Segment,

@@ -29,7 +29,8 @@ module _ {kids : List ℕ} {segment : Segment} {order rows : List ℕ} {s c d : 
     shared : OfGroups kids segment order rows (λ p n. Child p n c → Child p n d
         → SaysOf s (bitAnd x y) (λ f v. Must p d (ExternalPost p f (not v)) × Must p c (ExternalPre p f v)))
     shared p n g hc hd v e f l = let formed = g .group .well-formed in says-and {x = x} {y = y} refl
-        (ex _ formed (g .group .children d hd) (not v) (opposite v s e) f l) (ey _ formed (hc .node) (g .group .children c hc) v e f l)
+        (ex _ formed (g .group .children d hd) (not v) (opposite v s e) f l)
+        (ey _ formed (hc .node) (g .group .children c hc) v e f l)
 
     pub none-shared : bitAnd w (bitAnd x y) ≡ 0 → PairWord MustPair kids segment order rows s w c d 0
     none-shared = pass-none w (bitAnd x y) true q (λ p n b f v. (λ u. (b, u), λ u. u .1)) shared
@@ -43,18 +44,23 @@ module _ {kids : List ℕ} {segment : Segment} {order rows : List ℕ} {s c d : 
 
 module _ {p : Plan} {n c f : ℕ} {v : Bool} where
   -- no pair with c adds a flag, if c must not require one that is not yet known
-  pub none-new : {known pre : ℕ} → f < 64 → bitAnd (bitXor known ones) pre ≡ 0 → Says pre f (Must p c (ExternalPre p f v))
+  pub none-new : {known pre : ℕ} → f < 64 → bitAnd (bitXor known ones) pre ≡ 0
+      → Says pre f (Must p c (ExternalPre p f v))
       → Says known f (T (bit known f) ⊎ ((d : ℕ) × Child p n d × MustPair p n f v c d))
   none-new {known} {pre} l e s = record { to = inl; from = back (says-dec (says-self known f)) }
     where
       back : Dec (T (bit known f)) → T (bit known f) ⊎ ((d : ℕ) × Child p n d × MustPair p n f v c d) → T (bit known f)
       back (yes t) x = t
       back (no k) (inl t) = t
-      back (no k) (inr x) = absurd (no-flag _ f e (says-and {x = bitXor known ones} {y = pre} refl (says-not {x = known} l refl (says-self known f)) s .from (k, x .2 .1 .0 .1)))
+      back (no k) (inr x) = absurd (no-flag _ f e
+          (says-and {x = bitXor known ones} {y = pre} refl (says-not {x = known} l refl (says-self known f)) s .from
+          (k, x .2 .1 .0 .1)))
 
 -- a pair looked at for the flags not yet known: `flags | word`
-pub added : (flags word : ℕ) {r f : ℕ} {Q : Type 0} → f < 64 → r ≡ bitOr flags word → Says word f (T (bit (bitXor flags ones) f) × Q) → Says r f (T (bit flags f) ⊎ Q)
-added flags word {r} {f} {Q} l e s = says-map (to, back (says-dec (says-self flags f))) (says-or e (says-self flags f) s)
+pub added : (flags word : ℕ) {r f : ℕ} {Q : Type 0} → f < 64 → r ≡ bitOr flags word
+    → Says word f (T (bit (bitXor flags ones) f) × Q) → Says r f (T (bit flags f) ⊎ Q)
+added flags word {r} {f} {Q} l e s =
+    says-map (to, back (says-dec (says-self flags f))) (says-or e (says-self flags f) s)
   where
     to : T (bit flags f) ⊎ (T (bit (bitXor flags ones) f) × Q) → T (bit flags f) ⊎ Q
     to (inl t) = inl t
@@ -74,7 +80,8 @@ module _ {kids : List ℕ} {low f : ℕ} {Q : ℕ → Type 0} where
       at (inl t) = t
       at (inr x) = absurd (omega (arith, x .from-low, x .to-high))
 
-  pub child-more : {flags r i : ℕ} {K : Type 0} → low ≤ i → Says flags f (K ⊎ Some kids low i Q) → Says r f (T (bit flags f) ⊎ Q (getD kids i 0))
+  pub child-more : {flags r i : ℕ} {K : Type 0} → low ≤ i → Says flags f (K ⊎ Some kids low i Q)
+      → Says r f (T (bit flags f) ⊎ Q (getD kids i 0))
       → Says r f (K ⊎ Some kids low (i + 1) Q)
   child-more {flags} {r} {i} {K} a h m = says-map (to, back) m
     where
@@ -94,7 +101,8 @@ module _ {kids : List ℕ} {low f : ℕ} {Q : ℕ → Type 0} where
       back (inl k) = inl (h .from (inl k))
       back (inr s) = at ((some-next a) .1 s)
 
-pub all-more : {kids : List ℕ} {segment : Segment} {order rows : List ℕ} {p : Plan} {n : ℕ} → Pairing kids segment order rows p n → {w f : ℕ} {K : Type 0} {Q : ℕ → Type 0}
+pub all-more : {kids : List ℕ} {segment : Segment} {order rows : List ℕ} {p : Plan} {n : ℕ}
+    → Pairing kids segment order rows p n → {w f : ℕ} {K : Type 0} {Q : ℕ → Type 0}
     → Says w f (K ⊎ Some kids (segment .start) (segment .end) Q) → Says w f (K ⊎ ((c : ℕ) × Child p n c × Q c))
 all-more {kids} {segment} {p = p} {n = n} g {K = K} {Q = Q} s = says-map (to, back) s
   where

@@ -1,4 +1,5 @@
-// Rule (b) of must clobber: the pairs of children of an all-of group that clobber a literal in every completed execution; for all flags at once.
+// Rule (b) of must clobber: the pairs of children of an all-of group that clobber a literal in every completed
+// execution; for all flags at once.
 ghost use Prim.Native.Nat.{_<_};
 ghost use lib.ListN.{getD};
 ghost use Rattle.marks_row.specs.Segments.{AtSegment, AtPair};
@@ -24,7 +25,8 @@ fn must_pair_word(
     j: usize,
 ) -> u64
     requires { ⌜ AtPair (now kids) segment c j × (sign < 2) ⌝ }
-    ensures { λ r. ⌜ PairWord MustPair (now (kids .entry)) segment (now (order .entry)) (now (rows .entry)) sign wanted c (getD (now (kids .entry)) j 0) r ⌝ }
+    ensures { λ r. ⌜ PairWord MustPair (now (kids .entry)) segment (now (order .entry))
+        (now (rows .entry)) sign wanted c (getD (now (kids .entry)) j 0) r ⌝ }
 {
     let d = wide(kids[j]);
     if order[d * 128 + c] == BEFORE {
@@ -37,7 +39,8 @@ fn must_pair_word(
     0
 }
 
-// The flags already known, and those that a pair with the child c must clobber: only those that c requires in every completed execution.
+// The flags already known, and those that a pair with the child c must clobber: only those that c requires in every
+// completed execution.
 fn must_pairs_of(
     kids: &[u8; 128],
     segment: Segment,
@@ -48,7 +51,8 @@ fn must_pairs_of(
     c: usize,
 ) -> u64
     requires { ⌜ AtSegment (now kids) segment × ((sign < 2) × (c < 128)) ⌝ }
-    ensures { λ r. ⌜ WithChildWord (now (kids .entry)) segment (now (order .entry)) (now (rows .entry)) sign known c r ⌝ }
+    ensures { λ r. ⌜ WithChildWord (now (kids .entry)) segment (now (order .entry))
+        (now (rows .entry)) sign known c r ⌝ }
 {
     if (known ^ ALL) & must_pre(rows, c, sign) == 0 {
         return known;

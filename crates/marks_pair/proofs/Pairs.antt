@@ -27,7 +27,8 @@ use Rattle.marks_pair.specs.Pairs.{Pair, signWord, PairWords, NoneRequir
 
 -- which of the two rules a pair meets, by its order
 module _ {p : Plan} {n c d f : ℕ} {v : Bool} where
-  passed-pair : Before p d c → ((Fact p d f (may-post (not v)) × Fact p c f (may-pre v)) × Between p n f c d) ↔ Pair p n f v c d
+  passed-pair : Before p d c → ((Fact p d f (may-post (not v)) × Fact p c f (may-pre v)) × Between p n f c d)
+      ↔ Pair p n f v c d
   passed-pair q = (λ x. inr (q, x), at)
     where
       at : Pair p n f v c d → (Fact p d f (may-post (not v)) × Fact p c f (may-pre v)) × Between p n f c d
@@ -48,46 +49,58 @@ module _ {p : Plan} {n c d f : ℕ} {v : Bool} where
 -- a word for each place where `pair_word` returns
 module _ {kids : List ℕ} {segment : Segment} {order rows : List ℕ} {s c d : ℕ} (w x y : ℕ) where
   -- d stands before c: what d may leave, and c may require
-  module _ (q : code order d c ≡ 1) (ex : x ≡ wordAt rows d (firstOf may-post + (1 - s))) (ey : y ≡ wordAt rows c (firstOf may-pre + s)) where
+  module _ (q : code order d c ≡ 1) (ex : x ≡ wordAt rows d (firstOf may-post + (1 - s)))
+      (ey : y ≡ wordAt rows c (firstOf may-pre + s)) where
     shared : OfGroups kids segment order rows (λ p n. Child p n c → Child p n d
         → SaysOf s (bitAnd x y) (λ f v. Fact p d f (may-post (not v)) × Fact p c f (may-pre v)))
     shared p n g hc hd v e f l = says-and {x = x} {y = y} refl
-        (read (g .group .children d hd) (may-post (not v)) (firstOf may-post + (1 - s)) x f (omega (arith, opposite v s e)) ex l)
+        (read (g .group .children d hd) (may-post (not v)) (firstOf may-post + (1 - s)) x f
+        (omega (arith, opposite v s e)) ex l)
         (read (g .group .children c hc) (may-pre v) (firstOf may-pre + s) y f (omega (arith, e)) ey l)
 
     pub none-shared : bitAnd w (bitAnd x y) ≡ 0 → PairWord Pair kids segment order rows s w c d 0
     none-shared = pass-none w (bitAnd x y) false q (λ p n b f v. passed-pair b) shared
 
-    pub shared-passes : {r : ℕ} → PassingWord kids segment order rows false (bitAnd w (bitAnd x y)) c d r → PairWord Pair kids segment order rows s w c d r
+    pub shared-passes : {r : ℕ} → PassingWord kids segment order rows false (bitAnd w (bitAnd x y)) c d r
+        → PairWord Pair kids segment order rows s w c d r
     shared-passes = pass-some w (bitAnd x y) false q (λ p n b f v. passed-pair b) shared
 
   -- c and d are unordered
-  pub apart-both : Apart order c d → x ≡ wordAt rows c (firstOf requires + s) → y ≡ wordAt rows d (firstOf asserts + (1 - s))
+  pub apart-both : Apart order c d → x ≡ wordAt rows c (firstOf requires + s)
+      → y ≡ wordAt rows d (firstOf asserts + (1 - s))
       → PairWord Pair kids segment order rows s w c d (bitAnd w (bitAnd x y))
-  apart-both u ex ey = pair-of w (bitAnd x y) (λ p n g hc hd v e f l. says-map (apart-pair ((apart-is (g .orders) hc hd) .0 u)) (says-and {x = x} {y = y} refl
+  apart-both u ex ey = pair-of w (bitAnd x y)
+      (λ p n g hc hd v e f l. says-map (apart-pair ((apart-is (g .orders) hc hd) .0 u)) (says-and {x = x} {y = y} refl
       (read (g .group .children c hc) (requires v) (firstOf requires + s) x f (omega (arith, e)) ex l)
-      (read (g .group .children d hd) (asserts (not v)) (firstOf asserts + (1 - s)) y f (omega (arith, opposite v s e)) ey l)))
+      (read (g .group .children d hd) (asserts (not v)) (firstOf asserts + (1 - s)) y f
+      (omega (arith, opposite v s e)) ey l)))
 
-pub neither-rule : {kids : List ℕ} {segment : Segment} {order rows : List ℕ} {s c d : ℕ} (w : ℕ) → ¬ (code order d c ≡ 1) → ¬ Apart order c d
+pub neither-rule : {kids : List ℕ} {segment : Segment} {order rows : List ℕ} {s c d : ℕ} (w : ℕ)
+    → ¬ (code order d c ≡ 1) → ¬ Apart order c d
     → PairWord Pair kids segment order rows s w c d 0
-neither-rule w k u = no-pair w (λ p n g hc hd f v. unpaired (λ z. k ((g .orders .before _ _ (hd .node) (hc .node)) .1 z)) (λ z. u ((apart-is (g .orders) hc hd) .1 z)))
+neither-rule w k u = no-pair w (λ p n g hc hd f v. unpaired
+    (λ z. k ((g .orders .before _ _ (hd .node) (hc .node)) .1 z)) (λ z. u ((apart-is (g .orders) hc hd) .1 z)))
 
 -- both signs of a pair
-pub pair-words : {kids : List ℕ} {segment : Segment} {order rows : List ℕ} {c d : ℕ} {wanted r : Literals} → PairWord Pair kids segment order rows 0 (wanted .clear) c d (r .clear)
-    → PairWord Pair kids segment order rows 1 (wanted .set) c d (r .set) → PairWords kids segment order rows wanted c d r
+pub pair-words : {kids : List ℕ} {segment : Segment} {order rows : List ℕ} {c d : ℕ} {wanted r : Literals}
+    → PairWord Pair kids segment order rows 0 (wanted .clear) c d (r .clear)
+    → PairWord Pair kids segment order rows 1 (wanted .set) c d (r .set)
+    → PairWords kids segment order rows wanted c d r
 pair-words {kids} {segment} {order} {rows} {c} {d} {wanted} {r} a b = record { among = among; says = says }
   where
     among : (v : Bool) (f : ℕ) → f < 64 → T (bit (signWord r v) f) → T (bit (signWord wanted v) f)
     among false = a .among
     among true = b .among
 
-    says : (p : Plan) (n : ℕ) → Pairing kids segment order rows p n → Child p n c → Child p n d → (v : Bool) (f : ℕ) → f < 64
+    says : (p : Plan) (n : ℕ) → Pairing kids segment order rows p n → Child p n c → Child p n d → (v : Bool) (f : ℕ)
+        → f < 64
         → Says (signWord r v) f (T (bit (signWord wanted v) f) × Pair p n f v c d)
     says p n g hc hd false f l = a .says p n g hc hd false refl f l
     says p n g hc hd true f l = b .says p n g hc hd true refl f l
 
 -- 01's rule by pairs: a child has it, or some pair
-pub by-pairs : (p : Plan) (n f : ℕ) (v : Bool) → ClobberByPairs p f v n ↔ (((c : ℕ) × Child p n c × MayClobber p f v c) ⊎ SomePair p n (Pair p n f v))
+pub by-pairs : (p : Plan) (n f : ℕ) (v : Bool)
+    → ClobberByPairs p f v n ↔ (((c : ℕ) × Child p n c × MayClobber p f v c) ⊎ SomePair p n (Pair p n f v))
 by-pairs p n f v = (to, back)
   where
     to : ClobberByPairs p f v n → ((c : ℕ) × Child p n c × MayClobber p f v c) ⊎ SomePair p n (Pair p n f v)
@@ -104,17 +117,20 @@ by-pairs p n f v = (to, back)
     back (inr x) = pair (x .0) (x .1) (x .2 .0) (x .2 .1) (x .2 .2)
 
 -- c requires no wanted literal
-pub none-required : (rows : List ℕ) (wanted : Literals) (c a b x y : ℕ) → a ≡ wordAt rows c 11 → b ≡ wordAt rows c 5 → x ≡ wordAt rows c 12 → y ≡ wordAt rows c 6
+pub none-required : (rows : List ℕ) (wanted : Literals) (c a b x y : ℕ) → a ≡ wordAt rows c 11 → b ≡ wordAt rows c 5
+    → x ≡ wordAt rows c 12 → y ≡ wordAt rows c 6
     → bitOr (bitAnd (wanted .clear) (bitOr a b)) (bitAnd (wanted .set) (bitOr x y)) ≡ 0 → NoneRequired rows wanted c
 none-required rows wanted c a b x y ea eb ex ey e = record { none = λ v f l. at v f }
   where
     none : (w s t : ℕ) → bitAnd w (bitOr s t) ≡ 0 → (f : ℕ) → T (bit w f) → ¬ (T (bit s f) ⊎ T (bit t f))
     none w s t q f h z = no-flag (bitAnd w (bitOr s t)) f q
-        (says-and {x = w} {y = bitOr s t} refl (says-self w f) (says-or {x = s} {y = t} refl (says-self s f) (says-self t f)) .from (h, z))
+        (says-and {x = w} {y = bitOr s t} refl (says-self w f)
+        (says-or {x = s} {y = t} refl (says-self s f) (says-self t f)) .from (h, z))
 
     both : (bitAnd (wanted .clear) (bitOr a b) ≡ 0) × (bitAnd (wanted .set) (bitOr x y) ≡ 0)
     both = or-zero (bitAnd (wanted .clear) (bitOr a b)) (bitAnd (wanted .set) (bitOr x y)) e
 
-    at : (v : Bool) (f : ℕ) → T (bit (signWord wanted v) f) → ¬ (T (bit (wordAt rows c (indexOf (requires v))) f) ⊎ T (bit (wordAt rows c (indexOf (may-pre v))) f))
+    at : (v : Bool) (f : ℕ) → T (bit (signWord wanted v) f)
+        → ¬ (T (bit (wordAt rows c (indexOf (requires v))) f) ⊎ T (bit (wordAt rows c (indexOf (may-pre v))) f))
     at false f = rw (ea, eb) at (none (wanted .clear) a b (both .0) f)
     at true f = rw (ex, ey) at (none (wanted .set) x y (both .1) f)

@@ -23,7 +23,8 @@ signWord w false = w .clear
 signWord w true = w .set
 
 -- the wanted literals that the pair c, d of children clobbers
-pub record PairWords (kids : List ℕ) (segment : Segment) (order rows : List ℕ) (wanted : Literals) (c d : ℕ) (r : Literals) : Type 0 where
+pub record PairWords (kids : List ℕ) (segment : Segment) (order rows : List ℕ) (wanted : Literals) (c d : ℕ)
+    (r : Literals) : Type 0 where
   pub among : (v : Bool) (f : ℕ) → f < 64 → T (bit (signWord r v) f) → T (bit (signWord wanted v) f)
   pub says : OfGroups kids segment order rows (λ p n. Child p n c → Child p n d → (v : Bool) (f : ℕ) → f < 64
       → Says (signWord r v) f (T (bit (signWord wanted v) f) × Pair p n f v c d))

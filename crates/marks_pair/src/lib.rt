@@ -1,4 +1,5 @@
-// The literals that a pair of children of an all-of group may clobber: for all flags at once, from the rows of the children.
+// The literals that a pair of children of an all-of group may clobber: for all flags at once, from the rows of the
+// children.
 ghost use Prim.Native.Nat.{_<_};
 ghost use lib.ListN.{getD};
 ghost use Rattle.marks_row.specs.Segments.{AtPair};
@@ -33,7 +34,8 @@ fn pair_word(
     j: usize,
 ) -> u64
     requires { ⌜ AtPair (now kids) segment c j × (sign < 2) ⌝ }
-    ensures { λ r. ⌜ PairWord Pair (now (kids .entry)) segment (now (order .entry)) (now (rows .entry)) sign wanted c (getD (now (kids .entry)) j 0) r ⌝ }
+    ensures { λ r. ⌜ PairWord Pair (now (kids .entry)) segment (now (order .entry)) (now (rows .entry)) sign wanted c
+        (getD (now (kids .entry)) j 0) r ⌝ }
 {
     let d = wide(kids[j]);
     if order[d * 128 + c] == BEFORE {
@@ -62,7 +64,8 @@ pub fn pair_words(
     j: usize,
 ) -> Literals
     requires { ⌜ AtPair (now kids) segment c j ⌝ }
-    ensures { λ r. ⌜ PairWords (now (kids .entry)) segment (now (order .entry)) (now (rows .entry)) wanted c (getD (now (kids .entry)) j 0) r ⌝ }
+    ensures { λ r. ⌜ PairWords (now (kids .entry)) segment (now (order .entry)) (now (rows .entry)) wanted c
+        (getD (now (kids .entry)) j 0) r ⌝ }
 {
     let clear = pair_word(kids, segment, order, rows, 0, wanted.clear, c, j);
     let set = pair_word(kids, segment, order, rows, 1, wanted.set, c, j);

@@ -20,11 +20,17 @@ use Rattle.marks_row.proofs.Rows.{read}
 both-not : {A B : Type 0} → (¬ (A ⊎ B)) ↔ ((¬ A) × (¬ B))
 both-not = (λ k. (λ h. k (inl h), λ h. k (inr h)), λ k h. ⊎-elim (k .0) (k .1) h)
 
-module _ {p : Plan} (w : WellFormed p) {rows : List ℕ} {n : ℕ} (r : Right p rows n) (v : Bool) (s : ℕ) (e : s ≡ signNumber v) {z : ℕ} (f : ℕ) (l : f < 64) where
-  pub must-pre-says : Node p n → z ≡ bitXor (bitOr (wordAt rows n (1 + s)) (wordAt rows n (3 + s))) ones → Says z f (Must p n (ExternalPre p f v))
-  must-pre-says m q = says-map (Iff·trans both-not (Iff·symm (must-pre-is p w f v m))) (says-neither {x = wordAt rows n (1 + s)} {y = wordAt rows n (3 + s)} l q
-      (read r (quiet v) (1 + s) _ f (omega (arith, e)) refl l) (read r (covered v) (3 + s) _ f (omega (arith, e)) refl l))
+module _ {p : Plan} (w : WellFormed p) {rows : List ℕ} {n : ℕ} (r : Right p rows n) (v : Bool) (s : ℕ)
+    (e : s ≡ signNumber v) {z : ℕ} (f : ℕ) (l : f < 64) where
+  pub must-pre-says : Node p n → z ≡ bitXor (bitOr (wordAt rows n (1 + s)) (wordAt rows n (3 + s))) ones
+      → Says z f (Must p n (ExternalPre p f v))
+  must-pre-says m q = says-map (Iff·trans both-not (Iff·symm (must-pre-is p w f v m)))
+      (says-neither {x = wordAt rows n (1 + s)} {y = wordAt rows n (3 + s)} l q
+      (read r (quiet v) (1 + s) _ f (omega (arith, e)) refl l)
+      (read r (covered v) (3 + s) _ f (omega (arith, e)) refl l))
 
-  pub must-post-says : z ≡ bitXor (bitOr (wordAt rows n 0) (wordAt rows n (7 + (1 - s)))) ones → Says z f (Must p n (ExternalPost p f v))
-  must-post-says q = says-map (Iff·trans both-not (Iff·symm (must-post-is p f v))) (says-neither {x = wordAt rows n 0} {y = wordAt rows n (7 + (1 - s))} l q
+  pub must-post-says : z ≡ bitXor (bitOr (wordAt rows n 0) (wordAt rows n (7 + (1 - s)))) ones
+      → Says z f (Must p n (ExternalPost p f v))
+  must-post-says q = says-map (Iff·trans both-not (Iff·symm (must-post-is p f v)))
+      (says-neither {x = wordAt rows n 0} {y = wordAt rows n (7 + (1 - s))} l q
       (r .says avoid f l) (read r (may-post (not v)) (7 + (1 - s)) _ f (omega (arith, opposite v s e)) refl l))

@@ -12,28 +12,34 @@ use lib.Dec.{T}
 use Rattle.base.specs.Bits.{bit, Says}
 use Rattle.base.proofs.Says.{says-eq}
 use Rattle.runs.specs.Plan.{Plan}
-use Rattle.marks_row.specs.Columns.{Column, avoid, quiet, covered, may-pre, may-post, may-inc, requires, asserts, may-clobber, must-inc, must-clobber}
+use Rattle.marks_row.specs.Columns.{Column, avoid, quiet, covered, may-pre, may-post, may-inc, requires, asserts}
+use Rattle.marks_row.specs.Columns.{may-clobber, must-inc, must-clobber}
 use Rattle.marks_row.specs.Columns.{indexOf, Fact, wordAt, Right, Row, RowIs, Written}
 use Rattle.runs.proofs.Plan.Numbers.{sign-small}
 
 -- an array filled from the front: what holds of each word written holds of one more
-pub filled : (P : ℕ → ℕ → Type 0) (out : List ℕ) (k x : ℕ) → k < length out → P k x → ((j : ℕ) → j < k → P j (getD out j 0))
+pub filled : (P : ℕ → ℕ → Type 0) (out : List ℕ) (k x : ℕ) → k < length out → P k x
+    → ((j : ℕ) → j < k → P j (getD out j 0))
     → (j : ℕ) → j < k + 1 → P j (getD (set out k x) j 0)
 filled P out k x l p h j m = by-cases (ℕ-discrete j k) (λ e. rw (e, getD-set-same out k x 0 l) p)
     (λ ne. rw (getD-set-other out k j x 0 ne) (h j (omega arith)))
 
 -- one word more of the row of a node: those written stand, and so do all other rows
-pub row-here : (rows words : List ℕ) (node k : ℕ) → node < 128 → k < 21 → length rows ≡ 2688 → ((j : ℕ) → j < k → wordAt rows node j ≡ getD words j 0)
+pub row-here : (rows words : List ℕ) (node k : ℕ) → node < 128 → k < 21 → length rows ≡ 2688
+    → ((j : ℕ) → j < k → wordAt rows node j ≡ getD words j 0)
     → (j : ℕ) → j < k + 1 → wordAt (set rows (node * 21 + k) (getD words k 0)) node j ≡ getD words j 0
 row-here rows words node k l m e h j i =
     by-cases (ℕ-discrete j k)
     (λ q. rw q (getD-set-same rows (node * 21 + k) (getD words k 0) 0 (omega arith)))
-    (λ q. getD-set-other rows (node * 21 + k) (node * 21 + j) (getD words k 0) 0 (λ (z : node * 21 + j ≡ node * 21 + k). q (omega arith)) ∙ h j (omega arith))
+    (λ q. getD-set-other rows (node * 21 + k) (node * 21 + j) (getD words k 0) 0
+    (λ (z : node * 21 + j ≡ node * 21 + k). q (omega arith)) ∙ h j (omega arith))
 
-pub row-there : (rows rows₀ words : List ℕ) (node k : ℕ) → k < 21 → ((c j : ℕ) → j < 21 → (c ≡ node → ⊥) → wordAt rows c j ≡ wordAt rows₀ c j)
+pub row-there : (rows rows₀ words : List ℕ) (node k : ℕ) → k < 21
+    → ((c j : ℕ) → j < 21 → (c ≡ node → ⊥) → wordAt rows c j ≡ wordAt rows₀ c j)
     → (c j : ℕ) → j < 21 → (c ≡ node → ⊥) → wordAt (set rows (node * 21 + k) (getD words k 0)) c j ≡ wordAt rows₀ c j
 row-there rows rows₀ words node k m h c j i q =
-    getD-set-other rows (node * 21 + k) (c * 21 + j) (getD words k 0) 0 (λ (z : c * 21 + j ≡ node * 21 + k). q (omega arith)) ∙ h c j i q
+    getD-set-other rows (node * 21 + k) (c * 21 + j) (getD words k 0) 0
+    (λ (z : c * 21 + j ≡ node * 21 + k). q (omega arith)) ∙ h c j i q
 
 pub index-small : (k : Column) → indexOf k < 21
 index-small avoid = omega arith
@@ -54,7 +60,8 @@ rowOf w =
     w avoid ∷ w (quiet false) ∷ w (quiet true) ∷ w (covered false) ∷ w (covered true) ∷ w (may-pre false)
     ∷ w (may-pre true) ∷ w (may-post false) ∷ w (may-post true) ∷ w (may-inc false) ∷ w (may-inc true)
     ∷ w (requires false) ∷ w (requires true) ∷ w (asserts false) ∷ w (asserts true) ∷ w (may-clobber false)
-    ∷ w (may-clobber true) ∷ w (must-inc false) ∷ w (must-inc true) ∷ w (must-clobber false) ∷ w (must-clobber true) ∷ []
+    ∷ w (may-clobber true) ∷ w (must-inc false) ∷ w (must-inc true) ∷ w (must-clobber false) ∷ w
+    (must-clobber true) ∷ []
 
 pub row-of : (w : Column → ℕ) → RowIs w (rowOf w)
 row-of w = record { is = at }
@@ -90,11 +97,11 @@ module _ {p : Plan} {rows : List ℕ} {n : ℕ} (r : Right p rows n) where
   pub cell : {f : ℕ} → f < 64 → (k : Column) → T (bit (wordAt rows n (indexOf k)) f) ↔ Fact p n f k
   cell {f} l k = (r .says k f l .to, r .says k f l .from)
 
-module _ {p : Plan} {rows rows' : List ℕ} {n : ℕ} {w : List ℕ} (h : Written rows rows' n w) (r : Row p n w) where
-  pub written-right : Right p rows' n
+module _ {p : Plan} {rows rows′ : List ℕ} {n : ℕ} {w : List ℕ} (h : Written rows rows′ n w) (r : Row p n w) where
+  pub written-right : Right p rows′ n
   written-right = record { says = λ k f l. says-eq (h .here (indexOf k) (index-small k)) (r .says k f l) }
 
   -- what was right is right
-  pub written-keeps : (m : ℕ) → Right p rows m → Right p rows' m
+  pub written-keeps : (m : ℕ) → Right p rows m → Right p rows′ m
   written-keeps m x = by-cases (ℕ-discrete m n) (λ e. rw e written-right)
       (λ ne. record { says = λ k f l. says-eq (h .there m (indexOf k) (index-small k) ne) (x .says k f l) })

@@ -47,7 +47,8 @@ module _ (p : Plan) (w : WellFormed p) {n : ℕ} (k : p .tree .kind n ≡ task) 
     λ m. at (p .cond .sign post n f) refl ((may-task p w (λ h. lastAsserted p h f ≡ none) k) .0 m),
   )
     where
-      at : (o : Option Bool) → p .cond .sign post n f ≡ o → lastAsserted p (whole n) f ≡ none → p .cond .sign post n f ≡ none
+      at : (o : Option Bool) → p .cond .sign post n f ≡ o → lastAsserted p (whole n) f ≡ none
+          → p .cond .sign post n f ≡ none
       at none e x = e
       at (some u) e x = let y : some u ≡ none = rw e at x in clash cc
 
@@ -72,7 +73,8 @@ module _ (p : Plan) (w : WellFormed p) {n : ℕ} (k : p .tree .kind n ≡ task) 
         to x none e = inr ((x .1, e), (λ q. clash cc, x .0))
         to x (some u) e = inl (x .1, λ q. clash cc)
 
-        from : Covers p f v (start n) ⊎ (Neutral p f v (start n) × Covers p f v (finish n)) → (¬ (p .cond .sign post n f ≡ none)) × (¬ Has pre)
+        from : Covers p f v (start n) ⊎ (Neutral p f v (start n) × Covers p f v (finish n))
+            → (¬ (p .cond .sign post n f ≡ none)) × (¬ Has pre)
         from (inl x) = (λ q. x .1 (no-inc q), x .0)
         from (inr x) = (x .1 .1, x .0 .0)
 

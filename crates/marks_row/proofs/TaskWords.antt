@@ -14,11 +14,13 @@ use Rattle.runs.specs.Plan.{Place, pre, inc, post, Plan, placeNumber, signNumbe
 use Rattle.runs.proofs.Summary.Clobber.{clobber-task}
 use Rattle.runs.proofs.Summary.ReflectClobber.{must-clobber-task}
 use Rattle.marks_row.specs.declared.SignWords.{SignWords}
-use Rattle.marks_row.specs.Columns.{Column, avoid, quiet, covered, may-pre, may-post, may-inc, requires, asserts, may-clobber, must-inc, must-clobber}
+use Rattle.marks_row.specs.Columns.{Column, avoid, quiet, covered, may-pre, may-post, may-inc, requires, asserts}
+use Rattle.marks_row.specs.Columns.{may-clobber, must-inc, must-clobber}
 use Rattle.marks_row.specs.Columns.{Fact, Row}
 use Rattle.marks_row.specs.Tasks.{Task, WordsOfSign}
 use Rattle.marks_row.proofs.Rows.{rowOf, row-of}
-use Rattle.marks_row.proofs.Task.{no-sign, a-sign, avoid-task, quiet-is, covered-is, may-pre-is, may-post-is, may-inc-is, must-inc-is, with-is}
+use Rattle.marks_row.proofs.Task.{no-sign, a-sign, avoid-task, quiet-is, covered-is, may-pre-is, may-post-is}
+use Rattle.marks_row.proofs.Task.{may-inc-is, must-inc-is, with-is}
 
 -- the words of the two signs
 abbrev pub bySign : SignWords → SignWords → Bool → SignWords
@@ -41,17 +43,22 @@ taskWord x w (must-clobber v) = 0
 
 module _ {conds : List ℕ} {n : ℕ} {p : Plan} (t : Task conds n p) where
   -- a word read from the table of conditions
-  word : (k : Place) (v : Bool) (i x f : ℕ) → i ≡ 2 * placeNumber k + signNumber v → x ≡ getD conds (n * 6 + i) 0 → f < 64 → Says x f (p .cond .sign k n f ≡ some v)
-  word k v i x f e q l = says-eq (q ∙ ap (λ (j : ℕ). getD conds (n * 6 + j) 0) e) (t .conditions .says n (t .node) (t .is-task) k v f l)
+  word : (k : Place) (v : Bool) (i x f : ℕ) → i ≡ 2 * placeNumber k + signNumber v → x ≡ getD conds (n * 6 + i) 0
+      → f < 64 → Says x f (p .cond .sign k n f ≡ some v)
+  word k v i x f e q l = says-eq (q ∙ ap (λ (j : ℕ). getD conds (n * 6 + j) 0) e)
+      (t .conditions .says n (t .node) (t .is-task) k v f l)
 
   module _ (a b : ℕ) (qa : a ≡ getD conds (n * 6 + 4) 0) (qb : b ≡ getD conds (n * 6 + 5) 0) where
     asserted : (f : ℕ) → f < 64 → Says (bitOr a b) f (¬ (p .cond .sign post n f ≡ none))
-    asserted f l = says-map (a-sign _) (says-or {x = a} {y = b} refl (word post false 4 a f refl qa l) (word post true 5 b f refl qb l))
+    asserted f l = says-map (a-sign _)
+        (says-or {x = a} {y = b} refl (word post false 4 a f refl qa l) (word post true 5 b f refl qb l))
 
     silent : (f : ℕ) → f < 64 → Says (bitXor (bitOr a b) ones) f (p .cond .sign post n f ≡ none)
-    silent f l = says-map (no-sign _) (says-neither {x = a} {y = b} l refl (word post false 4 a f refl qa l) (word post true 5 b f refl qb l))
+    silent f l = says-map (no-sign _)
+        (says-neither {x = a} {y = b} l refl (word post false 4 a f refl qa l) (word post true 5 b f refl qb l))
 
-    pub sign-says : (v : Bool) (s x y z : ℕ) → s ≡ signNumber v → x ≡ getD conds (n * 6 + s) 0 → y ≡ getD conds (n * 6 + (2 + s)) 0
+    pub sign-says : (v : Bool) (s x y z : ℕ) → s ≡ signNumber v → x ≡ getD conds (n * 6 + s) 0
+        → y ≡ getD conds (n * 6 + (2 + s)) 0
         → z ≡ getD conds (n * 6 + (4 + s)) 0 → WordsOfSign p n v (record {
           quiet = bitXor (bitXor (bitOr a b) ones) (bitAnd (bitXor (bitOr a b) ones) x);
           covered = bitXor (bitOr a b) (bitAnd (bitOr a b) x);
@@ -62,13 +69,17 @@ module _ {conds : List ℕ} {n : ℕ} {p : Plan} (t : Task conds n p) where
           «inc_or_post» = bitOr y z;
         })
     sign-says v s x y z e qx qy qz = record {
-      quiet = λ f l. says-map (quiet-is p (t .well-formed) (t .is-task) f v) (says-less {x = bitXor (bitOr a b) ones} {y = x} refl (silent f l) (is-pre f l));
-      covered = λ f l. says-map (covered-is p (t .well-formed) (t .is-task) f v) (says-less {x = bitOr a b} {y = x} refl (asserted f l) (is-pre f l));
+      quiet = λ f l. says-map (quiet-is p (t .well-formed) (t .is-task) f v)
+          (says-less {x = bitXor (bitOr a b) ones} {y = x} refl (silent f l) (is-pre f l));
+      covered = λ f l. says-map (covered-is p (t .well-formed) (t .is-task) f v)
+          (says-less {x = bitOr a b} {y = x} refl (asserted f l) (is-pre f l));
       pre = λ f l. says-map (may-pre-is p (t .well-formed) (t .is-task) f v) (is-pre f l);
       post = λ f l. says-map (may-post-is p (t .well-formed) (t .is-task) f v) (is-post f l);
       inc = λ f l. says-map (may-inc-is p (t .well-formed) (t .is-task) f v) (is-inc f l);
-      pre-or-inc = λ f l. says-map (with-is p (t .well-formed) (t .is-task) f v pre inc) (says-or {x = x} {y = y} refl (is-pre f l) (is-inc f l));
-      inc-or-post = λ f l. says-map (with-is p (t .well-formed) (t .is-task) f v inc post) (says-or {x = y} {y = z} refl (is-inc f l) (is-post f l));
+      pre-or-inc = λ f l. says-map (with-is p (t .well-formed) (t .is-task) f v pre inc)
+          (says-or {x = x} {y = y} refl (is-pre f l) (is-inc f l));
+      inc-or-post = λ f l. says-map (with-is p (t .well-formed) (t .is-task) f v inc post)
+          (says-or {x = y} {y = z} refl (is-inc f l) (is-post f l));
     }
       where
         is-pre : (f : ℕ) → f < 64 → Says x f (p .cond .sign pre n f ≡ some v)
@@ -80,8 +91,12 @@ module _ {conds : List ℕ} {n : ℕ} {p : Plan} (t : Task conds n p) where
         is-post : (f : ℕ) → f < 64 → Says z f (p .cond .sign post n f ≡ some v)
         is-post f l = word post v (4 + s) z f (omega (arith, e)) qz l
 
-    pub task-row : (c d : SignWords) → WordsOfSign p n false c → WordsOfSign p n true d → Row p n (rowOf (taskWord (bitXor (bitOr a b) ones) (bySign c d)))
-    task-row c d x y = record { says = λ k f l. says-eq (row-of (taskWord (bitXor (bitOr a b) ones) (bySign c d)) .is k) (at k f l) }
+    pub task-row : (c d : SignWords) → WordsOfSign p n false c → WordsOfSign p n true d
+        → Row p n (rowOf (taskWord (bitXor (bitOr a b) ones) (bySign c d)))
+    task-row c d x y = record {
+      says =
+          λ k f l. says-eq (row-of (taskWord (bitXor (bitOr a b) ones) (bySign c d)) .is k) (at k f l);
+    }
       where
         both : (v : Bool) → WordsOfSign p n v (bySign c d v)
         both false = x
@@ -99,5 +114,6 @@ module _ {conds : List ℕ} {n : ℕ} {p : Plan} (t : Task conds n p) where
         at (may-clobber v) f l = says-none refl (clobber-task p (t .well-formed) f v (t .is-task))
         -- must incondition is may incondition
         at (must-inc v) f l = says-map
-            (Iff·trans (Iff·symm (may-inc-is p (t .well-formed) (t .is-task) f v)) (must-inc-is p (t .well-formed) (t .is-task) f v)) (both v .inc f l)
+            (Iff·trans (Iff·symm (may-inc-is p (t .well-formed) (t .is-task) f v))
+            (must-inc-is p (t .well-formed) (t .is-task) f v)) (both v .inc f l)
         at (must-clobber v) f l = says-none refl (must-clobber-task p (t .well-formed) f v (t .is-task))

@@ -18,7 +18,10 @@ module _ {from kids : List ℕ} {size g : ℕ} {s : Segment} (a : AtGroup from k
   at-segment = rw e (record {
     rises = a .shaped .starts g (a .below);
     ends = a .shaped .ends g (a .below);
-    nodes = record { each = λ i l h. omega (arith, a .shaped .small, a .shaped .rises g i (a .below) (record { low = l; high = h }) .1) };
+    nodes = record {
+      each = λ i l h. omega
+          (arith, a .shaped .small, a .shaped .rises g i (a .below) (record { low = l; high = h }) .1);
+    };
   })
 
 module _ {kids : List ℕ} {s : Segment} (a : AtSegment kids s) where
@@ -33,7 +36,8 @@ module _ {kids : List ℕ} {s : Segment} (a : AtSegment kids s) where
   kid-small {i} p q = omega (arith, q, a .nodes .each i (p .low) (p .high))
 
 -- both children of a pair are nodes
-pub pair-small : {kids : List ℕ} {s : Segment} {c j d : ℕ} → AtPair kids s c j → d ≡ getD kids j 0 → (c < 128) × (d < 128)
+pub pair-small : {kids : List ℕ} {s : Segment} {c j d : ℕ} → AtPair kids s c j → d ≡ getD kids j 0
+    → (c < 128) × (d < 128)
 pair-small a e = (a .child, kid-small (a .segment) (a .other) e)
 
 module _ {s : Segment} {i : ℕ} (t : Reached s i) where

@@ -1,4 +1,5 @@
--- A walk over the children of a group, each worked out with all under it, and then the group itself. R says what it means that a node is right, before and after. Assumes nothing.
+-- A walk over the children of a group, each worked out with all under it, and then the group itself. R says what it
+-- means that a node is right, before and after. Assumes nothing.
 use mathlib.Core.Path.{_≡_}
 use mathlib.Core.Logic.{_⊎_, inl, inr}
 use mathlib.Core.List.{List}
@@ -13,16 +14,17 @@ use Rattle.marks_row.specs.Walks.{RightUnder}
 use Rattle.marks_row.proofs.Segments.{every-next, every-child}
 
 -- what was right is right, and so is every node under the children at the positions from low to i
-pub record RightTo (p : Plan) (kids : List ℕ) (low : ℕ) (R R' : ℕ → Type 0) (i : ℕ) : Type 0 where
-  pub kept : (m : ℕ) → R m → R' m
-  pub right : Every kids low i (λ c. (m : ℕ) → Under p c m → R' m)
+pub record RightTo (p : Plan) (kids : List ℕ) (low : ℕ) (R R′ : ℕ → Type 0) (i : ℕ) : Type 0 where
+  pub kept : (m : ℕ) → R m → R′ m
+  pub right : Every kids low i (λ c. (m : ℕ) → Under p c m → R′ m)
 
 module _ {p : Plan} {kids : List ℕ} {low : ℕ} {R : ℕ → Type 0} where
   pub right-none : {i : ℕ} → i ≡ low → RightTo p kids low R R i
   right-none e = record { kept = λ m r. r; right = record { each = λ j a b. absurd (omega arith) } }
 
   -- one child more
-  pub right-more : {R' R″ : ℕ → Type 0} {i c : ℕ} → low ≤ i → c ≡ getD kids i 0 → RightTo p kids low R R' i → RightUnder p R' R″ c → RightTo p kids low R R″ (i + 1)
+  pub right-more : {R′ R″ : ℕ → Type 0} {i c : ℕ} → low ≤ i → c ≡ getD kids i 0 → RightTo p kids low R R′ i
+      → RightUnder p R′ R″ c → RightTo p kids low R R″ (i + 1)
   right-more l e h x = record {
     kept = λ m r. x .kept m (h .kept m r);
     right = (every-next l) .0 (record { each = λ j a b m u. x .kept m (h .right .each j a b m u) }, rw e at (x .right));
@@ -30,8 +32,9 @@ module _ {p : Plan} {kids : List ℕ} {low : ℕ} {R : ℕ → Type 0} where
 
 -- all children, and then the group g itself
 module _ {kids : List ℕ} {s : Segment} {p : Plan} {g : ℕ} (r : ChildrenOf kids s p g) where
-  pub right-all : {R R' R″ : ℕ → Type 0} → RightTo p kids (s .start) R R' (s .end) → ((m : ℕ) → R' m → R″ m) → R″ g → RightUnder p R R″ g
-  right-all {R} {R'} {R″} h keep own = record { kept = λ m x. keep m (h .kept m x); right = λ m u. at m (branch p u) }
+  pub right-all : {R R′ R″ : ℕ → Type 0} → RightTo p kids (s .start) R R′ (s .end) → ((m : ℕ) → R′ m → R″ m) → R″ g
+      → RightUnder p R R″ g
+  right-all {R} {R′} {R″} h keep own = record { kept = λ m x. keep m (h .kept m x); right = λ m u. at m (branch p u) }
     where
       at : (m : ℕ) → (g ≡ m) ⊎ Branch p g m → R″ m
       at m (inl e) = rw e at own

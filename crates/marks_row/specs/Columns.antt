@@ -11,7 +11,8 @@ use Rattle.runs.specs.Execution.{lastAsserted}
 use Rattle.runs.specs.Summary.{May, Must, ExternalPre, ExternalPost, Incondition, MayClobber, TaskWith, MustClobber}
 use Rattle.runs.specs.Classes.{Neutral, Covers, MayQuiet, MayMeet}
 
--- Each but the first is for a sign. `requires`: some task has the literal as pre- or incondition; `asserts`: as in- or postcondition. The last two are the
+-- Each but the first is for a sign. `requires`: some task has the literal as pre- or incondition; `asserts`: as in- or
+-- postcondition. The last two are the
 -- ones that an any-of group has where every branch has them; it has the others where some branch does.
 pub data Column : Type 0 where
   avoid : Column
@@ -34,7 +35,8 @@ indexOf (must-clobber v) = 19 + signNumber v
 abbrev pub firstOf : (Bool → Column) → ℕ
 firstOf k = indexOf (k false)
 
--- what a column says of node n and flag f. (Must precondition is 'neither quiet nor covered', must postcondition 'neither avoid nor may post of the
+-- what a column says of node n and flag f. (Must precondition is 'neither quiet nor covered', must postcondition
+-- 'neither avoid nor may post of the
 -- opposite': the theory's must-pre-is and must-post-is.)
 abbrev pub Fact : Plan → ℕ → ℕ → Column → Type 0
 Fact p n f avoid = May p n (λ h. lastAsserted p h f ≡ none)
@@ -69,7 +71,7 @@ pub record RowIs (w : Column → ℕ) (r : List ℕ) : Type 0 where
   pub is : (k : Column) → getD r (indexOf k) 0 ≡ w k
 
 -- rows' is rows with the words w in the row of n
-pub record Written (rows rows' : List ℕ) (n : ℕ) (w : List ℕ) : Type 0 where
-  pub long : length rows' ≡ 2688
-  pub here : (k : ℕ) → k < 21 → wordAt rows' n k ≡ getD w k 0
-  pub there : (c k : ℕ) → k < 21 → (c ≡ n → ⊥) → wordAt rows' c k ≡ wordAt rows c k
+pub record Written (rows rows′ : List ℕ) (n : ℕ) (w : List ℕ) : Type 0 where
+  pub long : length rows′ ≡ 2688
+  pub here : (k : ℕ) → k < 21 → wordAt rows′ n k ≡ getD w k 0
+  pub there : (c k : ℕ) → k < 21 → (c ≡ n → ⊥) → wordAt rows′ c k ≡ wordAt rows c k

@@ -14,7 +14,8 @@ SaysOf s r A = (v : Bool) → s ≡ signNumber v → (f : ℕ) → f < 64 → Sa
 
 -- for every plan in which the row of n is right
 abbrev pub MustPreWord : List ℕ → ℕ → ℕ → ℕ → Type 0
-MustPreWord rows n s r = (p : Plan) → WellFormed p → Node p n → Right p rows n → SaysOf s r (λ f v. Must p n (ExternalPre p f v))
+MustPreWord rows n s r = (p : Plan) → WellFormed p → Node p n → Right p rows n
+    → SaysOf s r (λ f v. Must p n (ExternalPre p f v))
 
 abbrev pub MustPostWord : List ℕ → ℕ → ℕ → ℕ → Type 0
 MustPostWord rows n s r = (p : Plan) → WellFormed p → Right p rows n → SaysOf s r (λ f v. Must p n (ExternalPost p f v))

@@ -24,7 +24,8 @@ afterCode = 2
 abbrev pub code : List ℕ → ℕ → ℕ → ℕ
 code order a b = getD order (a * 128 + b) 0
 
--- What the functions ask of the tables so that no index is out of range and each recursion ends: a node is a lower number than its children.
+-- What the functions ask of the tables so that no index is out of range and each recursion ends: a node is a lower
+-- number than its children.
 pub record Shaped (from kids : List ℕ) (n : ℕ) : Type 0 where
   pub small : n ≤ 128
   pub starts : (g : ℕ) → g < n → getD from g 0 ≤ getD from (g + 1) 0

@@ -3,6 +3,6 @@ use Prim.Native.Nat.{ℕ}
 use Rattle.runs.specs.Plan.{Plan, Under}
 
 -- what was right is right, and so is every node under n
-pub record RightUnder (p : Plan) (R R' : ℕ → Type 0) (n : ℕ) : Type 0 where
-  pub kept : (m : ℕ) → R m → R' m
-  pub right : (m : ℕ) → Under p n m → R' m
+pub record RightUnder (p : Plan) (R R′ : ℕ → Type 0) (n : ℕ) : Type 0 where
+  pub kept : (m : ℕ) → R m → R′ m
+  pub right : (m : ℕ) → Under p n m → R′ m

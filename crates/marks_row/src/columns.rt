@@ -1,4 +1,5 @@
-// The columns of a row: the first word of each. A column but the first has a word for each sign, clear and set (specs/Columns.antt).
+// The columns of a row: the first word of each. A column but the first has a word for each sign, clear and set
+// (specs/Columns.antt).
 pub const AVOID: usize = 0;
 
 pub const QUIET: usize = 1;

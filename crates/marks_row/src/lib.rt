@@ -1,4 +1,5 @@
-// Rows of words, 21 to a node, one for each column (specs/Columns.antt): bit f of a word speaks of flag f. The rows of tasks; what is read off a row.
+// Rows of words, 21 to a node, one for each column (specs/Columns.antt): bit f of a word speaks of flag f. The rows of
+// tasks; what is read off a row.
 pub mod codes;
 pub mod columns;
 
@@ -60,7 +61,8 @@ fn condition_word(conds: &[u64; 768], node: usize, at: usize) -> u64
 // A task has one execution, so its facts are read off its conditions. An incondition's flag has a postcondition too.
 fn words_of_sign(conds: &[u64; 768], node: usize, sign: usize) -> SignWords
     requires { ⌜ (node < 128) × (sign < 2) ⌝ }
-    ensures { λ r. ⌜ ((p : Plan) → Task (now (conds .entry)) node p → (v : Bool) → sign ≡ signNumber v → WordsOfSign p node v r) ⌝ }
+    ensures { λ r. ⌜ ((p : Plan) → Task (now (conds .entry)) node p → (v : Bool) → sign ≡ signNumber v
+        → WordsOfSign p node v r) ⌝ }
 {
     let pre = condition_word(conds, node, sign);
     let inc = condition_word(conds, node, 2 + sign);
@@ -140,7 +142,8 @@ pub fn neither(rows: &[u64; 2688], node: usize, j: usize, k: usize) -> u64
     (x | y) ^ ALL
 }
 
-// The literals of one sign that are external preconditions in every completed execution: the node is neither quiet nor covered.
+// The literals of one sign that are external preconditions in every completed execution: the node is neither quiet nor
+// covered.
 pub fn must_pre(rows: &[u64; 2688], node: usize, sign: usize) -> u64
     requires { ⌜ (node < 128) × (sign < 2) ⌝ }
     ensures { λ r. ⌜ MustPreWord (now (rows .entry)) node sign r ⌝ }
@@ -148,7 +151,8 @@ pub fn must_pre(rows: &[u64; 2688], node: usize, sign: usize) -> u64
     neither(rows, node, QUIET + sign, COVERED + sign)
 }
 
-// The literals of one sign that are external postconditions in every completed execution: none avoids the flag or asserts the opposite last.
+// The literals of one sign that are external postconditions in every completed execution: none avoids the flag or
+// asserts the opposite last.
 pub fn must_post(rows: &[u64; 2688], node: usize, sign: usize) -> u64
     requires { ⌜ (node < 128) × (sign < 2) ⌝ }
     ensures { λ r. ⌜ MustPostWord (now (rows .entry)) node sign r ⌝ }

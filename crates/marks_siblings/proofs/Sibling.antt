@@ -28,31 +28,50 @@ use Rattle.marks_row.proofs.Segments.{every-next, every-none, every-child}
 
 module _ {w r : ℕ} {C : Type 0} {A : ℕ → Type 0} where
   pub narrows-kept : ¬ C → r ≡ w → Narrows w r C A
-  narrows-kept k e = record { says = λ f l. says-map (λ t. (t, λ c. absurd (k c)), λ x. x .0) (says-eq e (says-self w f)) }
+  narrows-kept k e = record {
+    says =
+        λ f l. says-map (λ t. (t, λ c. absurd (k c)), λ x. x .0) (says-eq e (says-self w f));
+  }
 
-  pub narrows-map : {D : Type 0} {B : ℕ → Type 0} → D ↔ C → ((f : ℕ) → f < 64 → B f ↔ A f) → Narrows w r D B → Narrows w r C A
+  pub narrows-map : {D : Type 0} {B : ℕ → Type 0} → D ↔ C → ((f : ℕ) → f < 64 → B f ↔ A f) → Narrows w r D B
+      → Narrows w r C A
   narrows-map c a n = record {
-    says = λ f l. says-map (λ x. (x .0, λ y. (a f l) .0 (x .1 (c .1 y))), λ x. (x .0, λ y. (a f l) .1 (x .1 (c .0 y)))) (n .says f l);
+    says = λ f l. says-map (λ x. (x .0, λ y. (a f l) .0 (x .1 (c .1 y))), λ x. (x .0, λ y. (a f l) .1 (x .1 (c .0 y))))
+        (n .says f l);
   }
 
 pub narrows-taken : {w r x y : ℕ} {C : Type 0} → C → x ≡ y → r ≡ bitAnd w x → Narrows w r C (λ f. T (bit y f))
-narrows-taken {w} {r} {x} {y} c q e = record { says = λ f l. says-map (λ z. (z .0, λ d. z .1), λ z. (z .0, z .1 c)) (says-and e (says-self w f) (says-eq q (says-self y f))) }
+narrows-taken {w} {r} {x} {y} c q e =
+    record {
+      says = λ f l. says-map (λ z. (z .0, λ d. z .1), λ z. (z .0, z .1 c))
+          (says-and e (says-self w f) (says-eq q (says-self y f)));
+    }
 
 -- the flags of neither word
 pub neither : (x y f : ℕ) → f < 64 → T (bit (bitXor (bitOr x y) ones) f) ↔ (¬ (T (bit x f) ⊎ T (bit y f)))
 neither x y f l = let s = says-neither {x = x} {y = y} l refl (says-self x f) (says-self y f) in (s .to, s .from)
 
-pub apart-test : {order : List ℕ} (a b : ℕ) → code order a b ≢ 1 → code order a b ≢ 2 → T (not (eqb a b)) ↔ Apart order a b
+pub apart-test : {order : List ℕ} (a b : ℕ) → code order a b ≢ 1 → code order a b ≢ 2
+    → T (not (eqb a b)) ↔ Apart order a b
 apart-test {order} a b k l = (
   λ t. record { not-before = k; not-after = l; distinct = (unequal a b) .0 t },
   λ x. (unequal a b) .1 (x .distinct),
 )
 
-module _ {order : List ℕ} {p : Plan} (o : RepresentsOrder order p) {n a b : ℕ} (ha : Child p n a) (hb : Child p n b) where
+module _ {order : List ℕ} {p : Plan} (o : RepresentsOrder order p) {n a b : ℕ} (ha : Child p n a)
+    (hb : Child p n b) where
   pub apart-is : Apart order a b ↔ Unordered p a b
   apart-is = let e = o .before a b (ha .node) (hb .node) in let g = o .after a b (ha .node) (hb .node) in (
-    λ x. record { distinct = x .distinct; not-before = λ q. x .not-before (e .1 q); not-after = λ q. x .not-after (g .1 q) },
-    λ x. record { distinct = x .distinct; not-before = λ q. x .not-before (e .0 q); not-after = λ q. x .not-after (g .0 q) },
+    λ x. record {
+      distinct = x .distinct;
+      not-before = λ q. x .not-before (e .1 q);
+      not-after = λ q. x .not-after (g .1 q);
+    },
+    λ x. record {
+      distinct = x .distinct;
+      not-before = λ q. x .not-before (e .0 q);
+      not-after = λ q. x .not-after (g .0 q);
+    },
   )
 
 -- no task under b asserts the flag: none has either literal as in- or postcondition
@@ -63,16 +82,19 @@ silent-is p f b = (λ k e t u. quiet k e t u (signOf p e f) refl, λ s x. loud s
     with-sign true x = inr x
     with-sign false x = inl x
 
-    task-with : (v : Bool) (e : Event) → p .tree .kind (nodeOf e) ≡ task → Under p b (nodeOf e) → signOf p e f ≡ some v → TaskWith p inc post f v b
+    task-with : (v : Bool) (e : Event) → p .tree .kind (nodeOf e) ≡ task → Under p b (nodeOf e) → signOf p e f ≡ some v
+        → TaskWith p inc post f v b
     task-with v (start t) k u q = record { who = t; is-task = k; beneath = u; has = inl q }
     task-with v (finish t) k u q = record { who = t; is-task = k; beneath = u; has = inr q }
 
-    quiet : (¬ (TaskWith p inc post f false b ⊎ TaskWith p inc post f true b)) → (e : Event) → p .tree .kind (nodeOf e) ≡ task → Under p b (nodeOf e)
+    quiet : (¬ (TaskWith p inc post f false b ⊎ TaskWith p inc post f true b)) → (e : Event)
+        → p .tree .kind (nodeOf e) ≡ task → Under p b (nodeOf e)
         → (o : Option Bool) → signOf p e f ≡ o → signOf p e f ≡ none
     quiet k e t u none q = q
     quiet k e t u (some v) q = absurd (k (with-sign v (task-with v e t u q)))
 
-    heard : (v : Bool) → Silent p f b → (x : TaskWith p inc post f v b) → (p .cond .sign inc (x .who) f ≡ some v) ⊎ (p .cond .sign post (x .who) f ≡ some v) → ⊥
+    heard : (v : Bool) → Silent p f b → (x : TaskWith p inc post f v b)
+        → (p .cond .sign inc (x .who) f ≡ some v) ⊎ (p .cond .sign post (x .who) f ≡ some v) → ⊥
     heard v s x (inl q) = let y = s (start (x .who)) (x .is-task) (x .beneath) in clash cc
     heard v s x (inr q) = let y = s (finish (x .who)) (x .is-task) (x .beneath) in clash cc
 
@@ -81,14 +103,17 @@ silent-is p f b = (λ k e t u. quiet k e t u (signOf p e f) refl, λ s x. loud s
     loud s (inr x) = heard true s x (x .has)
 
 -- a node under which no task asserts the flag, by the words of its row
-pub silent-cell : {p : Plan} {rows : List ℕ} {b f : ℕ} → Right p rows b → f < 64 → (¬ (T (bit (wordIn rows b (asserts false)) f) ⊎ T (bit (wordIn rows b (asserts true)) f))) ↔ Silent p f b
+pub silent-cell : {p : Plan} {rows : List ℕ} {b f : ℕ} → Right p rows b → f < 64
+    → (¬ (T (bit (wordIn rows b (asserts false)) f) ⊎ T (bit (wordIn rows b (asserts true)) f))) ↔ Silent p f b
 silent-cell {p} {rows} {b} {f} r l = (λ k. (silent-is p f b) .0 (λ x. k (down x)), λ s x. (silent-is p f b) .1 s (up x))
   where
-    up : T (bit (wordIn rows b (asserts false)) f) ⊎ T (bit (wordIn rows b (asserts true)) f) → Fact p b f (asserts false) ⊎ Fact p b f (asserts true)
+    up : T (bit (wordIn rows b (asserts false)) f) ⊎ T (bit (wordIn rows b (asserts true)) f)
+        → Fact p b f (asserts false) ⊎ Fact p b f (asserts true)
     up (inl t) = inl ((cell r l (asserts false)) .0 t)
     up (inr t) = inr ((cell r l (asserts true)) .0 t)
 
-    down : Fact p b f (asserts false) ⊎ Fact p b f (asserts true) → T (bit (wordIn rows b (asserts false)) f) ⊎ T (bit (wordIn rows b (asserts true)) f)
+    down : Fact p b f (asserts false) ⊎ Fact p b f (asserts true)
+        → T (bit (wordIn rows b (asserts false)) f) ⊎ T (bit (wordIn rows b (asserts true)) f)
     down (inl x) = inl ((cell r l (asserts false)) .1 x)
     down (inr x) = inr ((cell r l (asserts true)) .1 x)
 
@@ -97,7 +122,8 @@ pub implied : {C D A B : Type 0} → C ↔ D → A ↔ B → (C → A) ↔ (D �
 implied c a = (λ h d. a .0 (h (c .1 d)), λ h d. a .1 (h (c .0 d)))
 
 -- one word, one child more
-pub narrows-more : {kids : List ℕ} {lo i b w r : ℕ} {C : Type 0} {A : ℕ → Type 0} {Q : ℕ → ℕ → Type 0} → b ≡ getD kids i 0 → lo ≤ i → Narrows w r C A
+pub narrows-more : {kids : List ℕ} {lo i b w r : ℕ} {C : Type 0} {A : ℕ → Type 0} {Q : ℕ → ℕ → Type 0}
+    → b ≡ getD kids i 0 → lo ≤ i → Narrows w r C A
     → ((f : ℕ) → f < 64 → (C → A f) ↔ Q f b)
     → ((f : ℕ) → f < 64 → Says w f (Every kids lo i (Q f))) → (f : ℕ) → f < 64 → Says r f (Every kids lo (i + 1) (Q f))
 narrows-more q l m e h f k = says-map (
@@ -105,16 +131,21 @@ narrows-more q l m e h f k = says-map (
   λ x. let y = (every-next l) .1 x in (h f k .from (y .0), (e f k) .1 (rw q (y .1))),
 ) (m .says f k)
 
-module _ {kids : List ℕ} {segment : Segment} {order rows : List ℕ} {p : Plan} {n c : ℕ} (g : Group kids segment rows p n) (o : RepresentsOrder order p) (hc : Child p n c) where
+module _ {kids : List ℕ} {segment : Segment} {order rows : List ℕ} {p : Plan} {n c : ℕ}
+    (g : Group kids segment rows p n) (o : RepresentsOrder order p) (hc : Child p n c) where
   module _ {lo i : ℕ} (l : lo ≤ i) where
-    pub with-sibling : {b : ℕ} → b ≡ getD kids i 0 → Child p n b → {s r : Siblings} → Limits order rows c b s r → SiblingWords p c (Every kids lo i) s
+    pub with-sibling : {b : ℕ} → b ≡ getD kids i 0 → Child p n b → {s r : Siblings} → Limits order rows c b s r
+        → SiblingWords p c (Every kids lo i) s
         → SiblingWords p c (Every kids lo (i + 1)) r
     with-sibling {b} e hb m h = record {
       avoid-before = narrows-more e l (m .avoid-before) (λ f k. implied before (cell right k avoid)) (h .avoid-before);
-      clear-before = narrows-more e l (m .clear-before) (λ f k. implied before (cell right k (quiet false))) (h .clear-before);
+      clear-before = narrows-more e l (m .clear-before) (λ f k. implied before (cell right k (quiet false)))
+          (h .clear-before);
       set-before = narrows-more e l (m .set-before) (λ f k. implied before (cell right k (quiet true))) (h .set-before);
-      avoid-after = narrows-more e l (m .avoid-after) (λ f k. implied (o .after b c (hb .node) (hc .node)) (cell right k avoid)) (h .avoid-after);
-      silent-apart = narrows-more e l (m .silent-apart) (λ f k. implied (apart-is o hb hc) (silent-cell right k)) (h .silent-apart);
+      avoid-after = narrows-more e l (m .avoid-after)
+          (λ f k. implied (o .after b c (hb .node) (hc .node)) (cell right k avoid)) (h .avoid-after);
+      silent-apart = narrows-more e l (m .silent-apart) (λ f k. implied (apart-is o hb hc) (silent-cell right k))
+          (h .silent-apart);
     }
       where
         right : Right p rows b
@@ -123,7 +154,14 @@ module _ {kids : List ℕ} {segment : Segment} {order rows : List ℕ} {p : Plan
         before : (code order b c ≡ 1) ↔ Before p b c
         before = o .before b c (hb .node) (hc .node)
 
-  pub no-siblings : {lo : ℕ} {s : Siblings} → s ≡ record { «avoid_before» = ones; «clear_before» = ones; «set_before» = ones; «avoid_after» = ones; «silent_apart» = ones }
+  pub no-siblings : {lo : ℕ} {s : Siblings}
+      → s ≡ record {
+        «avoid_before» = ones;
+        «clear_before» = ones;
+        «set_before» = ones;
+        «avoid_after» = ones;
+        «silent_apart» = ones;
+      }
       → SiblingWords p c (Every kids lo lo) s
   no-siblings e = rw e (record {
     avoid-before = λ f l. every-none (omega arith) l refl;
@@ -134,7 +172,8 @@ module _ {kids : List ℕ} {segment : Segment} {order rows : List ℕ} {p : Plan
   })
 
   -- over the whole segment: all siblings
-  pub all-siblings : {s : Siblings} → SiblingWords p c (Every kids (segment .start) (segment .end)) s → SiblingWords p c (λ Q. (b : ℕ) → Child p n b → Q b) s
+  pub all-siblings : {s : Siblings} → SiblingWords p c (Every kids (segment .start) (segment .end)) s
+      → SiblingWords p c (λ Q. (b : ℕ) → Child p n b → Q b) s
   all-siblings h = record {
     avoid-before = λ f l. says-map same (h .avoid-before f l);
     clear-before = λ f l. says-map same (h .clear-before f l);

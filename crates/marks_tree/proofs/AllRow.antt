@@ -12,7 +12,8 @@ use Rattle.base.proofs.Says.{says-map, says-eq, says-dec, says-or, says-not, sa
 use Rattle.runs.specs.Plan.{all-of, Plan, WellFormed}
 use Rattle.runs.proofs.Summary.Clobber.{clobber-all}
 use Rattle.runs.proofs.Summary.ReflectClobber.{must-clobber-all}
-use Rattle.marks_row.specs.Columns.{Column, avoid, quiet, covered, may-pre, may-post, may-inc, requires, asserts, may-clobber, must-inc, must-clobber}
+use Rattle.marks_row.specs.Columns.{Column, avoid, quiet, covered, may-pre, may-post, may-inc, requires, asserts}
+use Rattle.marks_row.specs.Columns.{may-clobber, must-inc, must-clobber}
 use Rattle.marks_row.specs.Columns.{indexOf, Fact, Row, RowIs}
 use Rattle.marks_group.specs.Groups.{Within, WithinRow}
 use Rattle.marks_row.proofs.Rows.{index-small}
@@ -32,8 +33,10 @@ same {A} = (at, inl)
     at (inr x) = absurd x
 
 module _ (p : Plan) (w : WellFormed p) {n : ℕ} (kn : p .tree .kind n ≡ all-of) (f : ℕ) where
-  may : (v : Bool) → Dec (Within p n f (may-clobber v)) → (Within p n f (may-clobber v) ⊎ Extra p n f (may-clobber v)) ↔ Fact p n f (may-clobber v)
-  may v d = let e = Iff·trans (clobber-all p w kn f v) (by-pairs p n f v) in (λ x. e .1 (⊎-elim inl (λ y. inr (y .1)) x), λ x. at d (e .0 x))
+  may : (v : Bool) → Dec (Within p n f (may-clobber v))
+      → (Within p n f (may-clobber v) ⊎ Extra p n f (may-clobber v)) ↔ Fact p n f (may-clobber v)
+  may v d = let e = Iff·trans (clobber-all p w kn f v) (by-pairs p n f v) in
+      (λ x. e .1 (⊎-elim inl (λ y. inr (y .1)) x), λ x. at d (e .0 x))
     where
       at : Dec (Within p n f (may-clobber v)) → Within p n f (may-clobber v) ⊎ SomePair p n (Pair p n f v)
           → Within p n f (may-clobber v) ⊎ Extra p n f (may-clobber v)
@@ -43,8 +46,21 @@ module _ (p : Plan) (w : WellFormed p) {n : ℕ} (kn : p .tree .kind n ≡ all-o
 
   must : (v : Bool) → (Within p n f (must-clobber v) ⊎ Extra p n f (must-clobber v)) ↔ Fact p n f (must-clobber v)
   must v = let e = must-clobber-all p w f v kn in (
-    λ x. e .1 (⊎-elim inl (λ y. ⊎-elim inl (λ z. inr (z .0, z .1, (z .2 .0, z .2 .1, (z .2 .2 .0, (z .2 .2 .1 .0 .0, (z .2 .2 .1 .0 .1, z .2 .2 .1 .1)))))) y) x),
-    λ x. ⊎-elim inl (λ z. inr (inr (z .0, z .1, (z .2 .0, z .2 .1, (z .2 .2 .0, ((z .2 .2 .1 .0, z .2 .2 .1 .1 .0), z .2 .2 .1 .1 .1)))))) (e .0 x),
+    λ x. e .1 (⊎-elim inl (λ y. ⊎-elim inl
+        (λ z. inr (
+          z .0,
+          z .1,
+          (
+            z .2 .0,
+            z .2 .1,
+            (z .2 .2 .0, (z .2 .2 .1 .0 .0, (z .2 .2 .1 .0 .1, z .2 .2 .1 .1))),
+          ),
+        )) y) x),
+    λ x. ⊎-elim inl (λ z. inr (inr (
+      z .0,
+      z .1,
+      (z .2 .0, z .2 .1, (z .2 .2 .0, ((z .2 .2 .1 .0, z .2 .2 .1 .1 .0), z .2 .2 .1 .1 .1))),
+    ))) (e .0 x),
   )
 
   -- what the children show one by one, and what the pairs add, are the facts
@@ -61,19 +77,35 @@ module _ (p : Plan) (w : WellFormed p) {n : ℕ} (kn : p .tree .kind n ≡ all-o
   all-fact (must-inc v) d = same
   all-fact (must-clobber v) d = must v
 
-module _ {p : Plan} {n : ℕ} (w : WellFormed p) (kn : p .tree .kind n ≡ all-of) {words : List ℕ} (h : WithinRow p n words) {may must : Literals} where
+module _ {p : Plan} {n : ℕ} (w : WellFormed p) (kn : p .tree .kind n ≡ all-of) {words : List ℕ}
+    (h : WithinRow p n words) {may must : Literals} where
   module _
       (a : (v : Bool) (f : ℕ) → f < 64 → Says (signWord may v) f
-      (T (bit (signWord (record { clear = bitXor (getD words (indexOf (may-clobber false)) 0) ones; set = bitXor (getD words (indexOf (may-clobber true)) 0) ones }) v) f) × SomePair p n (Pair p n f v)))
+      (T (bit (signWord (record {
+        clear = bitXor (getD words (indexOf (may-clobber false)) 0) ones;
+        set = bitXor (getD words (indexOf (may-clobber true)) 0) ones;
+      }) v) f) × SomePair p n (Pair p n f v)))
       (b : (v : Bool) (f : ℕ) → f < 64 → Says (signWord must v) f
-      (T (bit (signWord (record { clear = getD words (indexOf (must-clobber false)) 0; set = getD words (indexOf (must-clobber true)) 0 }) v) f) ⊎ SomePair p n (MustPair p n f v))) where
+      (T (bit (signWord (record {
+        clear = getD words (indexOf (must-clobber false)) 0;
+        set = getD words (indexOf (must-clobber true)) 0;
+      }) v) f) ⊎ SomePair p n (MustPair p n f v))) where
     -- the literals that no child may clobber were wanted
     wanted : (v : Bool) (f : ℕ) → f < 64
-        → T (bit (signWord (record { clear = bitXor (getD words (indexOf (may-clobber false)) 0) ones; set = bitXor (getD words (indexOf (may-clobber true)) 0) ones }) v) f) ↔ (¬ Within p n f (may-clobber v))
-    wanted false f l = let s = says-not {x = getD words (indexOf (may-clobber false)) 0} l refl (h .says (may-clobber false) f l) in (s .to, s .from)
-    wanted true f l = let s = says-not {x = getD words (indexOf (may-clobber true)) 0} l refl (h .says (may-clobber true) f l) in (s .to, s .from)
+        → T (bit (signWord (record {
+          clear = bitXor (getD words (indexOf (may-clobber false)) 0) ones;
+          set = bitXor (getD words (indexOf (may-clobber true)) 0) ones;
+        }) v) f) ↔ (¬ Within p n f (may-clobber v))
+    wanted false f l = let s = says-not {x = getD words (indexOf (may-clobber false)) 0} l refl
+        (h .says (may-clobber false) f l) in (s .to, s .from)
+    wanted true f l = let s = says-not {x = getD words (indexOf (may-clobber true)) 0} l refl
+        (h .says (may-clobber true) f l) in (s .to, s .from)
 
-    known : (v : Bool) (f : ℕ) → f < 64 → T (bit (signWord (record { clear = getD words (indexOf (must-clobber false)) 0; set = getD words (indexOf (must-clobber true)) 0 }) v) f) ↔ Within p n f (must-clobber v)
+    known : (v : Bool) (f : ℕ) → f < 64
+        → T (bit (signWord (record {
+          clear = getD words (indexOf (must-clobber false)) 0;
+          set = getD words (indexOf (must-clobber true)) 0;
+        }) v) f) ↔ Within p n f (must-clobber v)
     known false f l = let s = h .says (must-clobber false) f l in (s .to, s .from)
     known true f l = let s = h .says (must-clobber true) f l in (s .to, s .from)
 
@@ -86,7 +118,8 @@ module _ {p : Plan} {n : ℕ} (w : WellFormed p) (kn : p .tree .kind n ≡ all-o
     extra (may-inc v) f l = says-none refl (λ x. x)
     extra (requires v) f l = says-none refl (λ x. x)
     extra (asserts v) f l = says-none refl (λ x. x)
-    extra (may-clobber v) f l = says-map (λ x. ((wanted v f l) .0 (x .0), x .1), λ x. ((wanted v f l) .1 (x .0), x .1)) (a v f l)
+    extra (may-clobber v) f l = says-map (λ x. ((wanted v f l) .0 (x .0), x .1), λ x. ((wanted v f l) .1 (x .0), x .1))
+        (a v f l)
     extra (must-inc v) f l = says-none refl (λ x. x)
     extra (must-clobber v) f l = says-map (
       λ x. ⊎-elim (λ t. inl ((known v f l) .0 t)) inr x,

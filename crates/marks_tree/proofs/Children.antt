@@ -54,24 +54,30 @@ module _ {kind : List ℕ} {c : ℕ} where
       at any-of a b = absurd (b refl)
 
 -- a task, whose row stands
-pub task-filled : {kind from kids order rows : List ℕ} {n node : ℕ} → length rows ≡ 2688 → Filled task kind from kids order rows rows n node
+pub task-filled : {kind from kids order rows : List ℕ} {n node : ℕ} → length rows ≡ 2688
+    → Filled task kind from kids order rows rows n node
 task-filled {node = node} e = record {
   long = e;
-  under = λ p g k. record { kept = λ m x. x; right = λ m u. rw (under-task p (g .well-formed) k u) at (g .tasks node (g .is-node) k) };
+  under = λ p g k. record {
+    kept = λ m x. x;
+    right = λ m u. rw (under-task p (g .well-formed) k u) at (g .tasks node (g .is-node) k);
+  };
 }
 
 module _ (kind from kids order : List ℕ) (n node : ℕ) (segment : Segment) where
   -- the children at the positions before i are worked out, with all under them
   pub record ChildrenTo (rows₀ rows : List ℕ) (i : ℕ) : Type 0 where
     pub long : length rows ≡ 2688
-    pub walked : (p : Plan) → Given kind from kids order rows₀ n node p → RightTo p kids (segment .start) (Right p rows₀) (Right p rows) i
+    pub walked : (p : Plan) → Given kind from kids order rows₀ n node p
+        → RightTo p kids (segment .start) (Right p rows₀) (Right p rows) i
 
   pub children-none : (rows : List ℕ) → length rows ≡ 2688 → ChildrenTo rows rows (segment .start)
   children-none rows e = record { long = e; walked = λ p g. right-none refl }
 
   -- one child more
-  pub child-more : {rows₀ rows rows' rows″ : List ℕ} {i c : ℕ} {k : Kind} → segment ≡ segmentOf from node → c ≡ getD kids i 0 → Position segment i → ChildrenTo rows₀ rows i → rows″ ≡ rows'
-      → OfKind kind c k → Filled k kind from kids order rows rows' n c → ChildrenTo rows₀ rows″ (i + 1)
+  pub child-more : {rows₀ rows rows′ rows″ : List ℕ} {i c : ℕ} {k : Kind} → segment ≡ segmentOf from node
+      → c ≡ getD kids i 0 → Position segment i → ChildrenTo rows₀ rows i → rows″ ≡ rows′
+      → OfKind kind c k → Filled k kind from kids order rows rows′ n c → ChildrenTo rows₀ rows″ (i + 1)
   child-more {rows₀} {rows} {c = c} {k = k} z e at h q is x = rw q (record {
     long = x .long;
     walked = λ p g. right-more (at .low) e (h .walked p g) (x .under p (given p g) (kn p g));
@@ -90,29 +96,33 @@ module _ (kind from kids order : List ℕ) (n node : ℕ) (segment : Segment) wh
       kn : (p : Plan) → Given kind from kids order rows₀ n node p → p .tree .kind c ≡ k
       kn p g = is p (g .kinds) (given p g .is-node)
 
-  module _ {rows₀ rows rows' words : List ℕ} (z : segment ≡ segmentOf from node) (h : ChildrenTo rows₀ rows (segment .end)) (x : Written rows rows' node words) where
+  module _ {rows₀ rows rows′ words : List ℕ} (z : segment ≡ segmentOf from node)
+      (h : ChildrenTo rows₀ rows (segment .end)) (x : Written rows rows′ node words) where
     -- all children are right
     group : (p : Plan) → Given kind from kids order rows₀ n node p → Group kids segment rows p node
     group p g = record {
       well-formed = g .well-formed;
       node = g .is-node;
       listed = has-children (g .tree) (g .is-node) z;
-      children = λ c hc. (every-child (has-children (g .tree) (g .is-node) z) (λ b hb. (λ y. y, λ y. y))) .0 (h .walked p g .right) c hc c itself;
+      children = λ c hc. (every-child (has-children (g .tree) (g .is-node) z) (λ b hb. (λ y. y, λ y. y))) .0
+          (h .walked p g .right) c hc c itself;
     }
 
-    filled : (k : Kind) → ((p : Plan) → Given kind from kids order rows₀ n node p → p .tree .kind node ≡ k → Row p node words)
-        → Filled k kind from kids order rows₀ rows' n node
+    filled : (k : Kind) → ((p : Plan) → Given kind from kids order rows₀ n node p → p .tree .kind node ≡ k
+        → Row p node words)
+        → Filled k kind from kids order rows₀ rows′ n node
     filled k r = record {
       long = x .long;
-      under = λ p g q. right-all (has-children (g .tree) (g .is-node) z) (h .walked p g) (written-keeps x (r p g q)) (written-right x (r p g q));
+      under = λ p g q. right-all (has-children (g .tree) (g .is-node) z) (h .walked p g) (written-keeps x (r p g q))
+          (written-right x (r p g q));
     }
 
     pub all-filled : AllOfRow kids segment order rows words
-        → Filled all-of kind from kids order rows₀ rows' n node
+        → Filled all-of kind from kids order rows₀ rows′ n node
     all-filled r = filled all-of (λ p g. r p node (record { group = group p g; orders = g .orders }))
 
     pub any-filled : AnyRow kids segment rows words
-        → Filled any-of kind from kids order rows₀ rows' n node
+        → Filled any-of kind from kids order rows₀ rows′ n node
     any-filled r = filled any-of (λ p g. r p node (group p g))
 
 -- the tasks below i
@@ -120,32 +130,43 @@ module _ {kind conds rows : List ℕ} where
   pub tasks-none : length rows ≡ 2688 → TasksFilled kind conds rows 0
   tasks-none e = record { long = e; right = λ p w k c t l. absurd (omega arith) }
 
-  pub task-more : {i : ℕ} {rows' rows″ words : List ℕ} → rows″ ≡ rows' → TasksFilled kind conds rows i → Written rows rows' i words
+  pub task-more : {i : ℕ} {rows′ rows″ words : List ℕ} → rows″ ≡ rows′ → TasksFilled kind conds rows i
+      → Written rows rows′ i words
       → ((p : Plan) → Task conds i p → Row p i words) → TasksFilled kind conds rows″ (i + 1)
-  task-more {i} {rows'} e h x r = rw e (record { long = x .long; right = λ p w k c t l n q. at p w k c t l n q (ℕ-discrete t i) })
+  task-more {i} {rows′} e h x r =
+      rw e (record { long = x .long; right = λ p w k c t l n q. at p w k c t l n q (ℕ-discrete t i) })
     where
-      at : (p : Plan) → WellFormed p → RepresentsKinds kind p → RepresentsConditions conds p → (t : ℕ) → t < i + 1 → Node p t → p .tree .kind t ≡ task
-          → Dec (t ≡ i) → Right p rows' t
-      at p w k c t l n q (yes e) = rw e (written-right x (r p (record { well-formed = w; conditions = c; node = rw e at n; is-task = rw e at q })))
-      at p w k c t l n q (no ne) = record { says = λ col f m. says-eq (x .there t (indexOf col) (index-small col) ne) (h .right p w k c t (omega arith) n q .says col f m) }
+      at : (p : Plan) → WellFormed p → RepresentsKinds kind p → RepresentsConditions conds p → (t : ℕ) → t < i + 1
+          → Node p t → p .tree .kind t ≡ task
+          → Dec (t ≡ i) → Right p rows′ t
+      at p w k c t l n q (yes e) = rw e
+          (written-right x (r p (record { well-formed = w; conditions = c; node = rw e at n; is-task = rw e at q })))
+      at p w k c t l n q (no ne) = record {
+        says = λ col f m. says-eq (x .there t (indexOf col) (index-small col) ne)
+            (h .right p w k c t (omega arith) n q .says col f m);
+      }
 
-  pub task-skip : {i : ℕ} {rows″ : List ℕ} → rows″ ≡ rows → TasksFilled kind conds rows i → getD kind i 0 ≢ 0 → TasksFilled kind conds rows″ (i + 1)
+  pub task-skip : {i : ℕ} {rows″ : List ℕ} → rows″ ≡ rows → TasksFilled kind conds rows i → getD kind i 0 ≢ 0
+      → TasksFilled kind conds rows″ (i + 1)
   task-skip {i} e h z = rw e (record { long = h .long; right = λ p w k c t l n q. at p w k c t l n q (ℕ-discrete t i) })
     where
-      at : (p : Plan) → WellFormed p → RepresentsKinds kind p → RepresentsConditions conds p → (t : ℕ) → t < i + 1 → Node p t → p .tree .kind t ≡ task
+      at : (p : Plan) → WellFormed p → RepresentsKinds kind p → RepresentsConditions conds p → (t : ℕ) → t < i + 1
+          → Node p t → p .tree .kind t ≡ task
           → Dec (t ≡ i) → Right p rows t
       at p w k c t l n q (yes e) = let y : getD kind i 0 ≡ kindNumber task = rw (q, e) at (k .is t n) in absurd (z y)
       at p w k c t l n q (no ne) = h .right p w k c t (omega arith) n q
 
 -- all nodes, once the root is worked out
-pub all-nodes : {kind from kids order conds rows rows' : List ℕ} {n : ℕ} {k : Kind} → TasksFilled kind conds rows n → OfKind kind 0 k
-    → Filled k kind from kids order rows rows' n 0 → AllFilled kind from kids order conds rows' n
+pub all-nodes : {kind from kids order conds rows rows′ : List ℕ} {n : ℕ} {k : Kind} → TasksFilled kind conds rows n
+    → OfKind kind 0 k
+    → Filled k kind from kids order rows rows′ n 0 → AllFilled kind from kids order conds rows′ n
 all-nodes {kind} {from} {kids} {order} {conds} {rows} {n = n} t is x = record {
   long = x .long;
   right = λ p w r m l. x .under p (given p w r) (is p (r .kinds) (w .root-node)) .right m (under-root p w m l);
 }
   where
-    given : (p : Plan) → WellFormed p → Represents kind from kids order conds n p → Given kind from kids order rows n 0 p
+    given : (p : Plan) → WellFormed p → Represents kind from kids order conds n p
+        → Given kind from kids order rows n 0 p
     given p w r = record {
       well-formed = w;
       kinds = r .kinds;

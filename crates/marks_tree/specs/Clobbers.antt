@@ -7,7 +7,8 @@ use lib.Bits.{bitOr}
 use lib.ListN.{getD}
 use Rattle.runs.specs.Plan.{all-of, Plan}
 use Rattle.marks_row.specs.declared.Segment.{Segment}
-use Rattle.marks_row.specs.Columns.{Column, avoid, quiet, covered, may-pre, may-post, may-inc, requires, asserts, may-clobber, must-inc, must-clobber, Row}
+use Rattle.marks_row.specs.Columns.{Column, avoid, quiet, covered, may-pre, may-post, may-inc, requires, asserts}
+use Rattle.marks_row.specs.Columns.{may-clobber, must-inc, must-clobber, Row}
 use Rattle.marks_group.specs.Groups.{Within}
 use Rattle.marks_pair.specs.declared.Literals.{Literals}
 use Rattle.marks_between.specs.Passing.{SomePair, OfGroups}

@@ -9,6 +9,9 @@ ghost use Rattle.marks_row.specs.Tables.{AtGroup};
 ghost use Rattle.marks_tree.specs.Clobbers.{AllOfRow, clobberOf, Ored};
 ghost use Rattle.marks_tree.specs.Filled.{Filled, TasksFilled, AllFilled};
 use base::ALL;
+use base::kinds::ALL_OF;
+use base::kinds::ANY_OF;
+use base::kinds::TASK;
 use base::wide;
 use marks_group::all_words;
 use marks_group::any_words;
@@ -17,9 +20,6 @@ use marks_must_pairs::must_pairs;
 use marks_pair::Literals;
 use marks_row::Segment;
 use marks_row::children;
-use marks_row::codes::ALL_OF;
-use marks_row::codes::ANY_OF;
-use marks_row::codes::TASK;
 use marks_row::columns::MAY_CLOBBER;
 use marks_row::columns::MUST_CLOBBER;
 use marks_row::task_words;
@@ -98,7 +98,8 @@ fn all_of(
     node: usize,
 )
     requires { ⌜ AtGroup (now from) (now kids) n node × (length (now rows) ≡ 2688) ⌝ }
-    ensures { λ r. ⌜ Filled all-of (now (kind .entry)) (now (from .entry)) (now (kids .entry)) (now (order .entry)) (now (rows .entry)) (now (rows .exit)) n node ⌝ }
+    ensures { λ r. ⌜ Filled all-of (now (kind .entry)) (now (from .entry)) (now (kids .entry)) (now (order .entry))
+        (now (rows .entry)) (now (rows .exit)) n node ⌝ }
 {
     let segment = children(from, node);
     let mut i = segment.start;
@@ -127,7 +128,8 @@ fn any_of(
     node: usize,
 )
     requires { ⌜ AtGroup (now from) (now kids) n node × (length (now rows) ≡ 2688) ⌝ }
-    ensures { λ r. ⌜ Filled any-of (now (kind .entry)) (now (from .entry)) (now (kids .entry)) (now (order .entry)) (now (rows .entry)) (now (rows .exit)) n node ⌝ }
+    ensures { λ r. ⌜ Filled any-of (now (kind .entry)) (now (from .entry)) (now (kids .entry)) (now (order .entry))
+        (now (rows .entry)) (now (rows .exit)) n node ⌝ }
 {
     let segment = children(from, node);
     let mut i = segment.start;
@@ -171,7 +173,8 @@ pub fn node_rows(
     n: usize,
 )
     requires { ⌜ AtGroup (now from) (now kids) n 0 × (length (now rows) ≡ 2688) ⌝ }
-    ensures { λ r. ⌜ AllFilled (now (kind .entry)) (now (from .entry)) (now (kids .entry)) (now (order .entry)) (now (conds .entry)) (now (rows .exit)) n ⌝ }
+    ensures { λ r. ⌜ AllFilled (now (kind .entry)) (now (from .entry)) (now (kids .entry)) (now (order .entry))
+        (now (conds .entry)) (now (rows .exit)) n ⌝ }
 {
     task_rows(kind, conds, rows, n);
     let root = kind[0];

@@ -10,7 +10,8 @@ use lib.ListN.{getD}
 use Rattle.base.specs.Bits.{Says}
 use Rattle.base.proofs.Says.{says-map, says-and, says-or, says-less}
 use Rattle.runs.specs.Plan.{Plan, signNumber}
-use Rattle.runs.specs.Summary.{Mark, may-pre, must-pre, may-post, must-post, may-inc, must-inc, may-clobber, must-clobber, byteOf, markAt, Marked}
+use Rattle.runs.specs.Summary.{Mark, may-pre, must-pre, may-post, must-post, may-inc, must-inc, may-clobber}
+use Rattle.runs.specs.Summary.{must-clobber, byteOf, markAt, Marked}
 use Rattle.runs.specs.Verdict.{Fails}
 use Rattle.marks_row.specs.Columns as columns
 use Rattle.marks_row.specs.Columns.{Right, wordAt}
@@ -93,9 +94,11 @@ clear-start : (b : Bool) → (¬ (b ≡ true)) ↔ (b ≡ false)
 clear-start true = (λ k. absurd (k refl), λ e. absurd (true≢false e))
 clear-start false = (λ k. refl, λ e z. true≢false (sym z))
 
-module _ {p : Plan} {F : ℕ → Bool} {words : List ℕ} {start : ℕ} (w : MarkWords p 0 words) (s : StartWord F start) (m k : Mark) where
+module _ {p : Plan} {F : ℕ → Bool} {words : List ℕ} {start : ℕ} (w : MarkWords p 0 words) (s : StartWord F start)
+    (m k : Mark) where
   abbrev Signs : ℕ → Type 0
-  Signs f = (Marked p 0 f false m ⊎ Marked p 0 f true m) ⊎ ((Marked p 0 f false k × (F f ≡ true)) ⊎ (Marked p 0 f true k × (¬ (F f ≡ true))))
+  Signs f = (Marked p 0 f false m ⊎ Marked p 0 f true m)
+      ⊎ ((Marked p 0 f false k × (F f ≡ true)) ⊎ (Marked p 0 f true k × (¬ (F f ≡ true))))
 
   split : (f : ℕ) → Signs f ↔ ((v : Bool) × Fails p F m k f v)
   split f = (to, λ x. from (x .0) (x .1))
@@ -112,13 +115,17 @@ module _ {p : Plan} {F : ℕ → Bool} {words : List ℕ} {start : ℕ} (w : Mar
       from false (inr x) = inr (inl (x .1, x .0))
       from true (inr x) = inr (inr (x .1, (clear-start (F f)) .1 (x .0)))
 
-  word-says : (v : Bool) (q : Mark) {i : ℕ} → i ≡ wordIndex v q → (f : ℕ) → f < 64 → Says (getD words i 0) f (Marked p 0 f v q)
+  word-says : (v : Bool) (q : Mark) {i : ℕ} → i ≡ wordIndex v q → (f : ℕ) → f < 64
+      → Says (getD words i 0) f (Marked p 0 f v q)
   word-says v q e f l = rw e (w .says v q f l)
 
-  pub failing-says : {i j marked clear set r : ℕ} → i ≡ byteOf m → j ≡ byteOf k → marked ≡ bitOr (getD words i 0) (getD words (i + 8) 0)
-      → clear ≡ bitAnd (getD words j 0) start → set ≡ bitXor (getD words (j + 8) 0) (bitAnd (getD words (j + 8) 0) start)
+  pub failing-says : {i j marked clear set r : ℕ} → i ≡ byteOf m → j ≡ byteOf k
+      → marked ≡ bitOr (getD words i 0) (getD words (i + 8) 0)
+      → clear ≡ bitAnd (getD words j 0) start
+      → set ≡ bitXor (getD words (j + 8) 0) (bitAnd (getD words (j + 8) 0) start)
       → r ≡ bitOr marked (bitOr clear set) → (f : ℕ) → f < 64 → Says r f ((v : Bool) × Fails p F m k f v)
   failing-says ei ej a b c d f l =
       says-map (split f)
       (says-or d (says-or a (word-says false m (omega (arith, ei)) f l) (word-says true m (omega (arith, ei)) f l))
-      (says-or refl (says-and b (word-says false k (omega (arith, ej)) f l) (s .says f l)) (says-less c (word-says true k (omega (arith, ej)) f l) (s .says f l))))
+      (says-or refl (says-and b (word-says false k (omega (arith, ej)) f l) (s .says f l))
+      (says-less c (word-says true k (omega (arith, ej)) f l) (s .says f l))))

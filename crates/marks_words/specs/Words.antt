@@ -1,4 +1,5 @@
--- The eight marks of a node as sixteen words, one for each sign and mark; bit f of a word speaks of flag f. Definitions only.
+-- The eight marks of a node as sixteen words, one for each sign and mark; bit f of a word speaks of flag f. Definitions
+-- only.
 use mathlib.Core.Path.{_≡_}
 use mathlib.Core.Bool.{Bool, true}
 use mathlib.Core.List.{List, [], _∷_}
@@ -17,7 +18,8 @@ wordIndex v m = byteOf m + 8 * signNumber v
 
 -- the first word, in a node's row, of the column of each mark; must precondition and must postcondition have no column
 abbrev pub firstWords : List ℕ
-firstWords = firstOf columns.may-pre ∷ 0 ∷ firstOf columns.may-post ∷ 0 ∷ firstOf columns.may-inc ∷ firstOf columns.must-inc ∷ firstOf columns.may-clobber ∷ firstOf columns.must-clobber ∷ []
+firstWords = firstOf columns.may-pre ∷ 0 ∷ firstOf columns.may-post ∷ 0 ∷ firstOf columns.may-inc ∷ firstOf
+    columns.must-inc ∷ firstOf columns.may-clobber ∷ firstOf columns.must-clobber ∷ []
 
 -- sixteen words say the marks of n
 pub record MarkWords (p : Plan) (n : ℕ) (words : List ℕ) : Type 0 where
@@ -29,13 +31,16 @@ pub record StartWord (F : ℕ → Bool) (w : ℕ) : Type 0 where
 
 -- for every plan in which the row of n is right: word k of the sixteen; all of them
 abbrev pub WordIs : List ℕ → ℕ → ℕ → ℕ → Type 0
-WordIs rows n k r = (p : Plan) → WellFormed p → Node p n → Right p rows n → (v : Bool) (m : Mark) → k ≡ wordIndex v m → (f : ℕ) → f < 64
+WordIs rows n k r = (p : Plan) → WellFormed p → Node p n → Right p rows n → (v : Bool) (m : Mark) → k ≡ wordIndex v m
+    → (f : ℕ) → f < 64
     → Says r f (Marked p n f v m)
 
 abbrev pub WordsAre : List ℕ → ℕ → List ℕ → Type 0
 WordsAre rows n r = (p : Plan) → WellFormed p → Node p n → Right p rows n → MarkWords p n r
 
--- for every plan whose root has the words: the flags with a literal that has the mark m, or is false at the start and has the mark k
+-- for every plan whose root has the words: the flags with a literal that has the mark m, or is false at the start and
+-- has the mark k
 abbrev pub FailsWord : List ℕ → ℕ → ℕ → ℕ → ℕ → Type 0
-FailsWord words start i j r = (p : Plan) (F : ℕ → Bool) → MarkWords p 0 words → StartWord F start → (m k : Mark) → i ≡ byteOf m → j ≡ byteOf k
+FailsWord words start i j r = (p : Plan) (F : ℕ → Bool) → MarkWords p 0 words → StartWord F start → (m k : Mark)
+    → i ≡ byteOf m → j ≡ byteOf k
     → (f : ℕ) → f < 64 → Says r f ((v : Bool) × Fails p F m k f v)

@@ -78,7 +78,8 @@ pub record Demand3Of (b : List ℕ) : Type 0 where
       × ((u : Verdict) → Judged (planOf b) (startOf b) u → u ≡ v)
   -- it is CLEAR exactly if no call in any list returns 21 or 22
   pub clear : (r : Answer) → Assessed b r
-      → (said r ≡ inr CLEAR) ↔ ((s : List ℕ) (cs : List Call) (rs z : List ℕ) → Listed b s cs rs z → (n : ℕ) → Among n rs
+      → (said r ≡ inr CLEAR) ↔ ((s : List ℕ) (cs : List Call) (rs z : List ℕ) → Listed b s cs rs z → (n : ℕ)
+      → Among n rs
       → (n ≢ 21) × (n ≢ 22))
   -- if it is DOOMED, the root is complete after no list: not in the states worked out, and `status` never says so
   pub doomed : (r : Answer) → Assessed b r → said r ≡ inr DOOMED

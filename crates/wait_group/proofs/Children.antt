@@ -33,7 +33,10 @@ module _ {kids : List ℕ} {low : ℕ} {f : ℕ → ℕ} where
   greatest-turn {i} {x = x} l e q z h =
       let k : x ≡ f (getD kids i 0) = q ∙ ap f e in
       record {
-        bound = (every-next l) .0 (record { each = λ j a b. omega (arith, h .bound .each j a b, z) }, omega (arith, k, z));
+        bound = (every-next l) .0 (
+          record { each = λ j a b. omega (arith, h .bound .each j a b, z) },
+          omega (arith, k, z),
+        );
         least = λ u w. let p = (every-next l) .1 w in omega (arith, h .least u (p .0), p .1, k, z);
       }
 
@@ -56,11 +59,13 @@ module _ {b from kids : List ℕ} {k g : ℕ} (o : GroupOf b from kids k g) wher
               let e = child-at refl (record { low = l; high = m }) in
               greatest-le (isChild b g) f (nodeCount b) (getD kids j 0) (child-lower b ok g (getD kids j 0) e .1) e;
         }) in
-        let low = greatest-least (isChild b g) f (nodeCount b) v (λ c l e. every-listed (o .tree) (o .node) here (h .bound) c e) in
+        let low = greatest-least (isChild b g) f (nodeCount b) v
+        (λ c l e. every-listed (o .tree) (o .node) here (h .bound) c e) in
         omega arith
 
 -- an any-of group
-pub any-all : {b from kids : List ℕ} {g v : ℕ} {segment : Segment} → GroupOf b from kids 2 g → segment ≡ segmentOf from g
+pub any-all : {b from kids : List ℕ} {g v : ℕ} {segment : Segment} → GroupOf b from kids 2 g
+    → segment ≡ segmentOf from g
     → GreatestTo kids (segment .start) (lengthOf b) (segment .end) v → v ≡ lengthOf b g
 any-all {b} {g = g} o here h = greatest-all o here h ∙ sym (length-any b (ok o) g (o .node) (o .kind))
 
@@ -76,7 +81,8 @@ pub record SpreadTo (b kids : List ℕ) (segment : Segment) (lengths waits₀ wa
   pub done : Every kids (segment .start) i (ChildDone b waits)
   pub longest : GreatestTo kids (segment .start) (λ c. waitWithin b c + lengthOf b c) i v
 
-module _ {b from kids lengths waits₀ : List ℕ} {g : ℕ} {segment : Segment} (o : GroupOf b from kids 1 g) (here : segment ≡ segmentOf from g) where
+module _ {b from kids lengths waits₀ : List ℕ} {g : ℕ} {segment : Segment} (o : GroupOf b from kids 1 g)
+    (here : segment ≡ segmentOf from g) where
   pub spread-none : Tables b lengths waits₀ → SpreadTo b kids segment lengths waits₀ waits₀ (segment .start) 0
   spread-none t = record {
     tables = t;
@@ -85,7 +91,8 @@ module _ {b from kids lengths waits₀ : List ℕ} {g : ℕ} {segment : Segment}
     longest = greatest-start refl;
   }
 
-  module _ {waits : List ℕ} {i c v : ℕ} (e : c ≡ getD kids i 0) (p : Position segment i) (s : SpreadTo b kids segment lengths waits₀ waits i v) where
+  module _ {waits : List ℕ} {i c v : ℕ} (e : c ≡ getD kids i 0) (p : Position segment i)
+      (s : SpreadTo b kids segment lengths waits₀ waits i v) where
     -- all orders into c are met: their earlier nodes have lower numbers, so they stand before it
     spread-wait : getD waits c 0 ≡ waitWithin b c
     spread-wait =
@@ -93,38 +100,49 @@ module _ {b from kids lengths waits₀ : List ℕ} {g : ℕ} {segment : Segment}
         let up = s .tables .within c (child-lower b (ok o) g c h .1) in
         let low = waits-least b (ok o) g c (getD waits c 0) h (o .kind) (λ j l q.
         let x = earlier-child b (ok o) g c j l q h in
-        rw q at (lower-before (o .tree) (o .node) here p (s .done) (earlierOf b j) (x .1) (rw e at (x .0)) .met j l refl)) in
+        rw q at (lower-before (o .tree) (o .node) here p (s .done) (earlierOf b j) (x .1)
+        (rw e at (x .0)) .met j l refl)) in
         omega arith
 
     pub spread-end : ChildLengths b lengths g
-        → (getD waits c 0 + getD lengths c 0 ≡ waitWithin b c + lengthOf b c) × (waitWithin b c + lengthOf b c ≤ 1290240)
-    spread-end h = (omega (arith, spread-wait, h .is c (child-at o here e p)), child-limit b (ok o) g c (child-at o here e p))
+        → (getD waits c 0 + getD lengths c 0 ≡ waitWithin b c + lengthOf b c)
+        × (waitWithin b c + lengthOf b c ≤ 1290240)
+    spread-end h = (
+      omega (arith, spread-wait, h .is c (child-at o here e p)),
+      child-limit b (ok o) g c (child-at o here e p),
+    )
 
-    pub spread-more : {waits' : List ℕ} {x y : ℕ} → x ≡ waitWithin b c + lengthOf b c → Raised b waits waits' c x
-        → y ≡ max v x → SpreadTo b kids segment lengths waits₀ waits' (i + 1) y
-    spread-more {waits'} {x} q r m = record {
-      tables = record { lengths-long = s .tables .lengths-long; waits-long = r .long; tasks = s .tables .tasks; within = within };
+    pub spread-more : {waits′ : List ℕ} {x y : ℕ} → x ≡ waitWithin b c + lengthOf b c → Raised b waits waits′ c x
+        → y ≡ max v x → SpreadTo b kids segment lengths waits₀ waits′ (i + 1) y
+    spread-more {waits′} {x} q r m = record {
+      tables = record {
+        lengths-long = s .tables .lengths-long;
+        waits-long = r .long;
+        tasks = s .tables .tasks;
+        within = within;
+      };
       grown = λ n. omega (arith, s .grown n, r .grown n);
       done = (every-next (p .low)) .0 (record { each = λ j l k. still j l k (s .done .each j l k) }, rw e at own);
       longest = greatest-turn (p .low) e q m (s .longest);
     }
       where
-        within : (n : ℕ) → n < nodeCount b → getD waits' n 0 ≤ waitWithin b n
+        within : (n : ℕ) → n < nodeCount b → getD waits′ n 0 ≤ waitWithin b n
         within n l = r .only n (waitWithin b n) (s .tables .within n l) (λ j k z w.
             let y = order-waits b (ok o) j k in
             omega (arith, ap (λ (u : ℕ). waitWithin b u + lengthOf b u) z, ap (waitWithin b) w))
 
-        kept : (d : ℕ) → isChild b g d ≡ true → getD waits d 0 ≡ waitWithin b d → getD waits' d 0 ≡ waitWithin b d
+        kept : (d : ℕ) → isChild b g d ≡ true → getD waits d 0 ≡ waitWithin b d → getD waits′ d 0 ≡ waitWithin b d
         kept d h z = let up = within d (child-lower b (ok o) g d h .1) in let low = r .grown d in omega arith
 
         still : (j : ℕ) → segment .start ≤ j → j < i → ChildDone b waits (getD kids j 0)
-            → ChildDone b waits' (getD kids j 0)
+            → ChildDone b waits′ (getD kids j 0)
         still j l k z = record {
-          wait = kept (getD kids j 0) (child-at o here refl (record { low = l; high = omega (arith, p .high) })) (z .wait);
+          wait = kept (getD kids j 0) (child-at o here refl (record { low = l; high = omega (arith, p .high) }))
+              (z .wait);
           met = λ n m w. omega (arith, z .met n m w, r .grown (laterOf b n));
         }
 
-        own : ChildDone b waits' c
+        own : ChildDone b waits′ c
         own = record { wait = kept c (child-at o here e p) spread-wait; met = λ j l w. omega (arith, r .reached j l w) }
 
   pub spread-all : {waits : List ℕ} {v : ℕ} → SpreadTo b kids segment lengths waits₀ waits (segment .end) v

@@ -16,11 +16,12 @@ pub record FirstOrder (b : List ℕ) (c r : ℕ) : Type 0 where
   pub from : (j : ℕ) → r ≤ j → j < orderCount b → c ≤ earlierOf b j
 
 -- the waits of the later nodes of the orders of c are raised to v, where they are below it; nothing else changes
-pub record Raised (b waits waits' : List ℕ) (c v : ℕ) : Type 0 where
-  pub long : length waits' ≡ 128
-  pub grown : (m : ℕ) → getD waits m 0 ≤ getD waits' m 0
-  pub reached : (j : ℕ) → j < orderCount b → earlierOf b j ≡ c → v ≤ getD waits' (laterOf b j) 0
-  pub only : (m u : ℕ) → getD waits m 0 ≤ u → ((j : ℕ) → j < orderCount b → earlierOf b j ≡ c → laterOf b j ≡ m → v ≤ u) → getD waits' m 0 ≤ u
+pub record Raised (b waits waits′ : List ℕ) (c v : ℕ) : Type 0 where
+  pub long : length waits′ ≡ 128
+  pub grown : (m : ℕ) → getD waits m 0 ≤ getD waits′ m 0
+  pub reached : (j : ℕ) → j < orderCount b → earlierOf b j ≡ c → v ≤ getD waits′ (laterOf b j) 0
+  pub only : (m u : ℕ) → getD waits m 0 ≤ u → ((j : ℕ) → j < orderCount b → earlierOf b j ≡ c → laterOf b j ≡ m → v ≤ u)
+      → getD waits′ m 0 ≤ u
 
 -- g is a group of kind k of an accepted plan, and the table of children is the plan's
 pub record GroupOf (b from kids : List ℕ) (k g : ℕ) : Type 0 where
@@ -29,7 +30,8 @@ pub record GroupOf (b from kids : List ℕ) (k g : ℕ) : Type 0 where
   pub node : g < nodeCount b
   pub kind : kindOf b g ≡ k
 
--- the tables before and while the groups are worked out: the lengths of the tasks stand, and no wait is beyond the one within its group
+-- the tables before and while the groups are worked out: the lengths of the tasks stand, and no wait is beyond the one
+-- within its group
 pub record Tables (b lengths waits : List ℕ) : Type 0 where
   pub lengths-long : length lengths ≡ 128
   pub waits-long : length waits ≡ 128
@@ -41,8 +43,8 @@ pub record ChildLengths (b lengths : List ℕ) (n : ℕ) : Type 0 where
   pub is : (c : ℕ) → isChild b n c ≡ true → getD lengths c 0 ≡ lengthOf b c
 
 -- the waits of the children of an all-of group n are worked out, and r is its length
-pub record Spread (b lengths waits waits' : List ℕ) (n r : ℕ) : Type 0 where
-  pub tables : Tables b lengths waits'
-  pub grown : (m : ℕ) → getD waits m 0 ≤ getD waits' m 0
-  pub children : (c : ℕ) → isChild b n c ≡ true → getD waits' c 0 ≡ waitWithin b c
+pub record Spread (b lengths waits waits′ : List ℕ) (n r : ℕ) : Type 0 where
+  pub tables : Tables b lengths waits′
+  pub grown : (m : ℕ) → getD waits m 0 ≤ getD waits′ m 0
+  pub children : (c : ℕ) → isChild b n c ≡ true → getD waits′ c 0 ≡ waitWithin b c
   pub greatest : r ≡ lengthOf b n

@@ -54,7 +54,8 @@ fn raise(plan: &[u8], waits: &mut [u32; 128], c: usize, end: u32)
     }
 }
 
-// Works out the waits of the children of an all-of group, in the order of their numbers, and answers the length of the group.
+// Works out the waits of the children of an all-of group, in the order of their numbers, and answers the length of the
+// group.
 pub fn spread(
     plan: &[u8],
     from: &[u8; 129],
@@ -63,8 +64,10 @@ pub fn spread(
     waits: &mut [u32; 128],
     node: usize,
 ) -> u32
-    requires { ⌜ GroupOf (now plan) (now from) (now kids) 1 node × Tables (now plan) (now lengths) (now waits) × ChildLengths (now plan) (now lengths) node ⌝ }
-    ensures { λ r. ⌜ Spread (now (plan .entry)) (now (lengths .entry)) (now (waits .entry)) (now (waits .exit)) node r ⌝ }
+    requires { ⌜ GroupOf (now plan) (now from) (now kids) 1 node × Tables (now plan) (now lengths) (now waits)
+        × ChildLengths (now plan) (now lengths) node ⌝ }
+    ensures { λ r. ⌜ Spread (now (plan .entry)) (now (lengths .entry)) (now (waits .entry))
+        (now (waits .exit)) node r ⌝ }
 {
     let mut longest = 0u32;
     let segment = children(from, node);

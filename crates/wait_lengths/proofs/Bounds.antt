@@ -1,4 +1,5 @@
--- No wait with its length is beyond the length of the root, and that is at most the sum of all minutes. Assumes nothing.
+-- No wait with its length is beyond the length of the root, and that is at most the sum of all minutes. Assumes
+-- nothing.
 use mathlib.Core.Path.{_≡_, refl, sym, ap, _∙_}
 use mathlib.Core.Logic.{_⊎_, inl, inr, ⊎-elim, by-cases}
 use mathlib.Core.Bool.{Bool, true, false, cond, _&&_, _||_}
@@ -16,8 +17,10 @@ use Rattle.plan_rules.proofs.Causes.{root-parent, parent-group}
 use Rattle.plan_check.proofs.Meaning.{kind-is, kind-of, kind-group, group-is, group-of, kind-limit}
 use Rattle.wait_lengths.specs.Waits.{lengthOf, waitWithin, waitsTo, longestWait}
 use Rattle.wait_lengths.proofs.Greatest.{greatest-le, greatest-least}
-use Rattle.wait_lengths.proofs.Laws.{child-lower, earlier-child, length-task, length-any, length-all, waits-least}
-use Rattle.wait_lengths.proofs.Sums.{sum, sum-grows, sum-le, sum-more, sum-has, sum-balance, sum-none, sum-one, sum-same}
+use Rattle.wait_lengths.proofs.Laws.{child-lower, earlier-child, length-task, length-any, length-all}
+use Rattle.wait_lengths.proofs.Laws.{waits-least}
+use Rattle.wait_lengths.proofs.Sums.{sum, sum-grows, sum-le, sum-more, sum-has, sum-balance, sum-none, sum-one}
+use Rattle.wait_lengths.proofs.Sums.{sum-same}
 
 and-false : (a : Bool) → (a && false) ≡ false
 and-false true = refl
@@ -36,43 +39,50 @@ module _ (b : List ℕ) (ok : Clean b) where
   no-wait n h = rw (not-passed (isKind b (parentOf b n) 1) h)
 
   pub wait-any : (g c : ℕ) → isChild b g c ≡ true → kindOf b g ≡ 2 → waitWithin b c ≡ 0
-  wait-any g c h e = no-wait c (λ q. omega (arith, kind-is b (parentOf b c) 1 q .1, ap (kindOf b) (child-lower b ok g c h .2)))
+  wait-any g c h e = no-wait c (λ q. omega
+      (arith, kind-is b (parentOf b c) 1 q .1, ap (kindOf b) (child-lower b ok g c h .2)))
 
   pub wait-root : waitWithin b 0 ≡ 0
-  wait-root = no-wait 0 (λ q. omega (arith, kind-is b (parentOf b 0) 1 q .0, root-parent b (ok .fits) (ok .parents), ok .fits .limits .nodes))
+  wait-root = no-wait 0 (λ q. omega
+      (arith, kind-is b (parentOf b 0) 1 q .0, root-parent b (ok .fits) (ok .parents), ok .fits .limits .nodes))
 
   pub child-ends : (g c : ℕ) → isChild b g c ≡ true → waitWithin b c + lengthOf b c ≤ lengthOf b g
   child-ends g c h =
       let w = child-lower b ok g c h in
       ⊎-elim
-      (λ (e : kindOf b g ≡ 1). rw (length-all b ok g (omega arith) e) (greatest-le (isChild b g) (λ d. waitWithin b d + lengthOf b d) (nodeCount b) c (w .1) h))
+      (λ (e : kindOf b g ≡ 1). rw (length-all b ok g (omega arith) e)
+      (greatest-le (isChild b g) (λ d. waitWithin b d + lengthOf b d) (nodeCount b) c (w .1) h))
       (λ (e : kindOf b g ≡ 2).
-      rw (wait-any g c h e, length-any b ok g (omega arith) e) (omega (arith, greatest-le (isChild b g) (lengthOf b) (nodeCount b) c (w .1) h)))
+      rw (wait-any g c h e, length-any b ok g (omega arith) e)
+      (omega (arith, greatest-le (isChild b g) (lengthOf b) (nodeCount b) c (w .1) h)))
       (group-kind g c h)
 
   -- ---- the longest waits by parents
-  waits-enough : (k k' n : ℕ) → n < nodeCount b → n ≤ k → n ≤ k' → waitsTo b k n ≡ waitsTo b k' n
+  waits-enough : (k k′ n : ℕ) → n < nodeCount b → n ≤ k → n ≤ k′ → waitsTo b k n ≡ waitsTo b k′ n
   unfolding waitsTo
-  waits-enough zero zero n l m m' = refl
-  waits-enough zero (suc k') zero l m m' = refl
-  waits-enough (suc k) zero zero l m m' = refl
-  waits-enough (suc k) (suc k') zero l m m' = refl
-  waits-enough zero (suc k') (suc n) l m m' = absurd (omega arith)
-  waits-enough (suc k) zero (suc n) l m m' = absurd (omega arith)
-  waits-enough (suc k) (suc k') (suc n) l m m' =
+  waits-enough zero zero n l m m′ = refl
+  waits-enough zero (suc k′) zero l m m′ = refl
+  waits-enough (suc k) zero zero l m m′ = refl
+  waits-enough (suc k) (suc k′) zero l m m′ = refl
+  waits-enough zero (suc k′) (suc n) l m m′ = absurd (omega arith)
+  waits-enough (suc k) zero (suc n) l m m′ = absurd (omega arith)
+  waits-enough (suc k) (suc k′) (suc n) l m m′ =
       let p = parent-group b (ok .fits) (ok .parents) (suc n) (omega arith) l .0 in
-      ap (λ (w : ℕ). w + waitWithin b (suc n)) (waits-enough k k' (parentOf b (suc n)) (omega arith) (omega arith) (omega arith))
+      ap (λ (w : ℕ). w + waitWithin b (suc n))
+      (waits-enough k k′ (parentOf b (suc n)) (omega arith) (omega arith) (omega arith))
 
   pub longest-root : longestWait b 0 ≡ 0
   unfolding longestWait waitsTo
   longest-root = refl
 
-  pub longest-child : (n : ℕ) → 0 < n → n < nodeCount b → longestWait b n ≡ longestWait b (parentOf b n) + waitWithin b n
+  pub longest-child : (n : ℕ) → 0 < n → n < nodeCount b
+      → longestWait b n ≡ longestWait b (parentOf b n) + waitWithin b n
   unfolding longestWait waitsTo
   longest-child zero z l = absurd (omega arith)
   longest-child (suc n) z l =
       let p = parent-group b (ok .fits) (ok .parents) (suc n) (omega arith) l .0 in
-      ap (λ (w : ℕ). w + waitWithin b (suc n)) (waits-enough n (parentOf b (suc n)) (parentOf b (suc n)) (omega arith) (omega arith) (omega arith))
+      ap (λ (w : ℕ). w + waitWithin b (suc n))
+      (waits-enough n (parentOf b (suc n)) (parentOf b (suc n)) (omega arith) (omega arith) (omega arith))
 
   -- every node is a child of its parent
   pub own-child : (n : ℕ) → 0 < n → n < nodeCount b → isChild b (parentOf b n) n ≡ true
@@ -125,7 +135,8 @@ module _ (b : List ℕ) (ok : Clean b) where
       by-cases (ℕ-discrete (kindOf b n) 0) (λ (e : kindOf b n ≡ 0). omega (arith, length-task b ok n l e))
       (λ z.
       by-cases (ℕ-discrete (kindOf b n) 1)
-      (λ (e : kindOf b n ≡ 1). rw (length-all b ok n l e) (greatest-least (isChild b n) (λ c. waitWithin b c + lengthOf b c) (nodeCount b) _ (λ c m h.
+      (λ (e : kindOf b n ≡ 1). rw (length-all b ok n l e)
+      (greatest-least (isChild b n) (λ c. waitWithin b c + lengthOf b c) (nodeCount b) _ (λ c m h.
       omega (
         arith,
         wait-sum (suc c) n c (omega arith) h e,
@@ -133,10 +144,12 @@ module _ (b : List ℕ) (ok : Clean b) where
         sum-more c (childLength n),
         sum-grows (childLength n) (suc c) (nodeCount b) m,
       ))))
-      (λ y. rw (length-any b ok n l (omega (arith, kind-limit b ok n l))) (greatest-least (isChild b n) (lengthOf b) (nodeCount b) _ (λ c m h.
+      (λ y. rw (length-any b ok n l (omega (arith, kind-limit b ok n l)))
+      (greatest-least (isChild b n) (lengthOf b) (nodeCount b) _ (λ c m h.
       omega (arith, child-length n c h, sum-has (nodeCount b) c (childLength n) m)))))
 
-  -- ---- so the lengths of the nodes from k on whose parents are below k, with the minutes of the nodes below k, do not fall as k rises
+  -- ---- so the lengths of the nodes from k on whose parents are below k, with the minutes of the nodes below k, do not
+  -- fall as k rises
   openLength : ℕ → ℕ → ℕ
   openLength k c = cond (leb k c && ltb (parentOf b c) k) (lengthOf b c) 0
 
@@ -164,16 +177,29 @@ module _ (b : List ℕ) (ok : Clean b) where
   unfolding only
   only-other k c h = rw (ne-eqb c k h)
 
-  balance : (k : ℕ) → 0 < k → k < nodeCount b → (c : ℕ) → c < nodeCount b → openLength k c + childLength k c ≡ openLength (suc k) c + only k c
+  balance : (k : ℕ) → 0 < k → k < nodeCount b → (c : ℕ) → c < nodeCount b
+      → openLength k c + childLength k c ≡ openLength (suc k) c + only k c
   balance k z l c m =
       by-cases (ℕ-discrete c k)
       (λ (e : c ≡ k).
       let p = parent-group b (ok .fits) (ok .parents) k z l .0 in
-      rw e (omega (arith, open-from k k (omega arith) p, other-length k k (λ h. omega (arith, child-lower b ok k k h)), open-below (suc k) k (omega arith), only-is k)))
+      rw e (omega (
+        arith,
+        open-from k k (omega arith) p,
+        other-length k k (λ h. omega (arith, child-lower b ok k k h)),
+        open-below (suc k) k (omega arith),
+        only-is k,
+      )))
       (λ ne.
       by-cases (decLt c k)
       (λ (q : c < k).
-      omega (arith, open-below k c q, other-length k c (λ h. omega (arith, child-lower b ok k c h)), open-below (suc k) c (omega arith), only-other k c ne))
+      omega (
+        arith,
+        open-below k c q,
+        other-length k c (λ h. omega (arith, child-lower b ok k c h)),
+        open-below (suc k) c (omega arith),
+        only-other k c ne,
+      ))
       (λ q.
       by-cases (ℕ-discrete (parentOf b c) k)
       (λ (e : parentOf b c ≡ k).
@@ -187,7 +213,8 @@ module _ (b : List ℕ) (ok : Clean b) where
       (λ e.
       let o : childLength k c ≡ 0 = other-length k c (λ h. e (child-lower b ok k c h .2)) in
       by-cases (decLt (parentOf b c) k)
-      (λ (y : parentOf b c < k). omega (arith, open-from k c (omega arith) y, open-from (suc k) c (omega arith) (omega arith), only-other k c ne))
+      (λ (y : parentOf b c < k). omega
+      (arith, open-from k c (omega arith) y, open-from (suc k) c (omega arith) (omega arith), only-other k c ne))
       (λ y. omega (arith, open-within k c (omega arith), open-within (suc k) c (omega arith), only-other k c ne)))))
 
   -- ---- the sum
@@ -213,22 +240,27 @@ module _ (b : List ℕ) (ok : Clean b) where
   minutes-limit : (n : ℕ) → n < nodeCount b → minutesOf b n ≤ 10080
   unfolding cause6 badEntry
   minutes-limit n l =
-      let w = or-none (ltb 2 (kindOf b n) || (isGroup b n && ltb 0 (minutesOf b n))) (isKind b n 0 && ltb 10080 (minutesOf b n)) (none-at (nodeCount b) (badEntry b) (ok .entries) n l) in
+      let w = or-none (ltb 2 (kindOf b n) || (isGroup b n && ltb 0 (minutesOf b n)))
+      (isKind b n 0 && ltb 10080 (minutesOf b n)) (none-at (nodeCount b) (badEntry b) (ok .entries) n l) in
       let u = or-none (ltb 2 (kindOf b n)) (isGroup b n && ltb 0 (minutesOf b n)) (w .0) .1 in
       by-cases (ℕ-discrete (kindOf b n) 0)
       (λ (e : kindOf b n ≡ 0). ltb-false 10080 (minutesOf b n) (rw (kind-of b n 0 l e) at (w .1)))
       (λ e.
-      let k : (kindOf b n ≡ 1) ⊎ (kindOf b n ≡ 2) = by-cases (ℕ-discrete (kindOf b n) 1) (λ (q : kindOf b n ≡ 1). inl q) (λ q. inr (omega (arith, kind-limit b ok n l))) in
+      let k : (kindOf b n ≡ 1) ⊎ (kindOf b n ≡ 2) =
+      by-cases (ℕ-discrete (kindOf b n) 1) (λ (q : kindOf b n ≡ 1). inl q)
+      (λ q. inr (omega (arith, kind-limit b ok n l))) in
       omega (arith, ltb-false 0 (minutesOf b n) (rw (group-of b ok n l (kind-group (kindOf b n) k)) at u)))
 
   -- at the root
   open-root : (c : ℕ) → c < nodeCount b → openLength 1 c ≡ childLength 0 c
   open-root c l =
       by-cases (ℕ-discrete c 0)
-      (λ (e : c ≡ 0). rw e (open-below 1 0 (omega arith) ∙ sym (other-length 0 0 (λ h. omega (arith, child-lower b ok 0 0 h)))))
+      (λ (e : c ≡ 0). rw e (open-below 1 0 (omega arith)
+      ∙ sym (other-length 0 0 (λ h. omega (arith, child-lower b ok 0 0 h)))))
       (λ ne.
       by-cases (ℕ-discrete (parentOf b c) 0)
-      (λ (e : parentOf b c ≡ 0). open-from 1 c (omega arith) (omega arith) ∙ sym (child-length 0 c (rw e at (own-child c (omega arith) l))))
+      (λ (e : parentOf b c ≡ 0). open-from 1 c (omega arith) (omega arith)
+      ∙ sym (child-length 0 c (rw e at (own-child c (omega arith) l))))
       (λ e. open-within 1 c (omega arith) ∙ sym (other-length 0 c (λ h. e (child-lower b ok 0 c h .2)))))
 
   pub root-length : lengthOf b 0 ≤ nodeCount b * 10080

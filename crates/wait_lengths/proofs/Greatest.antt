@@ -9,7 +9,8 @@ use Rattle.plan_rules.proofs.Laws.{either}
 use Rattle.wait_lengths.specs.Waits.{greatest}
 
 -- as far as the numbers that pass go
-pub greatest-same : (n : ℕ) (p : ℕ → Bool) (f g : ℕ → ℕ) → ((i : ℕ) → i < n → p i ≡ true → f i ≡ g i) → greatest n p f ≡ greatest n p g
+pub greatest-same : (n : ℕ) (p : ℕ → Bool) (f g : ℕ → ℕ) → ((i : ℕ) → i < n → p i ≡ true → f i ≡ g i)
+    → greatest n p f ≡ greatest n p g
 unfolding greatest
 greatest-same zero p f g h = refl
 greatest-same (suc n) p f g h =
@@ -42,4 +43,5 @@ module _ (p : ℕ → Bool) (f : ℕ → ℕ) where
   greatest-least zero v h = omega arith
   greatest-least (suc n) v h =
       let r = greatest-least n v (λ i l e. h i (omega arith) e) in
-      ⊎-elim (λ (q : p n ≡ true). rw q (omega (arith, h n (omega arith) q))) (λ (q : p n ≡ false). rw q r) (either (p n))
+      ⊎-elim (λ (q : p n ≡ true). rw q (omega (arith, h n (omega arith) q))) (λ (q : p n ≡ false). rw q r)
+      (either (p n))

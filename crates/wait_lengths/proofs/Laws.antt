@@ -39,7 +39,8 @@ module _ (b : List ℕ) (ok : Clean b) where
       record { lower = s .0; all = s .1; earlier = s .2; later = s .3 }
 
   -- the earlier node of an order into a child of g is a child of g
-  pub earlier-child : (g c j : ℕ) → j < orderCount b → laterOf b j ≡ c → isChild b g c ≡ true → (earlierOf b j < c) × (isChild b g (earlierOf b j) ≡ true)
+  pub earlier-child : (g c j : ℕ) → j < orderCount b → laterOf b j ≡ c → isChild b g c ≡ true
+      → (earlierOf b j < c) × (isChild b g (earlierOf b j) ≡ true)
   earlier-child g c j l e h =
       let o = ordered j l in
       let p = child-lower _ _ (o .later) .2 in
@@ -48,36 +49,42 @@ module _ (b : List ℕ) (ok : Clean b) where
       (omega (arith, o .lower, e), rw z at (o .earlier))
 
   -- the lengths matter only at the children of the group
-  wait-same : (len len' : ℕ → ℕ) (g : ℕ) → ((e : ℕ) → isChild b g e ≡ true → len e ≡ len' e) → (k c : ℕ) → isChild b g c ≡ true → waitBy b len k c ≡ waitBy b len' k c
+  wait-same : (len len′ : ℕ → ℕ) (g : ℕ) → ((e : ℕ) → isChild b g e ≡ true → len e ≡ len′ e) → (k c : ℕ)
+      → isChild b g c ≡ true → waitBy b len k c ≡ waitBy b len′ k c
   unfolding waitBy
-  wait-same len len' g h zero c hc = refl
-  wait-same len len' g h (suc k) c hc = greatest-same (orderCount b) _ _ _ (λ j l e.
+  wait-same len len′ g h zero c hc = refl
+  wait-same len len′ g h (suc k) c hc = greatest-same (orderCount b) _ _ _ (λ j l e.
       let x = earlier-child g c j l (eqb-true (laterOf b j) c e) hc .1 in
-      rw (wait-same len len' g h k (earlierOf b j) x, h (earlierOf b j) x))
+      rw (wait-same len len′ g h k (earlierOf b j) x, h (earlierOf b j) x))
 
-  wait-enough : (len : ℕ → ℕ) (k k' c : ℕ) → c < k → c < k' → waitBy b len k c ≡ waitBy b len k' c
+  wait-enough : (len : ℕ → ℕ) (k k′ c : ℕ) → c < k → c < k′ → waitBy b len k c ≡ waitBy b len k′ c
   unfolding waitBy
-  wait-enough len zero k' c l l' = absurd (omega arith)
-  wait-enough len (suc k) zero c l l' = absurd (omega arith)
-  wait-enough len (suc k) (suc k') c l l' = greatest-same (orderCount b) _ _ _ (λ j m e.
+  wait-enough len zero k′ c l l′ = absurd (omega arith)
+  wait-enough len (suc k) zero c l l′ = absurd (omega arith)
+  wait-enough len (suc k) (suc k′) c l l′ = greatest-same (orderCount b) _ _ _ (λ j m e.
       let o = ordered j m in
       let x = eqb-true (laterOf b j) c e in
-      ap (λ (w : ℕ). w + len (earlierOf b j)) (wait-enough len k k' (earlierOf b j) (omega (arith, o .lower)) (omega (arith, o .lower))))
+      ap (λ (w : ℕ). w + len (earlierOf b j))
+      (wait-enough len k k′ (earlierOf b j) (omega (arith, o .lower)) (omega (arith, o .lower))))
 
-  length-same : (len len' : ℕ → ℕ) (n : ℕ) → ((c : ℕ) → isChild b n c ≡ true → len c ≡ len' c) → (κ : Kind) → lengthAs b len κ n ≡ lengthAs b len' κ n
+  length-same : (len len′ : ℕ → ℕ) (n : ℕ) → ((c : ℕ) → isChild b n c ≡ true → len c ≡ len′ c) → (κ : Kind)
+      → lengthAs b len κ n ≡ lengthAs b len′ κ n
   unfolding lengthAs
-  length-same len len' n h task = refl
-  length-same len len' n h any-of = greatest-same (nodeCount b) _ _ _ (λ c l e. h c e)
-  length-same len len' n h all-of = greatest-same (nodeCount b) _ _ _ (λ c l e. rw (wait-same len len' n h (nodeCount b) c e, h c e))
+  length-same len len′ n h task = refl
+  length-same len len′ n h any-of = greatest-same (nodeCount b) _ _ _ (λ c l e. h c e)
+  length-same len len′ n h all-of =
+      greatest-same (nodeCount b) _ _ _ (λ c l e. rw (wait-same len len′ n h (nodeCount b) c e, h c e))
 
-  length-enough : (k k' n : ℕ) → n < nodeCount b → nodeCount b ≤ k + n → nodeCount b ≤ k' + n → lengthBy b k n ≡ lengthBy b k' n
+  length-enough : (k k′ n : ℕ) → n < nodeCount b → nodeCount b ≤ k + n → nodeCount b ≤ k′ + n
+      → lengthBy b k n ≡ lengthBy b k′ n
   unfolding lengthBy
-  length-enough zero k' n l m m' = absurd (omega arith)
-  length-enough (suc k) zero n l m m' = absurd (omega arith)
-  length-enough (suc k) (suc k') n l m m' = length-same (lengthBy b k) (lengthBy b k') n (λ c e.
-      let w = child-lower n c e in length-enough k k' c (w .1) (omega arith) (omega arith)) (kindAt (kindOf b n))
+  length-enough zero k′ n l m m′ = absurd (omega arith)
+  length-enough (suc k) zero n l m m′ = absurd (omega arith)
+  length-enough (suc k) (suc k′) n l m m′ = length-same (lengthBy b k) (lengthBy b k′) n (λ c e.
+      let w = child-lower n c e in length-enough k k′ c (w .1) (omega arith) (omega arith)) (kindAt (kindOf b n))
 
-  length-fewer : (k n : ℕ) → nodeCount b ≡ k → n < nodeCount b → lengthBy b k n ≡ lengthAs b (lengthBy b k) (kindAt (kindOf b n)) n
+  length-fewer : (k n : ℕ) → nodeCount b ≡ k → n < nodeCount b
+      → lengthBy b k n ≡ lengthAs b (lengthBy b k) (kindAt (kindOf b n)) n
   unfolding lengthBy
   length-fewer zero n e l = absurd (omega arith)
   length-fewer (suc k) n e l = length-same (lengthBy b k) (lengthBy b (suc k)) n (λ c h.
@@ -88,7 +95,8 @@ module _ (b : List ℕ) (ok : Clean b) where
   length-is n l = length-fewer (nodeCount b) n refl l
 
   -- the wait of a child of an all-of group
-  within-all : (n : ℕ) → parentOf b n < nodeCount b → kindOf b (parentOf b n) ≡ 1 → waitWithin b n ≡ waitBy b (lengthOf b) (nodeCount b) n
+  within-all : (n : ℕ) → parentOf b n < nodeCount b → kindOf b (parentOf b n) ≡ 1
+      → waitWithin b n ≡ waitBy b (lengthOf b) (nodeCount b) n
   unfolding waitWithin
   within-all n l e = rw (kind-of b (parentOf b n) 1 l e)
 
@@ -104,7 +112,8 @@ module _ (b : List ℕ) (ok : Clean b) where
     length-any e = length-is n l ∙ rw (kind-any-of (kindOf b n) e)
 
     -- all-of: the greatest wait within it plus length over its children
-    pub length-all : kindOf b n ≡ 1 → lengthOf b n ≡ greatest (nodeCount b) (isChild b n) (λ c. waitWithin b c + lengthOf b c)
+    pub length-all : kindOf b n ≡ 1
+        → lengthOf b n ≡ greatest (nodeCount b) (isChild b n) (λ c. waitWithin b c + lengthOf b c)
     unfolding lengthAs
     length-all e = length-is n l ∙ rw (kind-all-of (kindOf b n) e) (greatest-same (nodeCount b) _ _ _ (λ c m h.
         let w = child-lower n c h in
@@ -112,7 +121,8 @@ module _ (b : List ℕ) (ok : Clean b) where
 
   -- a child's wait within an all-of group: 0, or the greatest wait plus length among its orders' earlier nodes
   pub wait-all : (g c : ℕ) → isChild b g c ≡ true → kindOf b g ≡ 1
-      → waitWithin b c ≡ greatest (orderCount b) (λ j. eqb (laterOf b j) c) (λ j. waitWithin b (earlierOf b j) + lengthOf b (earlierOf b j))
+      → waitWithin b c ≡ greatest (orderCount b) (λ j. eqb (laterOf b j) c)
+      (λ j. waitWithin b (earlierOf b j) + lengthOf b (earlierOf b j))
   unfolding waitBy
   wait-all g c h e =
       let w = child-lower g c h in
@@ -120,17 +130,23 @@ module _ (b : List ℕ) (ok : Clean b) where
       ∙ wait-enough (lengthOf b) (nodeCount b) (suc (nodeCount b)) c (w .1) (omega arith)
       ∙ greatest-same (orderCount b) _ _ _ (λ j l q.
       let x = child-lower g _ (earlier-child g c j l (eqb-true (laterOf b j) c q) h .1) in
-      ap (λ (v : ℕ). v + lengthOf b (earlierOf b j)) (sym (within-all (earlierOf b j) (omega (arith, x .2)) (ap (kindOf b) (x .2) ∙ e))))
+      ap (λ (v : ℕ). v + lengthOf b (earlierOf b j))
+      (sym (within-all (earlierOf b j) (omega (arith, x .2)) (ap (kindOf b) (x .2) ∙ e))))
 
   -- so an order's later node waits for the earlier one, and no longer than its orders ask
-  pub order-waits : (j : ℕ) → j < orderCount b → waitWithin b (earlierOf b j) + lengthOf b (earlierOf b j) ≤ waitWithin b (laterOf b j)
+  pub order-waits : (j : ℕ) → j < orderCount b
+      → waitWithin b (earlierOf b j) + lengthOf b (earlierOf b j) ≤ waitWithin b (laterOf b j)
   order-waits j l =
       let o = ordered j l in
       rw (wait-all _ (laterOf b j) (o .later) (o .all))
-      (greatest-le (λ i. eqb (laterOf b i) (laterOf b j)) (λ i. waitWithin b (earlierOf b i) + lengthOf b (earlierOf b i)) (orderCount b) j l (eq-eqb (laterOf b j) (laterOf b j) refl))
+      (greatest-le (λ i. eqb (laterOf b i) (laterOf b j))
+      (λ i. waitWithin b (earlierOf b i) + lengthOf b (earlierOf b i)) (orderCount b) j l
+      (eq-eqb (laterOf b j) (laterOf b j) refl))
 
   pub waits-least : (g c v : ℕ) → isChild b g c ≡ true → kindOf b g ≡ 1
-      → ((j : ℕ) → j < orderCount b → laterOf b j ≡ c → waitWithin b (earlierOf b j) + lengthOf b (earlierOf b j) ≤ v) → waitWithin b c ≤ v
+      → ((j : ℕ) → j < orderCount b → laterOf b j ≡ c → waitWithin b (earlierOf b j) + lengthOf b (earlierOf b j) ≤ v)
+      → waitWithin b c ≤ v
   waits-least g c v h e f =
       rw (wait-all g c h e)
-      (greatest-least (λ i. eqb (laterOf b i) c) (λ i. waitWithin b (earlierOf b i) + lengthOf b (earlierOf b i)) (orderCount b) v (λ j l q. f j l (eqb-true (laterOf b j) c q)))
+      (greatest-least (λ i. eqb (laterOf b i) c) (λ i. waitWithin b (earlierOf b i) + lengthOf b (earlierOf b i))
+      (orderCount b) v (λ j l q. f j l (eqb-true (laterOf b j) c q)))

@@ -56,7 +56,8 @@ module _ (p : ℕ → Bool) (f : ℕ → ℕ) where
 
 module _ (b : List ℕ) (ok : Clean b) where
   -- over the children of a group
-  over-children : (g : ℕ) (f : ℕ → ℕ) → g < nodeCount b → (kindOf b g ≡ 1) ⊎ (kindOf b g ≡ 2) → Greatest (Child b g) f (greatest (nodeCount b) (isChild b g) f)
+  over-children : (g : ℕ) (f : ℕ → ℕ) → g < nodeCount b → (kindOf b g ≡ 1) ⊎ (kindOf b g ≡ 2)
+      → Greatest (Child b g) f (greatest (nodeCount b) (isChild b g) f)
   over-children g f l k =
       let w = child-of b ok g l (group-of b ok g l (kind-group (kindOf b g) k)) in
       let h : isChild b g (w .0) ≡ true = rw (w .3) at (own-child b ok (w .0) (w .1) (w .2)) in
@@ -71,7 +72,8 @@ module _ (b : List ℕ) (ok : Clean b) where
   into c j = eqb (laterOf b j) c
 
   -- over them
-  over-orders : (c j : ℕ) (f : ℕ → ℕ) → OrderInto b c j → Greatest (OrderInto b c) f (greatest (orderCount b) (into c) f)
+  over-orders : (c j : ℕ) (f : ℕ → ℕ) → OrderInto b c j
+      → Greatest (OrderInto b c) f (greatest (orderCount b) (into c) f)
   unfolding into
   over-orders c j f o =
       let r = has-greatest (into c) f (orderCount b) j (o .0) (eq-eqb _ _ (o .1)) in
@@ -84,15 +86,19 @@ module _ (b : List ℕ) (ok : Clean b) where
   unfolding into
   times = record {
     task = λ n k. let w = kind-is b n 0 k in length-task b ok n (w .0) (w .1);
-    any-of = λ g k. let w = kind-is b g 2 k in rw (length-any b ok g (w .0) (w .1)) (over-children g (lengthOf b) (w .0) (inr (w .1)));
-    all-of = λ g k. let w = kind-is b g 1 k in rw (length-all b ok g (w .0) (w .1)) (over-children g (λ c. waitWithin b c + lengthOf b c) (w .0) (inl (w .1)));
+    any-of = λ g k. let w = kind-is b g 2 k in
+        rw (length-any b ok g (w .0) (w .1)) (over-children g (lengthOf b) (w .0) (inr (w .1)));
+    all-of = λ g k. let w = kind-is b g 1 k in
+        rw (length-all b ok g (w .0) (w .1)) (over-children g (λ c. waitWithin b c + lengthOf b c) (w .0) (inl (w .1)));
     unordered = λ g c k h n.
         wait-all b ok g c h (kind-is b g 1 k .1)
-        ∙ greatest-empty (into c) (λ j. waitWithin b (earlierOf b j) + lengthOf b (earlierOf b j)) (orderCount b) (λ j l. ⊎-elim
+        ∙ greatest-empty (into c) (λ j. waitWithin b (earlierOf b j) + lengthOf b (earlierOf b j)) (orderCount b)
+        (λ j l. ⊎-elim
         (λ (e : into c j ≡ true). absurd (n j (l, eqb-true _ _ e)))
         (λ (e : into c j ≡ false). e)
         (either (into c j)));
-    ordered = λ g c j k h o. rw (wait-all b ok g c h (kind-is b g 1 k .1)) (over-orders c j (λ i. waitWithin b (earlierOf b i) + lengthOf b (earlierOf b i)) o);
+    ordered = λ g c j k h o. rw (wait-all b ok g c h (kind-is b g 1 k .1))
+        (over-orders c j (λ i. waitWithin b (earlierOf b i) + lengthOf b (earlierOf b i)) o);
     in-any-of = λ g c k h. wait-any b ok g c h (kind-is b g 2 k .1);
     root = wait-root b ok;
     longest-root = longest-root b ok ∙ sym (wait-root b ok);
@@ -102,15 +108,18 @@ module _ (b : List ℕ) (ok : Clean b) where
   }
 
 -- ---- the sentences leave nothing free
-greatest-one : {P : ℕ → Type 0} {f f' : ℕ → ℕ} {v v' : ℕ} → ((i : ℕ) → P i → f i ≡ f' i) → Greatest P f v → Greatest P f' v' → v ≡ v'
-greatest-one h g g' =
+greatest-one : {P : ℕ → Type 0} {f f′ : ℕ → ℕ} {v v′ : ℕ} → ((i : ℕ) → P i → f i ≡ f′ i) → Greatest P f v
+    → Greatest P f′ v′ → v ≡ v′
+greatest-one h g g′ =
     let x = g .attained in
-    let y = g' .attained in
-    omega (arith, x .2, h (x .0) (x .1), g' .bound (x .0) (x .1), y .2, h (y .0) (y .1), g .bound (y .0) (y .1))
+    let y = g′ .attained in
+    omega (arith, x .2, h (x .0) (x .1), g′ .bound (x .0) (x .1), y .2, h (y .0) (y .1), g .bound (y .0) (y .1))
 
-module _ {b : List ℕ} (ok : Clean b) {len wait longest len' wait' longest' : ℕ → ℕ} (t : Times b len wait longest) (t' : Times b len' wait' longest') where
+module _ {b : List ℕ} (ok : Clean b) {len wait longest len′ wait′ longest′ : ℕ → ℕ} (t : Times b len wait longest)
+    (t′ : Times b len′ wait′ longest′) where
   -- the wait of a child of an all-of group, from the lengths of the children
-  wait-in : (k g c : ℕ) → c < k → isKind b g 1 ≡ true → Child b g c → ((d : ℕ) → Child b g d → len d ≡ len' d) → wait c ≡ wait' c
+  wait-in : (k g c : ℕ) → c < k → isKind b g 1 ≡ true → Child b g c → ((d : ℕ) → Child b g d → len d ≡ len′ d)
+      → wait c ≡ wait′ c
   wait-in zero g c l a h e = absurd (omega arith)
   wait-in (suc k) g c l a h e = ⊎-elim
       (λ (y : anyBelow (orderCount b) (λ j. eqb (laterOf b j) c) ≡ true).
@@ -121,45 +130,58 @@ module _ {b : List ℕ} (ok : Clean b) {len wait longest len' wait' longest' : �
       let x = earlier-child b ok g c i (q .0) (q .1) h in
       omega (arith, wait-in k g (earlierOf b i) (omega arith) a (x .1) e, e (earlierOf b i) (x .1)))
       (t .ordered g c (w .0) a h o)
-      (t' .ordered g c (w .0) a h o))
+      (t′ .ordered g c (w .0) a h o))
       (λ (y : anyBelow (orderCount b) (λ j. eqb (laterOf b j) c) ≡ false).
-      let n : (j : ℕ) → OrderInto b c j → ⊥ = λ j q. true≢false (sym (eq-eqb _ _ (q .1)) ∙ none-at (orderCount b) (λ i. eqb (laterOf b i) c) y j (q .0)) in
-      t .unordered g c a h n ∙ sym (t' .unordered g c a h n))
+      let n : (j : ℕ) → OrderInto b c j
+      → ⊥ = λ j q. true≢false (sym (eq-eqb _ _ (q .1))
+      ∙ none-at (orderCount b) (λ i. eqb (laterOf b i) c) y j (q .0)) in
+      t .unordered g c a h n ∙ sym (t′ .unordered g c a h n))
       (either (anyBelow (orderCount b) (λ j. eqb (laterOf b j) c)))
 
-  length-in : (k n : ℕ) → n < nodeCount b → nodeCount b ≤ k + n → len n ≡ len' n
+  length-in : (k n : ℕ) → n < nodeCount b → nodeCount b ≤ k + n → len n ≡ len′ n
   length-in zero n l m = absurd (omega arith)
   length-in (suc k) n l m =
-      let e : (c : ℕ) → Child b n c → len c ≡ len' c = λ c h. let w = child-lower b ok n c h in length-in k c (w .1) (omega arith) in
+      let e : (c : ℕ) → Child b n c → len c ≡ len′ c = λ c h. let w = child-lower b ok n c h in
+      length-in k c (w .1) (omega arith) in
       by-cases (ℕ-discrete (kindOf b n) 0)
-      (λ (q : kindOf b n ≡ 0). let a = kind-of b n 0 l q in t .task n a ∙ sym (t' .task n a))
+      (λ (q : kindOf b n ≡ 0). let a = kind-of b n 0 l q in t .task n a ∙ sym (t′ .task n a))
       (λ z.
       by-cases (ℕ-discrete (kindOf b n) 1)
       (λ (q : kindOf b n ≡ 1).
       let a = kind-of b n 1 l q in
-      greatest-one (λ c h. omega (arith, wait-in (suc c) n c (omega arith) a h e, e c h)) (t .all-of n a) (t' .all-of n a))
-      (λ q. let a = kind-of b n 2 l (omega (arith, kind-limit b ok n l)) in greatest-one e (t .any-of n a) (t' .any-of n a)))
+      greatest-one (λ c h. omega (arith, wait-in (suc c) n c (omega arith) a h e, e c h)) (t .all-of n a)
+      (t′ .all-of n a))
+      (λ q. let a = kind-of b n 2 l (omega (arith, kind-limit b ok n l)) in
+      greatest-one e (t .any-of n a) (t′ .any-of n a)))
 
-  pub length-one : (n : ℕ) → n < nodeCount b → len n ≡ len' n
+  pub length-one : (n : ℕ) → n < nodeCount b → len n ≡ len′ n
   length-one n l = length-in (nodeCount b) n l (omega arith)
 
-  wait-child : (g c : ℕ) → Child b g c → wait c ≡ wait' c
+  wait-child : (g c : ℕ) → Child b g c → wait c ≡ wait′ c
   wait-child g c h =
       let w = child-lower b ok g c h in
       ⊎-elim
-      (λ (q : kindOf b g ≡ 1). wait-in (suc c) g c (omega arith) (kind-of b g 1 (omega arith) q) h (λ d y. length-one d (child-lower b ok g d y .1)))
-      (λ (q : kindOf b g ≡ 2). let a = kind-of b g 2 (omega arith) q in t .in-any-of g c a h ∙ sym (t' .in-any-of g c a h))
+      (λ (q : kindOf b g ≡ 1). wait-in (suc c) g c (omega arith) (kind-of b g 1 (omega arith) q) h
+      (λ d y. length-one d (child-lower b ok g d y .1)))
+      (λ (q : kindOf b g ≡ 2). let a = kind-of b g 2 (omega arith) q in t .in-any-of g c a h
+      ∙ sym (t′ .in-any-of g c a h))
       (group-kind b ok g c h)
 
-  longest-in : (k n : ℕ) → n < k → n < nodeCount b → longest n ≡ longest' n
+  longest-in : (k n : ℕ) → n < k → n < nodeCount b → longest n ≡ longest′ n
   longest-in zero n m l = absurd (omega arith)
   longest-in (suc k) n m l =
       by-cases (ℕ-discrete n 0)
-      (λ (e : n ≡ 0). rw e (omega (arith, t .longest-root, t .root, t' .longest-root, t' .root)))
+      (λ (e : n ≡ 0). rw e (omega (arith, t .longest-root, t .root, t′ .longest-root, t′ .root)))
       (λ e.
       let h = own-child b ok n (omega arith) l in
       let p = child-lower b ok (parentOf b n) n h .0 in
-      omega (arith, t .longest-child _ n h, t' .longest-child _ n h, wait-child _ n h, longest-in k (parentOf b n) (omega arith) (omega arith)))
+      omega (
+        arith,
+        t .longest-child _ n h,
+        t′ .longest-child _ n h,
+        wait-child _ n h,
+        longest-in k (parentOf b n) (omega arith) (omega arith),
+      ))
 
-  pub longest-one : (n : ℕ) → n < nodeCount b → longest n ≡ longest' n
+  pub longest-one : (n : ℕ) → n < nodeCount b → longest n ≡ longest′ n
   longest-one n l = longest-in (suc n) n (omega arith) l

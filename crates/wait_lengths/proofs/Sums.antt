@@ -13,7 +13,8 @@ pub sum-grows : (f : ℕ → ℕ) (n m : ℕ) → n ≤ m → sum n f ≤ sum m 
 unfolding sum
 sum-grows f n zero l = let e : n ≡ 0 = omega arith in rw e (omega arith)
 sum-grows f n (suc m) l =
-    by-cases (ℕ-discrete n (suc m)) (λ (e : n ≡ suc m). rw e (omega arith)) (λ e. omega (arith, sum-grows f n m (omega arith)))
+    by-cases (ℕ-discrete n (suc m)) (λ (e : n ≡ suc m). rw e (omega arith))
+    (λ e. omega (arith, sum-grows f n m (omega arith)))
 
 pub sum-le : (n : ℕ) (f : ℕ → ℕ) → ((i : ℕ) → i < n → f i ≤ 10080) → sum n f ≤ n * 10080
 unfolding sum
@@ -28,7 +29,8 @@ pub sum-has : (n i : ℕ) (f : ℕ → ℕ) → i < n → f i ≤ sum n f
 sum-has n i f l = omega (arith, sum-grows f (suc i) n l, sum-more i f)
 
 -- two sums and two others, term by term
-pub sum-balance : (n : ℕ) (f g h k : ℕ → ℕ) → ((i : ℕ) → i < n → f i + g i ≡ h i + k i) → sum n f + sum n g ≡ sum n h + sum n k
+pub sum-balance : (n : ℕ) (f g h k : ℕ → ℕ) → ((i : ℕ) → i < n → f i + g i ≡ h i + k i)
+    → sum n f + sum n g ≡ sum n h + sum n k
 unfolding sum
 sum-balance zero f g h k e = refl
 sum-balance (suc n) f g h k e = omega (arith, sum-balance n f g h k (λ i l. e i (omega arith)), e n (omega arith))

@@ -1,4 +1,5 @@
--- 01's sentences on lengths and waits ('Longest waits'), said of any three functions of a plan's nodes. Definitions only.
+-- 01's sentences on lengths and waits ('Longest waits'), said of any three functions of a plan's nodes. Definitions
+-- only.
 use Prim.Native.Nat.{ℕ, _+_, _<_, _≤_}
 use mathlib.Core.Path.{_≡_}
 use mathlib.Core.Bool.{true}
@@ -28,7 +29,8 @@ pub record Times (b : List ℕ) (len wait longest : ℕ → ℕ) : Type 0 where
   pub all-of : (g : ℕ) → isKind b g 1 ≡ true → Greatest (Child b g) (λ c. wait c + len c) (len g)
   -- a child's wait within an all-of group is 0, or the greatest wait plus length among its orders' earlier nodes
   pub unordered : (g c : ℕ) → isKind b g 1 ≡ true → Child b g c → ((j : ℕ) → OrderInto b c j → ⊥) → wait c ≡ 0
-  pub ordered : (g c j : ℕ) → isKind b g 1 ≡ true → Child b g c → OrderInto b c j → Greatest (OrderInto b c) (λ i. wait (earlierOf b i) + len (earlierOf b i)) (wait c)
+  pub ordered : (g c j : ℕ) → isKind b g 1 ≡ true → Child b g c → OrderInto b c j
+      → Greatest (OrderInto b c) (λ i. wait (earlierOf b i) + len (earlierOf b i)) (wait c)
   -- in an any-of group 0
   pub in-any-of : (g c : ℕ) → isKind b g 2 ≡ true → Child b g c → wait c ≡ 0
   -- the root's own is 0

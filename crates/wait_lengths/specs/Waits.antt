@@ -18,13 +18,16 @@ unfoldable pub greatest : ℕ → (ℕ → Bool) → (ℕ → ℕ) → ℕ
 greatest zero p f = 0
 greatest (suc n) p f = raised (p n) f n (greatest n p f)
 
--- A child's wait within an all-of group: 0, or the greatest wait plus length among its orders' earlier nodes. The lengths are given; k is the number of orders in a chain that are followed,
+-- A child's wait within an all-of group: 0, or the greatest wait plus length among its orders' earlier nodes. The
+-- lengths are given; k is the number of orders in a chain that are followed,
 -- and since an earlier node has the lower number, the number of nodes is enough.
 unfoldable pub waitBy : List ℕ → (ℕ → ℕ) → ℕ → ℕ → ℕ
 waitBy b len zero c = 0
-waitBy b len (suc k) c = greatest (orderCount b) (λ j. eqb (laterOf b j) c) (λ j. waitBy b len k (earlierOf b j) + len (earlierOf b j))
+waitBy b len (suc k) c = greatest (orderCount b) (λ j. eqb (laterOf b j) c)
+    (λ j. waitBy b len k (earlierOf b j) + len (earlierOf b j))
 
--- Length of a task: its minutes; any-of: its longest child; all-of: the greatest wait within it plus length over its children. The lengths of the children are given.
+-- Length of a task: its minutes; any-of: its longest child; all-of: the greatest wait within it plus length over its
+-- children. The lengths of the children are given.
 unfoldable pub lengthAs : List ℕ → (ℕ → ℕ) → Kind → ℕ → ℕ
 lengthAs b len task n = minutesOf b n
 lengthAs b len any-of n = greatest (nodeCount b) (isChild b n) len

@@ -28,16 +28,24 @@ module _ {b waits : List ℕ} (ok : Clean b) where
     some = omega arith;
     inside = ok .fits .limits .some-node;
     long = h .long;
-    below = λ n l. let e : n ≡ 0 = omega arith in rw e (h .is 0 (ok .fits .limits .some-node) ∙ wait-root b ok ∙ sym (longest-root b ok));
+    below = λ n l. let e : n ≡ 0 = omega arith in
+        rw e (h .is 0 (ok .fits .limits .some-node) ∙ wait-root b ok ∙ sym (longest-root b ok));
     from = λ n l m. h .is n m;
   }
 
   -- what is added up at c
-  pub down-sum : {c p : ℕ} → p ≡ parentOf b c → c < nodeCount b → Down b waits c → (p < 128) × (getD waits p 0 + getD waits c 0 ≡ longestWait b c)
+  pub down-sum : {c p : ℕ} → p ≡ parentOf b c → c < nodeCount b → Down b waits c
+      → (p < 128) × (getD waits p 0 + getD waits c 0 ≡ longestWait b c)
   down-sum {c} {p} e l h =
       let q = parent-group b (ok .fits) (ok .parents) c (h .some) l .0 in (
         omega (arith, ok .fits .limits .nodes),
-        omega (arith, h .below p (omega arith), h .from c (omega arith) l, longest-child b ok c (h .some) l, ap (longestWait b) e),
+        omega (
+          arith,
+          h .below p (omega arith),
+          h .from c (omega arith) l,
+          longest-child b ok c (h .some) l,
+          ap (longestWait b) e,
+        ),
       )
 
   pub down-more : {c v : ℕ} → c < nodeCount b → v ≡ longestWait b c → Down b waits c → Down b (set waits c v) (c + 1)

@@ -32,19 +32,22 @@ use Rattle.wait_lengths.proofs.Bounds.{own-child, group-kind, wait-any, wait-ro
 
 -- ---- a node that is done stays done while the waits grow, and when a right length is written
 module _ {b : List ℕ} (ok : Clean b) where
-  done-grown : {lengths waits waits' : List ℕ} {m : ℕ} → Tables b lengths waits'
-      → ((i : ℕ) → getD waits i 0 ≤ getD waits' i 0) → Done b lengths waits m → Done b lengths waits' m
+  done-grown : {lengths waits waits′ : List ℕ} {m : ℕ} → Tables b lengths waits′
+      → ((i : ℕ) → getD waits i 0 ≤ getD waits′ i 0) → Done b lengths waits m → Done b lengths waits′ m
   done-grown {m = m} t up d = record {
     own = d .own;
-    children = λ c h. let e = d .children c h in let a = up c in let z = t .within c (child-lower b ok m c h .1) in omega arith;
+    children = λ c h. let e = d .children c h in let a = up c in let z = t .within c (child-lower b ok m c h .1) in
+        omega arith;
   }
 
-  module _ {lengths waits : List ℕ} {g v : ℕ} (l : g < nodeCount b) (e : v ≡ lengthOf b g) (t : Tables b lengths waits) where
+  module _ {lengths waits : List ℕ} {g v : ℕ} (l : g < nodeCount b) (e : v ≡ lengthOf b g)
+      (t : Tables b lengths waits) where
     written : getD (set lengths g v) g 0 ≡ lengthOf b g
     written = getD-set-same lengths g v 0 (omega (arith, t .lengths-long, ok .fits .limits .nodes)) ∙ e
 
     length-kept : (m : ℕ) → getD lengths m 0 ≡ lengthOf b m → getD (set lengths g v) m 0 ≡ lengthOf b m
-    length-kept m q = by-cases (ℕ-discrete m g) (λ (y : m ≡ g). rw y written) (λ y. getD-set-other lengths g m v 0 y ∙ q)
+    length-kept m q = by-cases (ℕ-discrete m g) (λ (y : m ≡ g). rw y written)
+        (λ y. getD-set-other lengths g m v 0 y ∙ q)
 
     tables-written : Tables b (set lengths g v) waits
     tables-written = record {
@@ -60,12 +63,14 @@ module _ {b : List ℕ} (ok : Clean b) where
 -- a task, and all under it
 task-done : {b lengths waits : List ℕ} → refusal b ≡ 0 → (t m : ℕ) → t < nodeCount b → kindOf b t ≡ 0
     → Tables b lengths waits → Under (planOf b) t m → Done b lengths waits m
-task-done {b} {lengths} {waits} e t m l k s u = rw (under-task (planOf b) (means-well-formed b e) (plan-kind b t ∙ kind-task (kindOf b t) k) u) at own
+task-done {b} {lengths} {waits} e t m l k s u =
+    rw (under-task (planOf b) (means-well-formed b e) (plan-kind b t ∙ kind-task (kindOf b t) k) u) at own
   where
     own : Done b lengths waits t
     own = record {
       own = s .tasks t l k;
-      children = λ c h. ⊎-elim (λ (q : kindOf b t ≡ 1). absurd (omega arith)) (λ (q : kindOf b t ≡ 2). absurd (omega arith)) (group-kind b (clean b e) t c h);
+      children = λ c h. ⊎-elim (λ (q : kindOf b t ≡ 1). absurd (omega arith))
+          (λ (q : kindOf b t ≡ 2). absurd (omega arith)) (group-kind b (clean b e) t c h);
     }
 
 -- a child that is a task: its length stands
@@ -74,55 +79,66 @@ pub task-worked : {b lengths waits : List ℕ} {t : ℕ} → refusal b ≡ 0 →
     → Worked b lengths waits lengths waits t
 task-worked {b} {t = t} e l n o s = record {
   tables = s;
-  under = record { kept = λ m d. d; right = λ m u. task-done e t m l (omega (arith, kind-limit b (clean b e) t l)) s u };
+  under = record {
+    kept = λ m d. d;
+    right = λ m u. task-done e t m l (omega (arith, kind-limit b (clean b e) t l)) s u;
+  };
 }
 
 -- ---- the children at the positions before i, with all under them
-pub record ChildrenTo (b kids : List ℕ) (segment : Segment) (lengths₀ waits₀ lengths waits : List ℕ) (i : ℕ) : Type 0 where
+pub record ChildrenTo (b kids : List ℕ) (segment : Segment) (lengths₀ waits₀ lengths waits : List ℕ)
+    (i : ℕ) : Type 0 where
   pub tables : Tables b lengths waits
   pub walked : RightTo (planOf b) kids (segment .start) (Done b lengths₀ waits₀) (Done b lengths waits) i
 
 module _ {b kids : List ℕ} {segment : Segment} {lengths₀ waits₀ : List ℕ} where
-  pub children-none : Tables b lengths₀ waits₀ → ChildrenTo b kids segment lengths₀ waits₀ lengths₀ waits₀ (segment .start)
+  pub children-none : Tables b lengths₀ waits₀
+      → ChildrenTo b kids segment lengths₀ waits₀ lengths₀ waits₀ (segment .start)
   children-none t = record { tables = t; walked = right-none refl }
 
-  pub child-more : {lengths waits lengths' waits' l' w' : List ℕ} {i c : ℕ} → c ≡ getD kids i 0 → Position segment i
+  pub child-more : {lengths waits lengths′ waits′ l′ w′ : List ℕ} {i c : ℕ} → c ≡ getD kids i 0 → Position segment i
       → ChildrenTo b kids segment lengths₀ waits₀ lengths waits i
-      → l' ≡ lengths' → w' ≡ waits' → Worked b lengths waits lengths' waits' c
-      → ChildrenTo b kids segment lengths₀ waits₀ l' w' (i + 1)
-  child-more e p s y z x = rw (y, z) (record { tables = x .tables; walked = right-more (p .low) e (s .walked) (x .under) })
+      → l′ ≡ lengths′ → w′ ≡ waits′ → Worked b lengths waits lengths′ waits′ c
+      → ChildrenTo b kids segment lengths₀ waits₀ l′ w′ (i + 1)
+  child-more e p s y z x = rw (y, z)
+      (record { tables = x .tables; walked = right-more (p .low) e (s .walked) (x .under) })
 
 -- a child that is a group
-pub child-group : {b from kids : List ℕ} {k g i c x k' : ℕ} {segment : Segment} → GroupOf b from kids k g → segment ≡ segmentOf from g → Position segment i
-    → c ≡ getD kids i 0 → x ≡ kindOf b c → x ≡ k' → GroupOf b from kids k' c
-child-group o here p e q z = record { accepted = o .accepted; tree = o .tree; node = kid-later (at-group o) here p e .1; kind = sym q ∙ z }
+pub child-group : {b from kids : List ℕ} {k g i c x k′ : ℕ} {segment : Segment} → GroupOf b from kids k g
+    → segment ≡ segmentOf from g → Position segment i
+    → c ≡ getD kids i 0 → x ≡ kindOf b c → x ≡ k′ → GroupOf b from kids k′ c
+child-group o here p e q z = record
+    { accepted = o .accepted; tree = o .tree; node = kid-later (at-group o) here p e .1; kind = sym q ∙ z }
 
-module _ {b from kids lengths₀ waits₀ lengths waits : List ℕ} {k g : ℕ} {segment : Segment} (o : GroupOf b from kids k g) (here : segment ≡ segmentOf from g)
+module _ {b from kids lengths₀ waits₀ lengths waits : List ℕ} {k g : ℕ} {segment : Segment}
+    (o : GroupOf b from kids k g) (here : segment ≡ segmentOf from g)
     (s : ChildrenTo b kids segment lengths₀ waits₀ lengths waits (segment .end)) where
   pub child-lengths : ChildLengths b lengths g
   child-lengths = record { is = λ c h. every-listed (o .tree) (o .node) here (s .walked .right) c h c itself .own }
 
   -- the group itself
-  worked : {waits' : List ℕ} {v : ℕ} → v ≡ lengthOf b g → Tables b lengths waits'
-      → ((i : ℕ) → getD waits i 0 ≤ getD waits' i 0)
-      → ((c : ℕ) → isChild b g c ≡ true → getD waits' c 0 ≡ waitWithin b c)
-      → Worked b lengths₀ waits₀ (set lengths g v) waits' g
+  worked : {waits′ : List ℕ} {v : ℕ} → v ≡ lengthOf b g → Tables b lengths waits′
+      → ((i : ℕ) → getD waits i 0 ≤ getD waits′ i 0)
+      → ((c : ℕ) → isChild b g c ≡ true → getD waits′ c 0 ≡ waitWithin b c)
+      → Worked b lengths₀ waits₀ (set lengths g v) waits′ g
   worked q t up h =
       let ok = clean b (o .accepted) in
       record {
         tables = tables-written ok (o .node) q t;
-        under = right-all (its-children (o .tree) (o .node) here) (s .walked) (λ m d. done-written ok (o .node) q t (done-grown ok t up d))
+        under = right-all (its-children (o .tree) (o .node) here) (s .walked)
+            (λ m d. done-written ok (o .node) q t (done-grown ok t up d))
             (record { own = written ok (o .node) q t; children = h });
       }
 
-  pub all-worked : {waits' : List ℕ} {v : ℕ} → Spread b lengths waits waits' g v
-      → Worked b lengths₀ waits₀ (set lengths g v) waits' g
+  pub all-worked : {waits′ : List ℕ} {v : ℕ} → Spread b lengths waits waits′ g v
+      → Worked b lengths₀ waits₀ (set lengths g v) waits′ g
   all-worked x = worked (x .greatest) (x .tables) (x .grown) (x .children)
 
   pub any-worked : {v : ℕ} → kindOf b g ≡ 2 → v ≡ lengthOf b g → Worked b lengths₀ waits₀ (set lengths g v) waits g
   any-worked e q =
       let ok = clean b (o .accepted) in
-      worked q (s .tables) (λ i. omega arith) (λ c h. omega (arith, s .tables .within c (child-lower b ok g c h .1), wait-any b ok g c h e))
+      worked q (s .tables) (λ i. omega arith)
+      (λ c h. omega (arith, s .tables .within c (child-lower b ok g c h .1), wait-any b ok g c h e))
 
 -- ---- all nodes
 module _ {b lengths waits : List ℕ} (e : refusal b ≡ 0) where
@@ -134,10 +150,15 @@ module _ {b lengths waits : List ℕ} (e : refusal b ≡ 0) where
     within = record {
       long = t .waits-long;
       is = λ n l. by-cases (ℕ-discrete n 0)
-          (λ (z : n ≡ 0). rw z (omega (arith, t .within 0 (clean b e .fits .limits .some-node), wait-root b (clean b e))))
+          (λ (z : n ≡ 0). rw z (omega (
+            arith,
+            t .within 0 (clean b e .fits .limits .some-node),
+            wait-root b (clean b e),
+          )))
           (λ z.
           let p = parent-group b (clean b e .fits) (clean b e .parents) n (omega arith) l .0 in
-          h (parentOf b n) (under-root (planOf b) (means-well-formed b e) (parentOf b n) (is-node b (parentOf b n) (omega arith))) .children n (own-child b (clean b e) n (omega arith) l));
+          h (parentOf b n) (under-root (planOf b) (means-well-formed b e) (parentOf b n)
+          (is-node b (parentOf b n) (omega arith))) .children n (own-child b (clean b e) n (omega arith) l));
     };
   }
 

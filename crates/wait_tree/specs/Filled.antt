@@ -17,9 +17,9 @@ pub record Done (b lengths waits : List ℕ) (n : ℕ) : Type 0 where
   pub children : (c : ℕ) → isChild b n c ≡ true → getD waits c 0 ≡ waitWithin b c
 
 -- what was worked out still is, and so is every node under n
-pub record Worked (b lengths waits lengths' waits' : List ℕ) (n : ℕ) : Type 0 where
-  pub tables : Tables b lengths' waits'
-  pub under : RightUnder (planOf b) (Done b lengths waits) (Done b lengths' waits') n
+pub record Worked (b lengths waits lengths′ waits′ : List ℕ) (n : ℕ) : Type 0 where
+  pub tables : Tables b lengths′ waits′
+  pub under : RightUnder (planOf b) (Done b lengths waits) (Done b lengths′ waits′) n
 
 -- every node's wait within its group
 pub record Within (b waits : List ℕ) : Type 0 where

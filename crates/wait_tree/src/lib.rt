@@ -33,7 +33,8 @@ fn all_length(
     node: usize,
 )
     requires { ⌜ GroupOf (now plan) (now from) (now kids) 1 node × Tables (now plan) (now lengths) (now waits) ⌝ }
-    ensures { λ r. ⌜ Worked (now (plan .entry)) (now (lengths .entry)) (now (waits .entry)) (now (lengths .exit)) (now (waits .exit)) node ⌝ }
+    ensures { λ r. ⌜ Worked (now (plan .entry)) (now (lengths .entry)) (now (waits .entry)) (now (lengths .exit))
+        (now (waits .exit)) node ⌝ }
 {
     let segment = children(from, node);
     let mut i = segment.start;
@@ -61,7 +62,8 @@ fn any_length(
     node: usize,
 )
     requires { ⌜ GroupOf (now plan) (now from) (now kids) 2 node × Tables (now plan) (now lengths) (now waits) ⌝ }
-    ensures { λ r. ⌜ Worked (now (plan .entry)) (now (lengths .entry)) (now (waits .entry)) (now (lengths .exit)) (now (waits .exit)) node ⌝ }
+    ensures { λ r. ⌜ Worked (now (plan .entry)) (now (lengths .entry)) (now (waits .entry)) (now (lengths .exit))
+        (now (waits .exit)) node ⌝ }
 {
     let segment = children(from, node);
     let mut i = segment.start;
@@ -102,7 +104,8 @@ fn work_out(
     lengths: &mut [u32; 128],
     waits: &mut [u32; 128],
 )
-    requires { ⌜ (refusal (now plan) ≡ 0) × TreeOf (now plan) (now from) (now kids) × (length (now lengths) ≡ 128) × Zeros 128 (now waits) ⌝ }
+    requires { ⌜ (refusal (now plan) ≡ 0) × TreeOf (now plan) (now from) (now kids) × (length (now lengths) ≡ 128)
+        × Zeros 128 (now waits) ⌝ }
     ensures { λ r. ⌜ AllWorked (now (plan .entry)) (now (lengths .exit)) (now (waits .exit)) ⌝ }
 {
     task_lengths(plan, lengths, waits);
@@ -114,7 +117,8 @@ fn work_out(
     }
 }
 
-// From the root down: to the wait within its group each node adds the longest wait of its parent, which has the lower number.
+// From the root down: to the wait within its group each node adds the longest wait of its parent, which has the lower
+// number.
 fn add_waits(plan: &[u8], waits: &mut [u32; 128])
     requires { ⌜ (refusal (now plan) ≡ 0) × Within (now plan) (now waits) ⌝ }
     ensures { λ r. ⌜ Longest (now (plan .entry)) (now (waits .exit)) ⌝ }

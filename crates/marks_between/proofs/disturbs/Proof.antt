@@ -6,7 +6,12 @@ use Rattle.marks_between.proofs.disturbs.Tie as tie
 
 returns-4 : tie.Need-returns-4
 returns-4 c = (
-  λ t. record { not-c = c .before .before .before .before .if1 .left; not-d = c .before .before .before .if2 .left; not-before = c .before .if3 .left; not-after = (unequal _ 2) .0 t },
+  λ t. record {
+    not-c = c .before .before .before .before .if1 .left;
+    not-d = c .before .before .before .if2 .left;
+    not-before = c .before .if3 .left;
+    not-after = (unequal _ 2) .0 t;
+  },
   λ x. (unequal _ 2) .1 (x .not-after),
 )
 

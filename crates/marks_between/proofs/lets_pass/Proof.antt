@@ -11,4 +11,5 @@ returns-2 : tie.Need-returns-2
 returns-2 c = λ f l. rw (c .before .if1 .left, c .word-at .ensures) (λ t. t, λ t. t)
 
 pub lets-pass-spec : {M : Type 1} → statement M
-lets-pass-spec = tie.close (tie.spec (λ c. search needs) (λ c κs. search needs) returns (λ c κs. search needs) returns-2)
+lets-pass-spec = tie.close (tie.spec (λ c. search needs) (λ c κs. search needs) returns
+    (λ c κs. search needs) returns-2)

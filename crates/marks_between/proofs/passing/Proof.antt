@@ -9,21 +9,26 @@ use Rattle.marks_between.proofs.passing.Tie as tie
 passing-part-requires : tie.Need-passing-part-requires
 passing-part-requires c κs =
     let s = c .before .before in
-    let j = s .pre .other in
-    (part-of (s .pre .segment) (omega (arith, j .low)) (omega (arith, j .high)) (omega arith), pair-small (s .pre) (c .wide .ensures .0))
+    let j = s .pre .other in (
+      part-of (s .pre .segment) (omega (arith, j .low)) (omega (arith, j .high)) (omega arith),
+      pair-small (s .pre) (c .wide .ensures .0),
+    )
 
 passing-part-requires-2 : tie.Need-passing-part-requires-2
 passing-part-requires-2 c κs =
     let s = c .before .before .before in
-    let j = s .pre .other in
-    (part-of (s .pre .segment) (omega arith) (omega (arith, j .low)) (omega (arith, j .high)), pair-small (s .pre) (c .before .wide .ensures .0))
+    let j = s .pre .other in (
+      part-of (s .pre .segment) (omega arith) (omega (arith, j .low)) (omega (arith, j .high)),
+      pair-small (s .pre) (c .before .wide .ensures .0),
+    )
 
 returns : tie.Need-returns
 returns c =
     let s = c .before .before .before .before in
     let j = s .pre .other in
     let e = c .before .before .wide .ensures .0 in
-    passing-says (s .args .always) (parts (omega (arith, j .low)) (omega (arith, j .high)) (rw e at (c .before .passing-part .ensures)) (rw e at (c .passing-part2 .ensures)))
+    passing-says (s .args .always) (parts (omega (arith, j .low)) (omega (arith, j .high))
+    (rw e at (c .before .passing-part .ensures)) (rw e at (c .passing-part2 .ensures)))
 
 pub passing-spec : {M : Type 1} → statement M
 passing-spec =

@@ -10,7 +10,8 @@ use Rattle.marks_between.proofs.passing_part.Statement.{statement}
 use Rattle.marks_between.proofs.passing_part.Tie as tie
 
 abbrev Inv-loop : tie.InvT-loop
-Inv-loop kids segment order rows always flags c d left₀ i₀ left i = Reached segment i × PassingPart kids (segment .start) i order rows always flags c d left
+Inv-loop kids segment order rows always flags c d left₀ i₀ left i = Reached segment i
+    × PassingPart kids (segment .start) i order rows always flags c d left
 
 abbrev μ-loop : tie.MeasureT-loop
 μ-loop kids segment order rows always flags c d left₀ i₀ left i = segment .end - i
@@ -28,13 +29,17 @@ element-copy-out-wide c =
 
 in-the-way-requires : tie.Need-in-the-way-requires Inv-loop μ-loop
 in-the-way-requires c κs =
-    let l = c .before .before .before .before .before in
-    (kid-small (l .before .pre .0) (position (l .loop .inv .0) (c .before .before .before .if1 .taken)) (c .wide .ensures .0), l .before .pre .1)
+    let l = c .before .before .before .before .before in (
+      kid-small (l .before .pre .0) (position (l .loop .inv .0) (c .before .before .before .if1 .taken))
+          (c .wide .ensures .0),
+      l .before .pre .1,
+    )
 
 lets-pass-requires : tie.Need-lets-pass-requires Inv-loop μ-loop
 lets-pass-requires c κs =
     let l = c .before .before .before .before .before .before in
-    kid-small (l .before .pre .0) (position (l .loop .inv .0) (c .before .before .before .before .if1 .taken)) (c .before .wide .ensures .0)
+    kid-small (l .before .pre .0) (position (l .loop .inv .0) (c .before .before .before .before .if1 .taken))
+    (c .before .wide .ensures .0)
 
 loop-again : tie.Need-loop-again Inv-loop μ-loop
 loop-again c =
@@ -43,7 +48,8 @@ loop-again c =
     let e = c .before .before .before .wide .ensures .0 in (
       next-turn turn (c .before .before .before .before .before .before .if1 .taken),
       part-more (turn .low) (c .narrowed .ensures)
-          (λ f k. implied (rw e at (c .before .before .in-the-way .ensures)) (rw e at (c .before .lets-pass .ensures f k))) (l .loop .inv .1),
+          (λ f k. implied (rw e at (c .before .before .in-the-way .ensures))
+          (rw e at (c .before .lets-pass .ensures f k))) (l .loop .inv .1),
     )
 
 returns-2 : tie.Need-returns-2 Inv-loop μ-loop

@@ -15,7 +15,8 @@ use Rattle.marks_group.proofs.all_words.Tie as tie
 
 abbrev Inv-loop : tie.InvT-loop
 Inv-loop kids segment order rows words₀ i₀ words i =
-    Reached segment i × ((p : Plan) (n : ℕ) (g : Group kids segment rows p n) → RepresentsOrder order p → AllWords g i words)
+    Reached segment i × ((p : Plan) (n : ℕ) (g : Group kids segment rows p n) → RepresentsOrder order p
+    → AllWords g i words)
 
 abbrev μ-loop : tie.MeasureT-loop
 μ-loop kids segment order rows words₀ i₀ words i = segment .end - i
@@ -37,7 +38,8 @@ all-siblings-requires c κs =
 merged-requires : tie.Need-merged-requires Inv-loop μ-loop
 merged-requires c κs =
     let l = c .before .before .before .before .before .before in
-    kid-small (l .before .before .pre) (position (l .loop .inv .0) (c .before .before .before .before .if1 .taken)) (c .before .before .wide .ensures .0)
+    kid-small (l .before .before .pre) (position (l .loop .inv .0) (c .before .before .before .before .if1 .taken))
+    (c .before .before .wide .ensures .0)
 
 loop-again : tie.Need-loop-again Inv-loop μ-loop
 loop-again c =
@@ -48,11 +50,13 @@ loop-again c =
       next-turn turn test,
       λ p n g o. joined-more e (turn .low) (c .merged .ensures) (child-row g e (position turn test) .says)
           (λ k f m. says-eq (c .before .mask-words .ensures .is k)
-          (masked (c .before .before .all-siblings .ensures p n g o (listed (g .listed) e (position turn test))) k f m)) (l .loop .inv .1 p n g o),
+          (masked (c .before .before .all-siblings .ensures p n g o (listed (g .listed) e (position turn test))) k f m))
+          (l .loop .inv .1 p n g o),
     )
 
 returns : tie.Need-returns Inv-loop μ-loop
-returns c = let l = c .before .before in λ p n g o kn. all-row g kn (rw (last-turn (l .loop .inv .0) (c .if1 .left)) at (l .loop .inv .1 p n g o))
+returns c = let l = c .before .before in
+    λ p n g o kn. all-row g kn (rw (last-turn (l .loop .inv .0) (c .if1 .left)) at (l .loop .inv .1 p n g o))
 
 pub all-words-spec : {M : Type 1} → statement M
 all-words-spec =

@@ -10,7 +10,8 @@ use Rattle.marks_group.proofs.any_words.Statement.{statement}
 use Rattle.marks_group.proofs.any_words.Tie as tie
 
 abbrev Inv-loop : tie.InvT-loop
-Inv-loop kids segment rows mask words₀ i₀ words i = Reached segment i × ((p : Plan) (n : ℕ) (g : Group kids segment rows p n) → AnyWords g i words)
+Inv-loop kids segment rows mask words₀ i₀ words i = Reached segment i
+    × ((p : Plan) (n : ℕ) (g : Group kids segment rows p n) → AnyWords g i words)
 
 abbrev μ-loop : tie.MeasureT-loop
 μ-loop kids segment rows mask words₀ i₀ words i = segment .end - i
@@ -26,7 +27,8 @@ element-copy-out-wide c =
 merged-requires : tie.Need-merged-requires Inv-loop μ-loop
 merged-requires c κs =
     let l = c .before .before .before .before in
-    kid-small (l .before .before .before .pre) (position (l .loop .inv .0) (c .before .before .if1 .taken)) (c .wide .ensures .0)
+    kid-small (l .before .before .before .pre) (position (l .loop .inv .0) (c .before .before .if1 .taken))
+    (c .wide .ensures .0)
 
 loop-again : tie.Need-loop-again Inv-loop μ-loop
 loop-again c =
@@ -40,7 +42,8 @@ loop-again c =
     )
 
 returns : tie.Need-returns Inv-loop μ-loop
-returns c = let l = c .before .before in λ p n g kn. any-row g kn (rw (last-turn (l .loop .inv .0) (c .if1 .left)) at (l .loop .inv .1 p n g))
+returns c = let l = c .before .before in
+    λ p n g kn. any-row g kn (rw (last-turn (l .loop .inv .0) (c .if1 .left)) at (l .loop .inv .1 p n g))
 
 pub any-words-spec : {M : Type 1} → statement M
 any-words-spec =

@@ -28,8 +28,10 @@ loop-again c =
       omega arith,
       (
         length-set (l .loop .out) _ _ ∙ l .loop .inv .1 .0,
-        filled (λ j x. JoinedWord (a .first) (a .last) j (getD (a .t3) j 0) (wordAt (a .rows .now) (a .child) j) (getD (a .t6) j 0) x) (l .loop .out) (l .loop .k)
-            (c .joined .result) (omega (arith, l .loop .inv .1 .0)) (rw (c .before .word-at .ensures) at (c .joined .ensures)) (l .loop .inv .1 .1),
+        filled (λ j x. JoinedWord (a .first) (a .last) j (getD (a .t3) j 0) (wordAt (a .rows .now) (a .child) j)
+            (getD (a .t6) j 0) x) (l .loop .out) (l .loop .k)
+            (c .joined .result) (omega (arith, l .loop .inv .1 .0))
+            (rw (c .before .word-at .ensures) at (c .joined .ensures)) (l .loop .inv .1 .1),
       ),
     )
 

@@ -9,13 +9,15 @@ use Rattle.marks_may_pairs.proofs.clobbering_pair.Statement.{statement}
 use Rattle.marks_may_pairs.proofs.clobbering_pair.Tie as tie
 
 abbrev Inv-loop : tie.InvT-loop
-Inv-loop kids segment order rows wanted child partner found₀ i j₀ c found j = ((found .clear ≡ 0) × (found .set ≡ 0)) × Stands kids segment order rows wanted i j
+Inv-loop kids segment order rows wanted child partner found₀ i j₀ c found j = ((found .clear ≡ 0) × (found .set ≡ 0))
+    × Stands kids segment order rows wanted i j
 
 abbrev μ-loop : tie.MeasureT-loop
 μ-loop kids segment order rows wanted child partner found₀ i j₀ c found j = segment .end - j
 
 abbrev Inv-search : tie.InvT-search
-Inv-search kids segment order rows wanted child partner found₀ i₀ j₀ found i j = ((found .clear ≡ 0) × (found .set ≡ 0)) × Stands kids segment order rows wanted i j
+Inv-search kids segment order rows wanted child partner found₀ i₀ j₀ found i j = ((found .clear ≡ 0) × (found .set ≡ 0))
+    × Stands kids segment order rows wanted i j
 
 abbrev μ-search : tie.MeasureT-search
 μ-search kids segment order rows wanted child partner found₀ i₀ j₀ found i j = segment .end - i
@@ -31,7 +33,8 @@ element-copy-out-wide c =
 next-partner-requires : tie.Need-next-partner-requires Inv-loop μ-loop Inv-search μ-search
 next-partner-requires c κs =
     let m = c .before .before .before .before in
-    kid-small (m .before .pre .0) (position (m .search .inv .1 .child) (c .before .before .if1 .taken)) (c .wide .ensures .0)
+    kid-small (m .before .pre .0) (position (m .search .inv .1 .child) (c .before .before .if1 .taken))
+    (c .wide .ensures .0)
 
 loop-holds : tie.Need-loop-holds Inv-loop μ-loop Inv-search μ-search
 loop-holds c =
@@ -55,8 +58,11 @@ loop-again c =
     let l = c .before .before .before .before .before in
     let stands = l .loop .inv .1 in
     let at = position (stands .child) (l .before .before .before .before .if1 .taken) in
-    let to = position (stands .partner) (c .before .before .before .if2 .taken) in
-    (l .loop .inv .0, partner-passed stands at to (l .before .before .wide .ensures .0) (c .before .before .pair-words .ensures) (c .if3 .left))
+    let to = position (stands .partner) (c .before .before .before .if2 .taken) in (
+      l .loop .inv .0,
+      partner-passed stands at to (l .before .before .wide .ensures .0)
+          (c .before .before .pair-words .ensures) (c .if3 .left),
+    )
 
 search-again : tie.Need-search-again Inv-loop μ-loop Inv-search μ-search
 search-again c =
@@ -66,7 +72,8 @@ search-again c =
     (l .loop .inv .0, child-passed stands at (last-turn (stands .partner) (c .if2 .left)))
 
 returns : tie.Need-returns Inv-loop μ-loop Inv-search μ-search
-returns c = let inv = c .before .before .search .inv in nothing-found (inv .1) (inv .0) (last-turn (inv .1 .child) (c .if1 .left))
+returns c = let inv = c .before .before .search .inv in
+    nothing-found (inv .1) (inv .0) (last-turn (inv .1 .child) (c .if1 .left))
 
 returns-2 : tie.Need-returns-2 Inv-loop μ-loop Inv-search μ-search
 returns-2 c =
@@ -74,7 +81,8 @@ returns-2 c =
     let stands = l .loop .inv .1 in
     let at = position (stands .child) (l .before .before .before .before .if1 .taken) in
     let to = position (stands .partner) (c .before .before .before .if2 .taken) in
-    pair-found stands at to (l .before .before .wide .ensures .0) (c .before .before .pair-words .ensures) (c .if3 .taken)
+    pair-found stands at to (l .before .before .wide .ensures .0) (c .before .before .pair-words .ensures)
+    (c .if3 .taken)
 
 pub clobbering-pair-spec : {M : Type 1} → statement M
 clobbering-pair-spec =

@@ -10,11 +10,13 @@ use Rattle.marks_must_pairs.proofs.must_pair_word.Tie as tie
 
 returns : tie.Need-returns
 returns c = pair-kid (c .before .before .before .before .before .wide .ensures .0)
-    (none-shared _ _ _ (c .before .before .before .if1 .taken) (c .before .before .must-post .ensures) (c .before .must-pre .ensures) (c .if2 .taken))
+    (none-shared _ _ _ (c .before .before .before .if1 .taken) (c .before .before .must-post .ensures)
+    (c .before .must-pre .ensures) (c .if2 .taken))
 
 returns-2 : tie.Need-returns-2
 returns-2 c = let e = c .before .before .before .before .before .before .wide .ensures .0 in
-    pair-kid e (shared-passes _ _ _ (c .before .before .before .before .if1 .taken) (c .before .before .before .must-post .ensures) (c .before .before .must-pre .ensures)
+    pair-kid e (shared-passes _ _ _ (c .before .before .before .before .if1 .taken)
+    (c .before .before .before .must-post .ensures) (c .before .before .must-pre .ensures)
     (passing-kid e (c .passing .ensures)))
 
 returns-3 : tie.Need-returns-3
@@ -30,10 +32,12 @@ add-if1 : tie.Need-add-if1
 add-if1 c = let s = c .before .before in omega (arith, s .pre .1, pair-small (s .pre .0) (c .wide .ensures .0))
 
 element-copy-out-if1 : tie.Need-element-copy-out-if1
-element-copy-out-if1 c = let s = c .before .before in omega (arith, s .pre .1, pair-small (s .pre .0) (c .wide .ensures .0))
+element-copy-out-if1 c = let s = c .before .before in
+    omega (arith, s .pre .1, pair-small (s .pre .0) (c .wide .ensures .0))
 
 must-post-requires : tie.Need-must-post-requires
-must-post-requires c κs = let s = c .before .before .before .before in omega (arith, s .pre .1, pair-small (s .pre .0) (c .before .before .wide .ensures .0))
+must-post-requires c κs = let s = c .before .before .before .before in
+    omega (arith, s .pre .1, pair-small (s .pre .0) (c .before .before .wide .ensures .0))
 
 pub must-pair-word-spec : {M : Type 1} → statement M
 must-pair-word-spec =

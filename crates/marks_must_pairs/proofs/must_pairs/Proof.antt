@@ -1,4 +1,5 @@
--- `must_pairs` meets its contract: the flags known, and those that a pair of a child so far must clobber. Assumes nothing.
+-- `must_pairs` meets its contract: the flags known, and those that a pair of a child so far must clobber. Assumes
+-- nothing.
 use mathlib.Core.Logic.{_⊎_}
 use Prim.Native.Nat.{ℕ, _-_}
 use lib.Dec.{T}
@@ -34,8 +35,14 @@ element-copy-out-wide c =
 must-pairs-of-requires : tie.Need-must-pairs-of-requires Inv-loop μ-loop
 must-pairs-of-requires c κs =
     let l = c .before .before .before .before in
-    let s = l .before in
-    (s .pre .0, (s .pre .1, kid-small (s .pre .0) (position (l .loop .inv .0) (c .before .before .if1 .taken)) (c .wide .ensures .0)))
+    let s = l .before in (
+      s .pre .0,
+      (
+        s .pre .1,
+        kid-small (s .pre .0) (position (l .loop .inv .0) (c .before .before .if1 .taken))
+            (c .wide .ensures .0),
+      ),
+    )
 
 loop-again : tie.Need-loop-again Inv-loop μ-loop
 loop-again c =

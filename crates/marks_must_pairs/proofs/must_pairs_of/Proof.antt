@@ -1,4 +1,5 @@
--- `must_pairs_of` meets its contract: the flags known, and those that a pair with c so far must clobber. Assumes nothing.
+-- `must_pairs_of` meets its contract: the flags known, and those that a pair with c so far must clobber. Assumes
+-- nothing.
 use mathlib.Core.Path.{refl}
 use mathlib.Core.Logic.{_⊎_}
 use Prim.Native.Nat.{_-_}
@@ -29,7 +30,8 @@ must-pre-requires c κs = omega (arith, c .pre .1)
 
 returns : tie.Need-returns Inv-loop μ-loop
 returns c =
-    λ p n g hc v q f m. none-new m (c .if1 .taken) (c .before .must-pre .ensures p (g .group .well-formed) (hc .node) (g .group .children _ hc) v q f m)
+    λ p n g hc v q f m. none-new m (c .if1 .taken)
+    (c .before .must-pre .ensures p (g .group .well-formed) (hc .node) (g .group .children _ hc) v q f m)
 
 loop-holds : tie.Need-loop-holds Inv-loop μ-loop
 loop-holds c = (first-turn (c .before .before .pre .0), λ p n g hc v q f m. none-more)
@@ -37,8 +39,10 @@ loop-holds c = (first-turn (c .before .before .pre .0), λ p n g hc v q f m. non
 must-pair-word-requires : tie.Need-must-pair-word-requires Inv-loop μ-loop
 must-pair-word-requires c κs =
     let l = c .before .before in
-    let s = l .before .before .before in
-    (record { segment = s .pre .0; child = s .pre .1 .1; other = position (l .loop .inv .0) (c .if2 .taken) }, s .pre .1 .0)
+    let s = l .before .before .before in (
+      record { segment = s .pre .0; child = s .pre .1 .1; other = position (l .loop .inv .0) (c .if2 .taken) },
+      s .pre .1 .0,
+    )
 
 loop-again : tie.Need-loop-again Inv-loop μ-loop
 loop-again c =
@@ -47,13 +51,15 @@ loop-again c =
     let test = c .before .if2 .taken in (
       next-turn turn test,
       λ p n g hc v q f m. child-more (turn .low) (l .loop .inv .1 p n g hc v q f m)
-          (added (l .loop .flags) (c .must-pair-word .result) m refl (c .must-pair-word .ensures .says p n g hc (kid g refl (position turn test)) v q f m)),
+          (added (l .loop .flags) (c .must-pair-word .result) m refl
+          (c .must-pair-word .ensures .says p n g hc (kid g refl (position turn test)) v q f m)),
     )
 
 returns-2 : tie.Need-returns-2 Inv-loop μ-loop
 returns-2 c =
     let l = c .before .before in
-    λ p n g hc v q f m. all-more g (rw (last-turn (l .loop .inv .0) (c .if2 .left)) at (l .loop .inv .1 p n g hc v q f m))
+    λ p n g hc v q f m. all-more g (rw (last-turn (l .loop .inv .0) (c .if2 .left)) at
+    (l .loop .inv .1 p n g hc v q f m))
 
 pub must-pairs-of-spec : {M : Type 1} → statement M
 must-pairs-of-spec =

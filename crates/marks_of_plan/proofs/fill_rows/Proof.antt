@@ -7,11 +7,13 @@ use Rattle.marks_of_plan.proofs.fill_rows.Statement.{statement}
 use Rattle.marks_of_plan.proofs.fill_rows.Tie as tie
 
 nodes-requires : tie.Need-nodes-requires
-nodes-requires c κs = clean _ (c .before .before .before .before .before .before .before .before .before .before .before .before .pre .0) .fits .limits .long
+nodes-requires c κs = clean _ (c .before .before .before .before .before .before .before .before .before .before .before
+    .before .pre .0) .fits .limits .long
 
 node-rows-requires : tie.Need-node-rows-requires
 node-rows-requires c κs =
-    let p = c .before .before .before .before .before .before .before .before .before .before .before .before .before .before .before .before .before .before .before .pre in
+    let p = c .before .before .before .before .before .before .before .before .before .before .before .before .before
+    .before .before .before .before .before .before .pre in
     let n = c .before .before .before .before .before .before .nodes .ensures in (
       record {
         shaped = rw n (c .before .before .before .before .before .before .before .fill-tables .ensures .shaped);
@@ -22,11 +24,16 @@ node-rows-requires c κs =
 
 returns : tie.Need-returns
 returns c =
-    let p = c .before .before .before .before .before .before .before .before .before .before .before .before .before .before .before .before .before .before .before .before .pre in
+    let p = c .before .before .before .before .before .before .before .before .before .before .before .before .before
+    .before .before .before .before .before .before .before .pre in
     let n = c .before .before .before .before .before .before .before .nodes .ensures in
     let t = c .before .before .before .before .before .before .before .before .fill-tables .ensures in
     let a = c .node-rows .ensures in
-    record { long = a .long; right = λ m l. a .right _ (means-well-formed _ (p .0)) (rw n (t .represents)) m (node-of _ (p .0) m l) }
+    record {
+      long = a .long;
+      right =
+          λ m l. a .right _ (means-well-formed _ (p .0)) (rw n (t .represents)) m (node-of _ (p .0) m l);
+    }
 
 pub fill-rows-spec : {M : Type 1} → statement M
 fill-rows-spec =

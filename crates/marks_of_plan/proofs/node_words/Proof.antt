@@ -15,7 +15,8 @@ mark-words-requires c κs =
 returns : tie.Need-returns
 returns c =
     let p = c .before .before .before .before .before .before .pre in
-    c .mark-words .ensures _ (means-well-formed _ (p .0)) (node-of _ (p .0) _ (p .1)) (c .before .before .fill-rows .ensures .right _ (p .1))
+    c .mark-words .ensures _ (means-well-formed _ (p .0)) (node-of _ (p .0) _ (p .1))
+    (c .before .before .fill-rows .ensures .right _ (p .1))
 
 pub node-words-spec : {M : Type 1} → statement M
 node-words-spec = tie.close (tie.spec (λ c κs. search needs) (λ c κs. search needs) mark-words-requires returns)

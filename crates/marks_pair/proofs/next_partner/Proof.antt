@@ -11,7 +11,8 @@ returns c =
     let w = c .before .before .before in
     inr (
       refl,
-      none-required _ _ _ _ _ _ _ (w .before .before .before .word-at .ensures) (w .before .before .word-at2 .ensures) (w .before .word-at3 .ensures) (w .word-at4 .ensures)
+      none-required _ _ _ _ _ _ _ (w .before .before .before .word-at .ensures) (w .before .before .word-at2 .ensures)
+          (w .before .word-at3 .ensures) (w .word-at4 .ensures)
           (c .if1 .taken),
     )
 

@@ -10,16 +10,19 @@ use Rattle.marks_pair.proofs.pair_word.Tie as tie
 
 returns : tie.Need-returns
 returns c = pair-kid (c .before .before .before .before .before .wide .ensures .0)
-    (none-shared _ _ _ (c .before .before .before .if1 .taken) (c .before .before .word-at .ensures) (c .before .word-at2 .ensures) (c .if2 .taken))
+    (none-shared _ _ _ (c .before .before .before .if1 .taken) (c .before .before .word-at .ensures)
+    (c .before .word-at2 .ensures) (c .if2 .taken))
 
 returns-2 : tie.Need-returns-2
 returns-2 c = let e = c .before .before .before .before .before .before .wide .ensures .0 in
-    pair-kid e (shared-passes _ _ _ (c .before .before .before .before .if1 .taken) (c .before .before .before .word-at .ensures) (c .before .before .word-at2 .ensures)
+    pair-kid e (shared-passes _ _ _ (c .before .before .before .before .if1 .taken)
+    (c .before .before .before .word-at .ensures) (c .before .before .word-at2 .ensures)
     (passing-kid e (c .passing .ensures)))
 
 returns-3 : tie.Need-returns-3
 returns-3 c = pair-kid (c .before .before .before .before .before .before .wide .ensures .0)
-    (apart-both _ _ _ ((c .before .before .before .apart .ensures) .0 (rw (c .before .before .if3 .taken) tt)) (c .before .word-at3 .ensures) (c .word-at4 .ensures))
+    (apart-both _ _ _ ((c .before .before .before .apart .ensures) .0 (rw (c .before .before .if3 .taken) tt))
+    (c .before .word-at3 .ensures) (c .word-at4 .ensures))
 
 returns-4 : tie.Need-returns-4
 returns-4 c = pair-kid (c .before .before .before .before .wide .ensures .0)
@@ -35,16 +38,20 @@ add-if1 : tie.Need-add-if1
 add-if1 c = let s = c .before .before in omega (arith, s .pre .1, pair-small (s .pre .0) (c .wide .ensures .0))
 
 element-copy-out-if1 : tie.Need-element-copy-out-if1
-element-copy-out-if1 c = let s = c .before .before in omega (arith, s .pre .1, pair-small (s .pre .0) (c .wide .ensures .0))
+element-copy-out-if1 c = let s = c .before .before in
+    omega (arith, s .pre .1, pair-small (s .pre .0) (c .wide .ensures .0))
 
 word-at-requires : tie.Need-word-at-requires
-word-at-requires c κs = let s = c .before .before .before .before in omega (arith, s .pre .1, pair-small (s .pre .0) (c .before .before .wide .ensures .0))
+word-at-requires c κs = let s = c .before .before .before .before in
+    omega (arith, s .pre .1, pair-small (s .pre .0) (c .before .before .wide .ensures .0))
 
 apart-requires : tie.Need-apart-requires
-apart-requires c κs = let s = c .before .before .before .before in omega (arith, s .pre .1, pair-small (s .pre .0) (c .before .before .wide .ensures .0))
+apart-requires c κs = let s = c .before .before .before .before in
+    omega (arith, s .pre .1, pair-small (s .pre .0) (c .before .before .wide .ensures .0))
 
 word-at-requires-4 : tie.Need-word-at-requires-4
-word-at-requires-4 c κs = let s = c .before .before .before .before .before .before .before in omega (arith, s .pre .1, pair-small (s .pre .0) (c .before .before .before .before .before .wide .ensures .0))
+word-at-requires-4 c κs = let s = c .before .before .before .before .before .before .before in
+    omega (arith, s .pre .1, pair-small (s .pre .0) (c .before .before .before .before .before .wide .ensures .0))
 
 pub pair-word-spec : {M : Type 1} → statement M
 pair-word-spec =

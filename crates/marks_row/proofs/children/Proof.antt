@@ -9,4 +9,5 @@ returns c = rw (c .before .before .wide .ensures .0, c .wide2 .ensures .0) refl
 
 pub children-spec : {M : Type 1} → statement M
 children-spec =
-    tie.close (tie.spec (λ c. search needs) (λ c κs. search needs) (λ c. search needs) (λ c. search needs) (λ c κs. search needs) returns)
+    tie.close (tie.spec (λ c. search needs) (λ c κs. search needs) (λ c. search needs) (λ c. search needs)
+    (λ c κs. search needs) returns)

@@ -38,7 +38,11 @@ loop-again c =
 returns : tie.Need-returns Inv-loop μ-loop
 returns c =
     let l = c .before in
-    record { long = l .loop .inv .1 .0; here = λ j h. l .loop .inv .1 .1 .0 j (omega arith); there = l .loop .inv .1 .1 .1 }
+    record {
+      long = l .loop .inv .1 .0;
+      here = λ j h. l .loop .inv .1 .1 .0 j (omega arith);
+      there = l .loop .inv .1 .1 .1;
+    }
 
 pub write-row-spec : {M : Type 1} → statement M
 write-row-spec =

@@ -16,7 +16,8 @@ use Rattle.marks_siblings.proofs.all_siblings.Tie as tie
 abbrev Inv-loop : tie.InvT-loop
 Inv-loop kids segment order rows child s₀ i₀ s i =
     Reached segment i
-    × ((p : Plan) (n : ℕ) → Group kids segment rows p n → RepresentsOrder order p → Child p n child → SiblingWords p child (Every kids (segment .start) i) s)
+    × ((p : Plan) (n : ℕ) → Group kids segment rows p n → RepresentsOrder order p → Child p n child
+    → SiblingWords p child (Every kids (segment .start) i) s)
 
 abbrev μ-loop : tie.MeasureT-loop
 μ-loop kids segment order rows child s₀ i₀ s i = segment .end - i
@@ -32,8 +33,11 @@ element-copy-out-wide c =
 with-sibling-requires : tie.Need-with-sibling-requires Inv-loop μ-loop
 with-sibling-requires c κs =
     let l = c .before .before .before .before in
-    let s = l .before in
-    (s .pre .1, kid-small (s .pre .0) (position (l .loop .inv .0) (c .before .before .if1 .taken)) (c .wide .ensures .0))
+    let s = l .before in (
+      s .pre .1,
+      kid-small (s .pre .0) (position (l .loop .inv .0) (c .before .before .if1 .taken))
+          (c .wide .ensures .0),
+    )
 
 loop-again : tie.Need-loop-again Inv-loop μ-loop
 loop-again c =
@@ -42,11 +46,13 @@ loop-again c =
     let test = c .before .before .before .if1 .taken in
     let e = c .before .wide .ensures .0 in (
       next-turn turn test,
-      λ p n g o hc. with-sibling g o hc (turn .low) e (listed (g .listed) e (position turn test)) (c .with-sibling .ensures) (l .loop .inv .1 p n g o hc),
+      λ p n g o hc. with-sibling g o hc (turn .low) e (listed (g .listed) e (position turn test))
+          (c .with-sibling .ensures) (l .loop .inv .1 p n g o hc),
     )
 
 returns : tie.Need-returns Inv-loop μ-loop
-returns c = let l = c .before .before in λ p n g o hc. all-siblings g o hc (rw (last-turn (l .loop .inv .0) (c .if1 .left)) at (l .loop .inv .1 p n g o hc))
+returns c = let l = c .before .before in
+    λ p n g o hc. all-siblings g o hc (rw (last-turn (l .loop .inv .0) (c .if1 .left)) at (l .loop .inv .1 p n g o hc))
 
 pub all-siblings-spec : {M : Type 1} → statement M
 all-siblings-spec =

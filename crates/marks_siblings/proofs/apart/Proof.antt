@@ -9,4 +9,5 @@ returns-3 c = apart-test _ _ (c .before .if1 .left) (c .if2 .left)
 
 pub apart-spec : {M : Type 1} → statement M
 apart-spec =
-    tie.close (tie.spec (λ c. search needs) (λ c. search needs) (λ c. search needs) (λ c. search needs) (λ c. search needs) returns-3)
+    tie.close (tie.spec (λ c. search needs) (λ c. search needs) (λ c. search needs) (λ c. search needs)
+    (λ c. search needs) returns-3)

@@ -1,4 +1,5 @@
--- `with_sibling` meets its contract: a sibling before the child narrows three words, one after it one, an unordered one another. Assumes nothing.
+-- `with_sibling` meets its contract: a sibling before the child narrows three words, one after it one, an unordered one
+-- another. Assumes nothing.
 use mathlib.Core.Path.{refl}
 use native.Mathlib.Omega.{arith}
 use Rattle.marks_siblings.proofs.Sibling.{narrows-kept, narrows-taken, narrows-map, neither}
@@ -49,7 +50,11 @@ returns-4 c =
       set-before = narrows-kept not-before refl;
       avoid-after = narrows-kept not-after refl;
       silent-apart = narrows-map (λ a. a, λ a. a) (neither _ _)
-          (narrows-taken (record { not-before = not-before; not-after = not-after; distinct = c .before .before .if3 .left })
+          (narrows-taken (record {
+            not-before = not-before;
+            not-after = not-after;
+            distinct = c .before .before .if3 .left;
+          })
           (c .before .neither .ensures) refl);
     }
 

@@ -5,10 +5,12 @@ use Rattle.marks_tree.proofs.node_rows.Statement.{statement}
 use Rattle.marks_tree.proofs.node_rows.Tie as tie
 
 returns : tie.Need-returns
-returns c = all-nodes (c .before .before .before .before .task-rows .ensures) (is-all (c .before .before .if1 .taken)) (c .all-of .ensures)
+returns c = all-nodes (c .before .before .before .before .task-rows .ensures) (is-all (c .before .before .if1 .taken))
+    (c .all-of .ensures)
 
 returns-2 : tie.Need-returns-2
-returns-2 c = all-nodes (c .before .before .before .before .before .task-rows .ensures) (is-any (c .before .before .if2 .taken)) (c .any-of .ensures)
+returns-2 c = all-nodes (c .before .before .before .before .before .task-rows .ensures)
+    (is-any (c .before .before .if2 .taken)) (c .any-of .ensures)
 
 returns-3 : tie.Need-returns-3
 returns-3 c =

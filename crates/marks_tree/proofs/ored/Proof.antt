@@ -26,7 +26,8 @@ loop-again c =
       omega arith,
       (
         length-set (l .loop .out) _ _ ∙ l .loop .inv .1 .0,
-        filled (λ j x. x ≡ bitOr (getD (a .t1) j 0) (getD (a .t2) j 0)) (l .loop .out) (l .loop .k) _ (omega (arith, l .loop .inv .1 .0)) refl (l .loop .inv .1 .1),
+        filled (λ j x. x ≡ bitOr (getD (a .t1) j 0) (getD (a .t2) j 0)) (l .loop .out) (l .loop .k) _
+            (omega (arith, l .loop .inv .1 .0)) refl (l .loop .inv .1 .1),
       ),
     )
 

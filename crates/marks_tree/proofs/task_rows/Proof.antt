@@ -24,7 +24,8 @@ loop-again : tie.Need-loop-again Inv-loop μ-loop
 loop-again c =
     let l = c .before .before .before in (
       omega arith,
-      ⊎-elim (λ w. task-more (w .4) (l .loop .inv .1) (w .3 .ensures) (w .1 .ensures)) (λ w. task-skip (w .1) (l .loop .inv .1) (w .0 .left)) (c .if1 .came),
+      ⊎-elim (λ w. task-more (w .4) (l .loop .inv .1) (w .3 .ensures) (w .1 .ensures))
+          (λ w. task-skip (w .1) (l .loop .inv .1) (w .0 .left)) (c .if1 .came),
     )
 
 returns : tie.Need-returns Inv-loop μ-loop

@@ -11,7 +11,8 @@ use Rattle.marks_words.proofs.mark_words.Statement.{statement}
 use Rattle.marks_words.proofs.mark_words.Tie as tie
 
 abbrev Inv-loop : tie.InvT-loop
-Inv-loop rows node words₀ k₀ words k = (k ≤ 16) × ((length words ≡ 16) × ((j : ℕ) → j < k → WordIs rows node j (getD words j 0)))
+Inv-loop rows node words₀ k₀ words k = (k ≤ 16)
+    × ((length words ≡ 16) × ((j : ℕ) → j < k → WordIs rows node j (getD words j 0)))
 
 abbrev μ-loop : tie.MeasureT-loop
 μ-loop rows node words₀ k₀ words k = 16 - k
@@ -26,12 +27,16 @@ loop-again c =
       omega arith,
       (
         length-set (l .loop .words) _ _ ∙ l .loop .inv .1 .0,
-        filled (λ j x. WordIs (a .rows .now) (a .node) j x) (l .loop .words) (l .loop .k) _ (omega (arith, l .loop .inv .1 .0)) (c .mark-word .ensures) (l .loop .inv .1 .1),
+        filled (λ j x. WordIs (a .rows .now) (a .node) j x) (l .loop .words) (l .loop .k) _
+            (omega (arith, l .loop .inv .1 .0)) (c .mark-word .ensures) (l .loop .inv .1 .1),
       ),
     )
 
 returns : tie.Need-returns Inv-loop μ-loop
-returns c = λ p w n r. record { says = λ v m f l. c .before .loop .inv .1 .1 (wordIndex v m) (omega (arith, word-small v m)) p w n r v m refl f l }
+returns c = λ p w n r. record {
+  says =
+      λ v m f l. c .before .loop .inv .1 .1 (wordIndex v m) (omega (arith, word-small v m)) p w n r v m refl f l;
+}
 
 pub mark-words-spec : {M : Type 1} → statement M
 mark-words-spec =

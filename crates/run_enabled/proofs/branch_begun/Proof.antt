@@ -71,7 +71,8 @@ loop-again c =
       (
         omega (arith, lower, l .loop .inv .1 .0),
         λ x.
-            rival-up _ _ (s .pre .0 .passed) (l .loop .n) (w .wide .result) (omega arith) (l .loop .inv .1 .0) (parent-is w)
+            rival-up _ _ (s .pre .0 .passed) (l .loop .n) (w .wide .result) (omega arith) (l .loop .inv .1 .0)
+            (parent-is w)
             (sym (c .before .rival-begun .ensures) ∙ c .if1 .left) (l .loop .inv .1 .1 x),
       ),
     )
@@ -81,7 +82,8 @@ returns-2 c =
     let l = c .before in
     let s = l .before .before .before in
     let e : l .loop .n ≡ 0 = omega arith in
-    begun-no _ _ (s .pre .0 .passed) (s .args .task) (λ x. none-at-root _ _ (s .pre .0 .passed) (rw e at (l .loop .inv .1 .1 x)))
+    begun-no _ _ (s .pre .0 .passed) (s .args .task)
+    (λ x. none-at-root _ _ (s .pre .0 .passed) (rw e at (l .loop .inv .1 .1 x)))
 
 pub branch-begun-spec : {M : Type 1} → statement M
 branch-begun-spec =

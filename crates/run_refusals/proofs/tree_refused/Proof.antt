@@ -18,7 +18,8 @@ opens : (c : tie.After-order-open)
     .before .args .state))) (c .before .before .before .before .before .before .before .before .before .before
     .before .args .task)
 opens c = c .order-open .ensures
-    ∙ open-is _ _ (c .before .before .before .before .before .before .before .before .before .before .before .pre .passed) _
+    ∙ open-is _ _ (c .before .before .before .before .before .before .before .before .before .before .before .pre
+    .passed) _
     _ (c .before .before .before .path .ensures .1)
 
 branch-begun-requires : tie.Need-branch-begun-requires

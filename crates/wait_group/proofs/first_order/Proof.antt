@@ -22,18 +22,24 @@ loop-holds : tie.Need-loop-holds Inv-loop μ-loop
 loop-holds c = rw (c .orders .ensures) between-all
 
 earlier-requires : tie.Need-earlier-requires Inv-loop μ-loop
-earlier-requires c κs = (omega (arith, c .before .loop .inv .inside), clean _ (c .before .before .before .before .pre) .fits)
+earlier-requires c κs = (
+  omega (arith, c .before .loop .inv .inside),
+  clean _ (c .before .before .before .before .pre) .fits,
+)
 
 loop-again : tie.Need-loop-again Inv-loop μ-loop
 loop-again c =
     let l = c .before .before .before .before in
-    let m : earlierOf (l .before .before .before .args .plan .now) (l .loop .low + (l .loop .high - l .loop .low) / 2) < l .before .before .before .args .c = omega (arith, c .before .wide .ensures, c .before .before .earlier .ensures) in
+    let m : earlierOf (l .before .before .before .args .plan .now)
+    (l .loop .low + (l .loop .high - l .loop .low) / 2) < l .before .before .before .args .c =
+    omega (arith, c .before .wide .ensures, c .before .before .earlier .ensures) in
     between-low (sorted _ (clean _ (l .before .before .before .pre))) (omega arith) (omega arith) m (l .loop .inv)
 
 loop-again-2 : tie.Need-loop-again-2 Inv-loop μ-loop
 loop-again-2 c =
     let l = c .before .before .before .before in
-    between-high (sorted _ (clean _ (l .before .before .before .pre))) (omega arith) (omega arith) (λ m. omega (arith, c .before .wide .ensures, c .before .before .earlier .ensures)) (l .loop .inv)
+    between-high (sorted _ (clean _ (l .before .before .before .pre))) (omega arith) (omega arith)
+    (λ m. omega (arith, c .before .wide .ensures, c .before .before .earlier .ensures)) (l .loop .inv)
 
 returns : tie.Need-returns Inv-loop μ-loop
 returns c = between-found (omega arith) (c .before .loop .inv)

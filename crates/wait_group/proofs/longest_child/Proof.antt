@@ -11,7 +11,8 @@ use Rattle.wait_group.proofs.longest_child.Statement.{statement}
 use Rattle.wait_group.proofs.longest_child.Tie as tie
 
 abbrev Inv-loop : tie.InvT-loop
-Inv-loop plan from kids lengths node longest₀ segment i₀ longest i = Reached segment i × GreatestTo kids (segment .start) (lengthOf plan) i longest
+Inv-loop plan from kids lengths node longest₀ segment i₀ longest i = Reached segment i
+    × GreatestTo kids (segment .start) (lengthOf plan) i longest
 
 abbrev μ-loop : tie.MeasureT-loop
 μ-loop plan from kids lengths node longest₀ segment i₀ longest i = segment .end - i
@@ -20,7 +21,10 @@ children-requires : tie.Need-children-requires Inv-loop μ-loop
 children-requires c κs = let o = at-group (c .before .pre .0) in omega (arith, o .shaped .small, o .below)
 
 loop-holds : tie.Need-loop-holds Inv-loop μ-loop
-loop-holds c = (first-turn (at-segment (at-group (c .before .before .pre .0)) (c .children .ensures)), greatest-start refl)
+loop-holds c = (
+  first-turn (at-segment (at-group (c .before .before .pre .0)) (c .children .ensures)),
+  greatest-start refl,
+)
 
 element-copy-out-wide : tie.Need-element-copy-out-wide Inv-loop μ-loop
 element-copy-out-wide c =

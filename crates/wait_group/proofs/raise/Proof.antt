@@ -29,34 +29,63 @@ returns : tie.Need-returns Inv-loop μ-loop
 returns c =
     let l = c .before .before .before .before in
     let s = l .before .before .before .before in
-    raised-stop (sorted _ (clean _ (s .pre .0))) (omega arith) (λ z. c .if1 .taken (c .before .wide .ensures .0 ∙ c .before .before .earlier .ensures ∙ z)) (l .loop .inv .1)
+    raised-stop (sorted _ (clean _ (s .pre .0))) (omega arith)
+    (λ z. c .if1 .taken (c .before .wide .ensures .0 ∙ c .before .before .earlier .ensures ∙ z)) (l .loop .inv .1)
 
 later-requires : tie.Need-later-requires Inv-loop μ-loop
-later-requires c κs = (omega arith, clean _ (c .before .before .before .before .before .before .before .before .pre .0) .fits)
+later-requires c κs = (
+  omega arith,
+  clean _ (c .before .before .before .before .before .before .before .before .pre .0) .fits,
+)
 
 element-copy-out-w : tie.Need-element-copy-out-w Inv-loop μ-loop
 element-copy-out-w c =
     let l = c .before .before .before .before .before .before in
     let s = l .before .before .before .before in
-    omega (arith, sorted _ (clean _ (s .pre .0)) .small (l .loop .j) (omega arith), c .wide2 .ensures, c .before .later .ensures)
+    omega (
+      arith,
+      sorted _ (clean _ (s .pre .0)) .small (l .loop .j) (omega arith),
+      c .wide2 .ensures,
+      c .before .later .ensures,
+    )
 
 mul-waits : tie.Need-mul-waits Inv-loop μ-loop
 mul-waits c =
     let l = c .before .before .before .before .before .before .before .before in
     let s = l .before .before .before .before in
-    omega (arith, sorted _ (clean _ (s .pre .0)) .small (l .loop .j) (omega arith), c .before .before .wide2 .ensures, c .before .before .before .later .ensures)
+    omega (
+      arith,
+      sorted _ (clean _ (s .pre .0)) .small (l .loop .j) (omega arith),
+      c .before .before .wide2 .ensures,
+      c .before .before .before .later .ensures,
+    )
 
 element-write-waits : tie.Need-element-write-waits Inv-loop μ-loop
 element-write-waits c =
     let l = c .before .before .before .before .before .before .before .before in
     let s = l .before .before .before .before in
-    omega (arith, sorted _ (clean _ (s .pre .0)) .small (l .loop .j) (omega arith), c .before .before .wide2 .ensures, c .before .before .before .later .ensures)
+    omega (
+      arith,
+      sorted _ (clean _ (s .pre .0)) .small (l .loop .j) (omega arith),
+      c .before .before .wide2 .ensures,
+      c .before .before .before .later .ensures,
+    )
 
 loop-again : tie.Need-loop-again Inv-loop μ-loop
 loop-again c =
     let l = c .before .before .before .before .before .before .before .before in
-    let s = l .before .before .before .before in
-    (l .loop .inv .0, raised-more (sorted _ (clean _ (s .pre .0))) (omega arith) (omega (arith, c .before .before .before .before .if1 .left, c .before .before .before .before .before .wide .ensures, c .before .before .before .before .before .before .earlier .ensures)) (c .before .before .wide2 .ensures .0 ∙ c .before .before .before .later .ensures) (c .greater .ensures) (l .loop .inv .1))
+    let s = l .before .before .before .before in (
+      l .loop .inv .0,
+      raised-more (sorted _ (clean _ (s .pre .0))) (omega arith)
+          (omega (
+            arith,
+            c .before .before .before .before .if1 .left,
+            c .before .before .before .before .before .wide .ensures,
+            c .before .before .before .before .before .before .earlier .ensures,
+          ))
+          (c .before .before .wide2 .ensures .0 ∙ c .before .before .before .later .ensures) (c .greater .ensures)
+          (l .loop .inv .1),
+    )
 
 returns-2 : tie.Need-returns-2 Inv-loop μ-loop
 returns-2 c = raised-all (λ i a z e. omega arith) (c .before .loop .inv .1)

@@ -9,7 +9,8 @@ use Rattle.wait_group.proofs.spread.Statement.{statement}
 use Rattle.wait_group.proofs.spread.Tie as tie
 
 abbrev Inv-loop : tie.InvT-loop
-Inv-loop plan from kids lengths waits₀ node longest₀ segment i₀ waits longest i = Reached segment i × SpreadTo plan kids segment lengths waits₀ waits i longest
+Inv-loop plan from kids lengths waits₀ node longest₀ segment i₀ waits longest i = Reached segment i
+    × SpreadTo plan kids segment lengths waits₀ waits i longest
 
 abbrev μ-loop : tie.MeasureT-loop
 μ-loop plan from kids lengths waits₀ node longest₀ segment i₀ waits longest i = segment .end - i
@@ -19,8 +20,10 @@ children-requires c κs = let o = at-group (c .before .pre .0) in omega (arith, 
 
 loop-holds : tie.Need-loop-holds Inv-loop μ-loop
 loop-holds c =
-    let s = c .before .before in
-    (first-turn (at-segment (at-group (s .pre .0)) (c .children .ensures)), spread-none (s .pre .0) (c .children .ensures) (s .pre .1))
+    let s = c .before .before in (
+      first-turn (at-segment (at-group (s .pre .0)) (c .children .ensures)),
+      spread-none (s .pre .0) (c .children .ensures) (s .pre .1),
+    )
 
 element-copy-out-wide : tie.Need-element-copy-out-wide Inv-loop μ-loop
 element-copy-out-wide c =
@@ -44,7 +47,11 @@ mul-child-end-2 : tie.Need-mul-child-end-2 Inv-loop μ-loop
 mul-child-end-2 c =
     let l = c .before .before .before .before .before in
     let a = at-segment (at-group (l .before .before .before .pre .0)) (l .before .children .ensures) in
-    omega (arith, kid-small a (position (l .loop .inv .0) (c .before .before .before .if1 .taken)) (c .before .wide .ensures .0))
+    omega (
+      arith,
+      kid-small a (position (l .loop .inv .0) (c .before .before .before .if1 .taken))
+          (c .before .wide .ensures .0),
+    )
 
 element-copy-out-child-end-2 : tie.Need-element-copy-out-child-end-2 Inv-loop μ-loop
 element-copy-out-child-end-2 c =
@@ -57,7 +64,8 @@ add-child-end c =
     let l = c .before .before .before .before .before .before in
     let s = l .before .before .before in
     let at = position (l .loop .inv .0) (c .before .before .before .before .if1 .taken) in
-    let e = spread-end (s .pre .0) (l .before .children .ensures) (c .before .before .wide .ensures .0) at (l .loop .inv .1) (s .pre .2) in
+    let e = spread-end (s .pre .0) (l .before .children .ensures) (c .before .before .wide .ensures .0) at
+    (l .loop .inv .1) (s .pre .2) in
     omega (arith, e .0, e .1)
 
 raise-requires : tie.Need-raise-requires Inv-loop μ-loop
@@ -74,8 +82,11 @@ loop-again c =
     let test = c .before .before .before .before .before .before .before .if1 .taken in
     let e = c .before .before .before .before .before .wide .ensures .0 in
     let at = position turn test in
-    let x = spread-end (s .pre .0) here e at (l .loop .inv .1) (s .pre .2) in
-    (next-turn turn test, spread-more (s .pre .0) here e at (l .loop .inv .1) (x .0) (c .before .raise .ensures) (c .greater .ensures))
+    let x = spread-end (s .pre .0) here e at (l .loop .inv .1) (s .pre .2) in (
+      next-turn turn test,
+      spread-more (s .pre .0) here e at (l .loop .inv .1) (x .0) (c .before .raise .ensures)
+          (c .greater .ensures),
+    )
 
 returns : tie.Need-returns Inv-loop μ-loop
 returns c =

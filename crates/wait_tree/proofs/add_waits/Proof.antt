@@ -31,20 +31,23 @@ parent-requires c κs = (omega arith, clean _ (c .before .before .before .before
 element-copy-out-above : tie.Need-element-copy-out-above Inv-loop μ-loop
 element-copy-out-above c =
     let l = c .before .before .before in
-    down-sum (clean _ (l .before .before .before .pre .0)) (c .wide .ensures .0 ∙ c .before .parent .ensures) (omega arith) (l .loop .inv .1) .0
+    down-sum (clean _ (l .before .before .before .pre .0)) (c .wide .ensures .0 ∙ c .before .parent .ensures)
+    (omega arith) (l .loop .inv .1) .0
 
 add-waits : tie.Need-add-waits Inv-loop μ-loop
 add-waits c =
     let l = c .before .before .before .before .before in
     let ok = clean _ (l .before .before .before .pre .0) in
-    let s = down-sum ok (c .before .before .wide .ensures .0 ∙ c .before .before .before .parent .ensures) (omega arith) (l .loop .inv .1) in
+    let s = down-sum ok (c .before .before .wide .ensures .0 ∙ c .before .before .before .parent .ensures) (omega arith)
+    (l .loop .inv .1) in
     omega (arith, s .1, end-limit _ ok (l .loop .c) (omega arith))
 
 loop-again : tie.Need-loop-again Inv-loop μ-loop
 loop-again c =
     let l = c .before .before .before .before .before in
     let ok = clean _ (l .before .before .before .pre .0) in
-    let s = down-sum ok (c .before .before .wide .ensures .0 ∙ c .before .before .before .parent .ensures) (omega arith) (l .loop .inv .1) in
+    let s = down-sum ok (c .before .before .wide .ensures .0 ∙ c .before .before .before .parent .ensures) (omega arith)
+    (l .loop .inv .1) in
     (l .loop .inv .0, down-more ok (omega arith) (s .1) (l .loop .inv .1))
 
 returns : tie.Need-returns Inv-loop μ-loop

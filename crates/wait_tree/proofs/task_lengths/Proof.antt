@@ -33,8 +33,12 @@ minutes-requires c κs = (omega arith, clean _ (c .before .before .before .befor
 loop-again : tie.Need-loop-again Inv-loop μ-loop
 loop-again c =
     let l = c .before .before .before in
-    let ok = clean _ (l .before .before .before .pre .0) in
-    (l .loop .inv .0, ⊎-elim (λ w. tasks-more ok (omega arith) (sym (c .before .kind .ensures) ∙ w .0 .taken) (w .1 .ensures) (w .2) (l .loop .inv .1)) (λ w. tasks-skip (λ z. w .0 .left (c .before .kind .ensures ∙ z)) (w .1) (l .loop .inv .1)) (c .if1 .came))
+    let ok = clean _ (l .before .before .before .pre .0) in (
+      l .loop .inv .0,
+      ⊎-elim (λ w. tasks-more ok (omega arith) (sym (c .before .kind .ensures) ∙ w .0 .taken)
+          (w .1 .ensures) (w .2) (l .loop .inv .1))
+          (λ w. tasks-skip (λ z. w .0 .left (c .before .kind .ensures ∙ z)) (w .1) (l .loop .inv .1)) (c .if1 .came),
+    )
 
 returns : tie.Need-returns Inv-loop μ-loop
 returns c =
