@@ -1,6 +1,6 @@
 // The flags that pass from a child d of an all-of group to a child c after it: may pass, where every child between the
-// two can avoid the flag; always pass,
-// where no task under any other child asserts it, unless that child stands before d or after c.
+// two can avoid the flag; always pass, where no task under any other child asserts it, unless that child stands before
+// d or after c.
 ghost use mathlib.Core.Logic.{_↔_};
 ghost use Prim.Native.Nat.{ℕ, _<_};
 ghost use lib.Dec.{T};
@@ -102,8 +102,7 @@ fn passing_part(
 }
 
 // Of the given flags, those that pass from the child at j to the child c. The children after the one at j in the table
-// come first: there the flags are
-// soonest settled.
+// come first: there the flags are soonest settled.
 pub fn passing(
     kids: &[u8; 128],
     segment: Segment,

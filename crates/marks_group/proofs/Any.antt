@@ -1,6 +1,5 @@
 -- The facts of a group by those of its children, where the rule is the same for all properties: an any-of group has a
--- fact where some branch has it, in
--- the last columns where every branch has it. Assumes nothing.
+-- fact where some branch has it, in the last columns where every branch has it. Assumes nothing.
 use mathlib.Core.Path.{_≡_}
 use mathlib.Core.Logic.{_≢_, _⊎_, inl, inr, _↔_}
 use mathlib.Core.Bool.{Bool}

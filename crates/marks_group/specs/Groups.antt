@@ -74,8 +74,7 @@ pub record Unmerged (first last : ℕ) (r : List ℕ) : Type 0 where
   pub some : (k : ℕ) → k < 21 → (k < first) ⊎ (last ≤ k) → getD r k 0 ≡ 0
 
 -- the words r say of the children at the positions from low to high: in the columns from first to last that every one
--- has P, in the others that some one
--- has P and M
+-- has P, in the others that some one has P and M
 pub record Joined (first last : ℕ) (kids : List ℕ) (low high : ℕ) (P M : Column → ℕ → ℕ → Type 0)
     (r : List ℕ) : Type 0 where
   pub every : (k : Column) → first ≤ indexOf k → indexOf k < last → (f : ℕ) → f < 64

@@ -23,8 +23,7 @@ abbrev pub Unclobbered : Plan → ℕ → Literals → ℕ → Type 0
 Unclobbered p n wanted c = (d : ℕ) → Child p n d → NoClobber p n wanted c d
 
 -- The search stands at the child at position i and the partner at position j: no pair that it has passed clobbers a
--- wanted literal. These are the pairs of the
--- children before i, and those of the child at i with a partner before j.
+-- wanted literal. These are the pairs of the children before i, and those of the child at i with a partner before j.
 pub record Stands (kids : List ℕ) (segment : Segment) (order rows : List ℕ) (wanted : Literals) (i j : ℕ) : Type 0 where
   pub child : Reached segment i
   pub partner : Reached segment j

@@ -12,8 +12,8 @@ use Rattle.runs.specs.Summary.{May, Must, ExternalPre, ExternalPost, Inconditio
 use Rattle.runs.specs.Classes.{Neutral, Covers, MayQuiet, MayMeet}
 
 -- Each but the first is for a sign. `requires`: some task has the literal as pre- or incondition; `asserts`: as in- or
--- postcondition. The last two are the
--- ones that an any-of group has where every branch has them; it has the others where some branch does.
+-- postcondition. The last two are the ones that an any-of group has where every branch has them; it has the others
+-- where some branch does.
 pub data Column : Type 0 where
   avoid : Column
   quiet covered may-pre may-post may-inc requires asserts may-clobber must-inc must-clobber : Bool → Column
@@ -36,8 +36,7 @@ abbrev pub firstOf : (Bool → Column) → ℕ
 firstOf k = indexOf (k false)
 
 -- what a column says of node n and flag f. (Must precondition is 'neither quiet nor covered', must postcondition
--- 'neither avoid nor may post of the
--- opposite': the theory's must-pre-is and must-post-is.)
+-- 'neither avoid nor may post of the opposite': the theory's must-pre-is and must-post-is.)
 abbrev pub Fact : Plan → ℕ → ℕ → Column → Type 0
 Fact p n f avoid = May p n (λ h. lastAsserted p h f ≡ none)
 Fact p n f (quiet v) = MayQuiet p (Neutral p f v) n

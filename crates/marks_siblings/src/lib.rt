@@ -17,8 +17,7 @@ use marks_row::neither;
 use marks_row::word_at;
 
 // What the siblings of a child in an all-of group allow: those before it avoid the flag, are quiet for its clear and
-// its set literal; those after it
-// avoid the flag; those unordered with it do not assert the flag.
+// its set literal; those after it avoid the flag; those unordered with it do not assert the flag.
 pub struct Siblings {
     pub avoid_before: u64,
     pub clear_before: u64,

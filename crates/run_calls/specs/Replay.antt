@@ -31,8 +31,7 @@ unfoldable pub listState : List ℕ → List ℕ → List Call → List ℕ
 listState b s cs = overlay (shownByte (states (planOf b) (fresh (startOf b)) cs)) (8 + nodeCount b) s
 
 -- Where fresh refuses, all is as it was. Else the state is the one after the calls cs, the first places of out hold
--- what they returned, and the claim of
--- demand 3 about lists holds of them.
+-- what they returned, and the claim of demand 3 about lists holds of them.
 pub record Ran (b s out : List ℕ) (cs : List Call) (r : ℕ) (s′ out′ : List ℕ) : Type 0 where
   pub returns : r ≡ roomRefusal b s
   pub leaves : s′ ≡ cond (eqb r 0) (listState b s cs) s

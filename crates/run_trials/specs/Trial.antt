@@ -52,8 +52,7 @@ AllShown b [] = Unit {0}
 AllShown b (shown n f v m ∷ l) = ShownBy b n f v m × AllShown b l
 
 -- the plan's bytes b are accepted; whatever `assess` answers for them, it is the verdict; whatever fresh and the calls
--- return and leave, on any bytes s with room, it is what
--- the trial says, the bytes after 8 + N as they were
+-- return and leave, on any bytes s with room, it is what the trial says, the bytes after 8 + N as they were
 pub record HoldsOf (b : List ℕ) (t : Trial) : Type 0 where
   pub accepted : refusal b ≡ 0
   pub judged : (r : Answer) → Assessed b r → said r ≡ inr (t .verdict)

@@ -50,8 +50,7 @@ pub record Conditions : Type 0 where
   pub sign : Place → ℕ → ℕ → Option Bool
 
 -- The meaning of 01's book, but for names, minutes and start flags. Its three parts are apart: what rests on one of
--- them is the same for all plans
--- that share it.
+-- them is the same for all plans that share it.
 pub record Plan : Type 0 where
   pub tree : Tree
   pub cond : Conditions
@@ -91,8 +90,7 @@ module _ (p : Plan) where
     pub not-after : ¬ Before b a
 
   -- What the theory asks of a plan; refusals 7, 8, 9, 12 and 13 leave it (`Accepted`, below). The rank stands for the
-  -- node's number, so that orders
-  -- may also run against the numbers.
+  -- node's number, so that orders may also run against the numbers.
   pub record WellFormed : Type 0 where
     pub root-node : Node 0
     pub node-below : (n : ℕ) → Node n → n < p .tree .size

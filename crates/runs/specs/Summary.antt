@@ -41,8 +41,7 @@ module _ (p : Plan) where
       pub runs : statusAfter until who ≡ running
 
     -- 01's "clash": after the history h the event e has a precondition whose opposite was asserted last, or asserts the
-    -- opposite of an incondition of
-    -- another running task
+    -- opposite of an incondition of another running task
     pub data Clobbers (h : History) (e : Event) : Type 0 where
       precondition : preOf (p .cond) e f ≡ some v → lastAsserted p h f ≡ some (not v) → Clobbers h e
       incondition : (t : ℕ) → nodeOf e ≢ t → p .cond .sign inc t f ≡ some v → statusAfter h t ≡ running
@@ -67,10 +66,8 @@ module _ (p : Plan) where
     pub has : (p .cond .sign i who f ≡ some v) ⊎ (p .cond .sign j who f ≡ some v)
 
   -- 01's rule by pairs for mark 6 at an all-of group: a child has it; or for unordered c and d, a task under c needs or
-  -- holds the literal and one under
-  -- d holds or leaves the opposite; or d stands before c, d may leave the opposite, c may need the literal, and each
-  -- child standing between them has a
-  -- whole free run that does not touch the flag
+  -- holds the literal and one under d holds or leaves the opposite; or d stands before c, d may leave the opposite, c
+  -- may need the literal, and each child standing between them has a whole free run that does not touch the flag
   pub data ClobberByPairs (f : ℕ) (v : Bool) (n : ℕ) : Type 0 where
     in-child : (c : ℕ) → Child p n c → MayClobber f v c → ClobberByPairs f v n
     unordered-pair : (c d : ℕ) → Child p n c → Child p n d → Unordered p c d → TaskWith pre inc f v c

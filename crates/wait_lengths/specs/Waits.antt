@@ -19,8 +19,8 @@ greatest zero p f = 0
 greatest (suc n) p f = raised (p n) f n (greatest n p f)
 
 -- A child's wait within an all-of group: 0, or the greatest wait plus length among its orders' earlier nodes. The
--- lengths are given; k is the number of orders in a chain that are followed,
--- and since an earlier node has the lower number, the number of nodes is enough.
+-- lengths are given; k is the number of orders in a chain that are followed, and since an earlier node has the lower
+-- number, the number of nodes is enough.
 unfoldable pub waitBy : List ℕ → (ℕ → ℕ) → ℕ → ℕ → ℕ
 waitBy b len zero c = 0
 waitBy b len (suc k) c = greatest (orderCount b) (λ j. eqb (laterOf b j) c)

@@ -1,6 +1,5 @@
 -- Lists of calls that are all accepted, the last call first: they are executions of the root. A plan that is not CLEAR
--- has one that comes to
--- a violation; no such list completes a DOOMED root.
+-- has one that comes to a violation; no such list completes a DOOMED root.
 use Rattle.runs.proofs.Base.{_≡_, refl, ap, _∙_, _⊎_, inl, inr, Bool, not, some, List, [], _∷_, _++_, ℕ}
 use Rattle.runs.specs.Plan.{Plan, WellFormed}
 use Rattle.runs.specs.Execution.{State, Event, History, statusAfter, Complete, Enabled, Execution, none-yet}

@@ -1,6 +1,5 @@
 -- Lists of calls, the first call first, refused calls anywhere among them: the states that they leave are those after
--- the accepted ones, and a return
--- is 21 or 22 in some list exactly if some accepted list comes to a violation.
+-- the accepted ones, and a return is 21 or 22 in some list exactly if some accepted list comes to a violation.
 use Rattle.runs.proofs.Base.{_≡_, refl, sym, ap, _∙_, fun-ext, _⊎_, inl, inr, Bool, Option, none, some}
 use Rattle.runs.proofs.Base.{Option·getD, List, [], _∷_, _++_}
 use Rattle.runs.proofs.Base.{reverseAux, Among, here, there, among-none, among-cases, ℕ}

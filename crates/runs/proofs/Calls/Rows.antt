@@ -1,6 +1,5 @@
 -- The rows of the table: a call is accepted exactly if it is enabled and violates nothing; 21 or 22 is its first
--- refusal exactly if it is enabled and
--- violates something.
+-- refusal exactly if it is enabled and violates something.
 use Rattle.runs.proofs.Base.{_≡_, refl, sym, _⊎_, inl, inr, _↔_, Iff·trans, Bool, decide, Option, none, some}
 use Rattle.runs.proofs.Base.{List, [], _∷_, _++_, ℕ, T}
 use Rattle.runs.specs.Tests.{either}

@@ -1,6 +1,6 @@
 -- The rules by children for the marks of the conditions, each exact: at a task its conditions, at an all-of group a
--- rule for each mark. (At a choice the
--- rule is the same for all of them: MayMust. Clobber and ReflectClobber have marks 6 and 7.)
+-- rule for each mark. (At a choice the rule is the same for all of them: MayMust. Clobber and ReflectClobber have marks
+-- 6 and 7.)
 use Rattle.runs.proofs.Base.{_≡_, refl, _∙_, _⊎_, inl, inr, _↔_, Iff·trans, Bool, Option, none, some, [], _∷_, ℕ}
 use Rattle.runs.specs.Tests.{negate}
 use Rattle.runs.specs.Plan.{all-of, pre, inc, post, Plan, Node, Child, Before, WellFormed}

@@ -1,8 +1,7 @@
 -- `plan_reader::Reader::next` meets its contract: a walk of its MIR, by hand. The borrow of the struct is opened; the
 -- slice and the position are read, and `item_at` is called on them; the next position is stored, and the borrow is
--- closed at the struct
--- with it. What the struct owns is had twice, since it is Copy: of one copy what the slice owns goes to `item_at`, and
--- the other is kept. All that the proof knows of `item_at` is that it meets its contract.
+-- closed at the struct with it. What the struct owns is had twice, since it is Copy: of one copy what the slice owns
+-- goes to `item_at`, and the other is kept. All that the proof knows of `item_at` is that it meets its contract.
 -- Assumes nothing.
 use mathlib.Core.Path.{_≡_, refl}
 use Prim.Native.Nat.{ℕ, _<_, _^_, _+_}
