@@ -17,14 +17,14 @@ use Rattle.runs.specs.Plan.{placeNumber}
 use Rattle.plan_check.proofs.Meaning.{kind-is}
 use Rattle.runs.specs.Execution.{Event, nodeOf, statusOf}
 use Rattle.runs.specs.Calls.{statusByte}
-use Rattle.run_state.specs.State.{nodeByte, badFlag, badByte, malformed, roomRefusal, stateRefusal, statusAt, statusIn}
+use Rattle.run_state.specs.State.{nodeByte, badFlag, badByte, malformed, roomRefusal, stateRefusal, statusIn}
 use Rattle.run_state.specs.State.{worldOf}
 use Rattle.run_state.specs.Fresh.{freshByte, freshState}
 use Rattle.base.specs.Answers.{overlay}
 use Rattle.run_state.proofs.Refused.{roomy, state-well}
 use Rattle.base.proofs.Overlay.{length-overlay, at-overlay, past-overlay}
 use Rattle.run_state.proofs.Left.{fresh-accepted}
-use Rattle.run_state.proofs.Passed.{has-room, byte-small}
+use Rattle.run_state.proofs.Passed.{status-back, has-room, byte-small}
 use Rattle.run_refusals.specs.Events.{eventPlace, eventRefusal}
 use Rattle.run_refusals.proofs.Chain.{answer-task}
 use Rattle.run_monitor.specs.Events.{afterEvent, eventState}
@@ -89,13 +89,6 @@ module _ (b s z : List ℕ) (ok : stateRefusal b z ≡ 0) (h : Kept b s z) (e : 
 
 -- ---- the bytes of a state are those of what it shows
 module _ (b s z : List ℕ) (ok : stateRefusal b z ≡ 0) (h : Kept b s z) where
-  status-at : (x : ℕ) → x ≤ 2 → statusByte (statusAt x) ≡ x
-  unfolding statusAt
-  status-at zero l = refl
-  status-at (suc zero) l = refl
-  status-at (suc (suc zero)) l = refl
-  status-at (suc (suc (suc x))) l = absurd (omega arith)
-
   pub group-byte : (n : ℕ) → n < nodeCount b → isKind b n 0 ≡ false → nodeByte z n ≡ 0
   unfolding malformed badByte
   group-byte n l y =
@@ -106,7 +99,7 @@ module _ (b s z : List ℕ) (ok : stateRefusal b z ≡ 0) (h : Kept b s z) where
   unfolding statusIn
   status-byte n l =
       ⊎-elim
-      (λ (y : isKind b n 0 ≡ true). rw y (status-at (nodeByte z n) (byte-small b z ok n l (kind-is b n 0 y .1))))
+      (λ (y : isKind b n 0 ≡ true). rw y (status-back (nodeByte z n) (byte-small b z ok n l (kind-is b n 0 y .1))))
       (λ (y : isKind b n 0 ≡ false). rw (y, group-byte n l y))
       (either (isKind b n 0))
 

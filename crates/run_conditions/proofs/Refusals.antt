@@ -23,7 +23,7 @@ use Rattle.runs.specs.Model.Monitor.{preUnmetB, incBrokenB}
 use Rattle.runs.proofs.Calls.Reflect.{r-pre-unmet, r-inc-broken}
 use Rattle.runs.proofs.Reflect.{true-T, T-true, same-test}
 use Rattle.run_state.specs.State.{nodeByte, flagShown, statusIn, stateRefusal}
-use Rattle.run_state.proofs.Passed.{has-room, well-formed, byte-running}
+use Rattle.run_state.proofs.Passed.{has-room, well-formed, byte-is}
 use Rattle.run_state.specs.Made.{isOf, setAt, made}
 use Rattle.run_conditions.specs.Conditions.{unmetAt, brokenAt}
 use Rattle.run_conditions.proofs.Laws.{flag-small, of-is, is-of, sign-at, found, made-flag, on-task}
@@ -122,7 +122,7 @@ module _ (b s : List ℕ) (ok : stateRefusal b s ≡ 0) (t : ℕ) where
           on = f;
           sign = v;
           another = λ z. eqb-false (condNode b i) t (not-true _ (x1 .1)) (sym z ∙ of);
-          runs = byte-running b s ok (condNode b i) (n .0) (n .1) .0 (eqb-true _ _ (x2 .1));
+          runs = byte-is b s ok (condNode b i) (n .0) (n .1) running .0 (eqb-true _ _ (x2 .1));
           holds = sign-at b accepted inc (condNode b i) i (w .1) (x1 .0);
           breaks = turned v (asserts (planOf b) e f)
               (sym (after-flag v f (flag-small (condValue b i)))
@@ -146,7 +146,7 @@ module _ (b s : List ℕ) (ok : stateRefusal b s ≡ 0) (t : ℕ) where
         (and-of (isOf b 1 (condNode b i) i) (not (eqb (condNode b i) t)) (is-of b 1 (condNode b i) i refl (d .1))
         (rw (ne-eqb (condNode b i) t (λ z. x .another (of ∙ sym z ∙ d .0)))))
         (eq-eqb (nodeByte s (condNode b i)) 1
-        (byte-running b s ok (condNode b i) (n .0) (n .1) .1 (ap (statusIn b s) (d .0) ∙ x .runs))))
+        (byte-is b s ok (condNode b i) (n .0) (n .1) running .1 (ap (statusIn b s) (d .0) ∙ x .runs))))
         (differs v (flagIn (cond v (after true) (after false)) f)
         (after-flag v f (flag-small (condValue b i)) ∙ ap (λ (z : ℕ). Option·getD (asserts (planOf b) e z) v) (w .flag)
         ∙ ap (λ (o : Option Bool). Option·getD o v) (x .breaks) ∙ ap not (sym (w .sign))))))

@@ -24,7 +24,7 @@ use Rattle.runs.proofs.Execution.Final.{under-task}
 use Rattle.runs.proofs.Reflect.{Reflects, r-map, r-eq, r-negate, true-T, T-true, same-test}
 use Rattle.runs.proofs.Calls.Reflect.{r-complete, r-begun}
 use Rattle.run_state.specs.State.{nodeByte, stateRefusal, statusIn}
-use Rattle.run_state.proofs.Passed.{has-room, well-formed, byte-done, byte-waiting}
+use Rattle.run_state.proofs.Passed.{has-room, well-formed, byte-is}
 use Rattle.run_progress.specs.Progress.{countedAt, countedChild, childrenCounted}
 use Rattle.run_progress.specs.declared.Tally.{Tally}
 use Rattle.run_progress.specs.declared.Tally.the-variants.{Ends}
@@ -88,7 +88,7 @@ module _ (b s : List ℕ) (ok : stateRefusal b s ≡ 0) (n : ℕ) (l : n < nodeC
   pub task-complete : kindOf b n ≡ 0 → eqb (nodeByte s n) 2 ≡ completeB (planOf b) (statusIn b s) n
   task-complete k =
       let kn = plan-kind b n ∙ kind-task (kindOf b n) k in
-      let d = byte-done b s ok n l k in
+      let d = byte-is b s ok n l k done in
       by-complete _ (r-map (λ e. task-done kn (d .0 e), λ x. d .1 (complete-task (planOf b) kn x))
       (r-eq (nodeByte s n) 2))
 
@@ -125,7 +125,7 @@ module _ (b s : List ℕ) (ok : stateRefusal b s ≡ 0) (n : ℕ) (l : n < nodeC
   pub task-begun : kindOf b n ≡ 0 → not (eqb (nodeByte s n) 0) ≡ begunB (planOf b) (statusIn b s) n
   task-begun k =
       let kn = plan-kind b n ∙ kind-task (kindOf b n) k in
-      let d = byte-waiting b s ok n l k in
+      let d = byte-is b s ok n l k waiting in
       by-begun _
       (r-map (
         λ z. record { who = n; is-task = kn; beneath = itself; begun = λ q. z (d .1 q) },

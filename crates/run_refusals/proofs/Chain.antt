@@ -26,7 +26,7 @@ use Rattle.runs.proofs.Calls.Reflect.{r-task, r-status}
 use Rattle.base.specs.Answers.{first}
 use Rattle.base.proofs.First.{first-none, first-some}
 use Rattle.run_state.specs.State.{nodeByte, stateRefusal, statusIn, flagShown, worldOf}
-use Rattle.run_state.proofs.Passed.{has-room, well-formed, byte-waiting, byte-running, byte-done}
+use Rattle.run_state.proofs.Passed.{has-room, well-formed, byte-is}
 use Rattle.run_state.specs.Made.{made}
 use Rattle.run_conditions.specs.Conditions.{brokenAt}
 use Rattle.run_conditions.proofs.Refusals.{broken-is}
@@ -88,12 +88,6 @@ module _ (b s : List ℕ) (ok : stateRefusal b s ≡ 0) where
             (none-kind (kindOf b t) (kind-limit b (has-room b s ok .plan) t l) (sym (plan-kind b t) ∙ x .is-task)));
       }) (r-task (planOf b) (well-formed b s ok) t)
 
-  byte-status : (t : ℕ) → t < nodeCount b → kindOf b t ≡ 0 → (a : Status)
-      → (nodeByte s t ≡ statusByte a) ↔ (statusIn b s t ≡ a)
-  byte-status t l k waiting = byte-waiting b s ok t l k
-  byte-status t l k running = byte-running b s ok t l k
-  byte-status t l k done = byte-done b s ok t l k
-
   -- the end of the chain: 22
   abbrev broken : Event → ℕ
   broken e = cond (incBrokenB (planOf b) (statusIn b s) e) 22 0
@@ -122,7 +116,7 @@ module _ (b s : List ℕ) (ok : stateRefusal b s ≡ 0) where
     module _ (y : isKind b t 0 ≡ true) where
       status-is : eqb (nodeByte s t) (statusByte (asks e)) ≡ statusB (statusIn b s t) (asks e)
       status-is = let w = kind-is b t 0 y in
-          same-test _ _ (r-map (byte-status t (w .0) (w .1) (asks e)) (r-eq (nodeByte s t) (statusByte (asks e))))
+          same-test _ _ (r-map (byte-is b s ok t (w .0) (w .1) (asks e)) (r-eq (nodeByte s t) (statusByte (asks e))))
           (r-status (statusIn b s t) (asks e))
 
       chain-18 : answer ≡ cond (not (eqb (nodeByte s t) (statusByte (asks e)))) 18

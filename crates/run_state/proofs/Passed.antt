@@ -1,10 +1,11 @@
 -- What calls rest on after checks 1 to 16: an accepted plan with its meaning, and a state whose bytes can be read as
 -- statuses. Assumes nothing.
-use mathlib.Core.Path.{_≡_, refl}
+use mathlib.Core.Path.{_≡_, refl, sym, ap, _∙_}
 use mathlib.Core.Logic.{_↔_}
 use mathlib.Core.List.{List}
-use Prim.Native.Nat.{ℕ, zero, suc, _<_, _≤_}
+use Prim.Native.Nat.{ℕ, zero, suc, _+_, _<_, _≤_}
 use native.Mathlib.Omega.{arith}
+use lib.ListN.{length}
 use borrow.Author.Tests.{ltb-false}
 use Rattle.plan_format.specs.Format.{nodeCount, kindOf}
 use Rattle.runs.specs.Tests.{anyBelow}
@@ -12,31 +13,24 @@ use Rattle.plan_rules.proofs.Laws.{or-none, none-at}
 use Rattle.plan_check.specs.Meaning.{planOf}
 use Rattle.plan_check.proofs.Meaning.{means-well-formed, kind-of}
 use Rattle.runs.specs.Plan.{WellFormed}
-use Rattle.runs.specs.Execution.{waiting, running, done}
-use Rattle.runs.proofs.Reflect.{clash}
+use Rattle.runs.specs.Execution.{Status, waiting, running, done}
+use Rattle.runs.specs.Calls.{statusByte}
 use Rattle.run_state.specs.State.{nodeByte, badFlag, badByte, malformed, stateRefusal, statusAt, statusIn}
 use Rattle.run_state.proofs.Refused.{Roomy, roomy, state-well}
 
-status-done : (x : ℕ) → x ≤ 2 → (x ≡ 2) ↔ (statusAt x ≡ done)
+-- a byte and the status that it shows, back and forth
+pub status-back : (x : ℕ) → x ≤ 2 → statusByte (statusAt x) ≡ x
 unfolding statusAt
-status-done zero l = (λ e. absurd (omega arith), λ e. clash cc)
-status-done (suc zero) l = (λ e. absurd (omega arith), λ e. clash cc)
-status-done (suc (suc zero)) l = (λ e. refl, λ e. refl)
-status-done (suc (suc (suc x))) l = absurd (omega arith)
+status-back zero l = refl
+status-back (suc zero) l = refl
+status-back (suc (suc zero)) l = refl
+status-back (suc (suc (suc x))) l = absurd (omega arith)
 
-status-running : (x : ℕ) → x ≤ 2 → (x ≡ 1) ↔ (statusAt x ≡ running)
+status-of : (a : Status) → statusAt (statusByte a) ≡ a
 unfolding statusAt
-status-running zero l = (λ e. absurd (omega arith), λ e. clash cc)
-status-running (suc zero) l = (λ e. refl, λ e. refl)
-status-running (suc (suc zero)) l = (λ e. absurd (omega arith), λ e. clash cc)
-status-running (suc (suc (suc x))) l = absurd (omega arith)
-
-status-waiting : (x : ℕ) → x ≤ 2 → (x ≡ 0) ↔ (statusAt x ≡ waiting)
-unfolding statusAt
-status-waiting zero l = (λ e. refl, λ e. refl)
-status-waiting (suc zero) l = (λ e. absurd (omega arith), λ e. clash cc)
-status-waiting (suc (suc zero)) l = (λ e. absurd (omega arith), λ e. clash cc)
-status-waiting (suc (suc (suc x))) l = absurd (omega arith)
+status-of waiting = refl
+status-of running = refl
+status-of done = refl
 
 module _ (b s : List ℕ) (ok : stateRefusal b s ≡ 0) where
   pub has-room : Roomy b s
@@ -56,12 +50,15 @@ module _ (b s : List ℕ) (ok : stateRefusal b s ≡ 0) where
   unfolding statusIn
   task-status n l k = rw (kind-of b n 0 l k)
 
-  module _ (n : ℕ) (l : n < nodeCount b) (k : kindOf b n ≡ 0) where
-    pub byte-done : (nodeByte s n ≡ 2) ↔ (statusIn b s n ≡ done)
-    byte-done = rw (task-status n l k) (status-done (nodeByte s n) (byte-small n l k))
+  pub byte-is : (n : ℕ) → n < nodeCount b → kindOf b n ≡ 0 → (a : Status)
+      → (nodeByte s n ≡ statusByte a) ↔ (statusIn b s n ≡ a)
+  byte-is n l k a = rw (task-status n l k)
+      (λ e. ap statusAt e ∙ status-of a, λ e. sym (status-back (nodeByte s n) (byte-small n l k)) ∙ ap statusByte e)
 
-    pub byte-running : (nodeByte s n ≡ 1) ↔ (statusIn b s n ≡ running)
-    byte-running = rw (task-status n l k) (status-running (nodeByte s n) (byte-small n l k))
+  -- a node's number is an index of a table of nodes, and its byte is one of the state
+  module _ (n : ℕ) (l : n < nodeCount b) where
+    pub node-small : n < 128
+    node-small = omega (arith, has-room .plan .fits .limits .nodes)
 
-    pub byte-waiting : (nodeByte s n ≡ 0) ↔ (statusIn b s n ≡ waiting)
-    byte-waiting = rw (task-status n l k) (status-waiting (nodeByte s n) (byte-small n l k))
+    pub byte-inside : 8 + n < length s
+    byte-inside = omega (arith, has-room .room)
