@@ -1,6 +1,5 @@
 -- A list of start and finish calls on one plan, by the relations that the calls promise.
 use Prim.Native.Nat.{ℕ}
-use mathlib.Core.Path.{_≡_}
 use mathlib.Core.List.{List, [], _∷_}
 use Rattle.runs.specs.Execution.{Event}
 use Rattle.runs.specs.Calls.{Call, one}

@@ -16,7 +16,7 @@ use Rattle.plan_rules.specs.Rules.{refusal}
 use Rattle.plan_rules.proofs.Laws.{and-both, and-of, found-at, some-yes}
 use Rattle.plan_check.specs.Meaning.{planOf, signIn}
 use Rattle.runs.specs.Plan.{Place, pre, inc, placeNumber}
-use Rattle.runs.specs.Execution.{Event, start, nodeOf, asserts}
+use Rattle.runs.specs.Execution.{Event, start, nodeOf, asserts, running}
 use Rattle.runs.specs.Calls.{PreUnmet, IncBroken}
 use Rattle.runs.specs.Tests.{anyBelow, sameB}
 use Rattle.runs.specs.Model.Monitor.{preUnmetB, incBrokenB}

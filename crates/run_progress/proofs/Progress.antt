@@ -14,7 +14,7 @@ use Rattle.plan_check.specs.Meaning.{planOf}
 use Rattle.plan_check.proofs.Meaning.{kind-of, kind-is, kind-task, kind-all-of, kind-group, kind-limit}
 use Rattle.plan_check.proofs.Nodes.{kind-any-of, is-child, child-test, is-node, node-is, plan-kind}
 use Rattle.runs.specs.Plan.{task, itself, Child}
-use Rattle.runs.specs.Execution.{task-done, all-done, any-done, Complete, Begun}
+use Rattle.runs.specs.Execution.{task-done, all-done, any-done, Complete, Begun, waiting, done}
 use Rattle.runs.specs.Tests.{sameB, negate}
 use Rattle.runs.specs.Model.Monitor.{completeB, begunB}
 use Rattle.runs.proofs.Plan.Trees.{Branch, branch, child-under, under-trans}

@@ -1,22 +1,22 @@
 -- The chain of refusals 17 to 22. Assumes nothing.
 use mathlib.Core.Path.{_≡_, refl, sym, ap, _∙_}
-use mathlib.Core.Logic.{⊎-elim, _↔_}
+use mathlib.Core.Logic.{⊎-elim}
 use mathlib.Core.Bool.{Bool, true, false, cond, not}
 use mathlib.Core.List.{List}
-use Prim.Native.Nat.{ℕ, zero, suc, _<_, _≤_}
+use Prim.Native.Nat.{ℕ, zero, suc, _≤_}
 use native.Mathlib.Omega.{arith}
 use lib.Dec.{eqb}
 use lib.ListN.{replicate}
 use borrow.Author.Tests.{eq-eqb, ne-eqb}
 use Rattle.run_flags.specs.Flags.{allByte}
-use Rattle.plan_format.specs.Format.{nodeCount, kindOf, isKind, condCount}
+use Rattle.plan_format.specs.Format.{kindOf, isKind, condCount}
 use Rattle.plan_rules.proofs.Laws.{either}
 use mathlib.Core.Option.{none}
 use Rattle.plan_check.specs.Meaning.{planOf, kindAt, signIn}
 use Rattle.plan_check.proofs.Meaning.{kind-is, kind-of, kind-task, kind-limit}
 use Rattle.plan_check.proofs.Nodes.{is-node, node-is, plan-kind}
 use Rattle.runs.specs.Plan.{task, placeNumber}
-use Rattle.runs.specs.Execution.{Status, waiting, running, done, Event, start, finish, nodeOf, asserts}
+use Rattle.runs.specs.Execution.{waiting, running, Event, start, finish, nodeOf, asserts}
 use Rattle.runs.specs.Calls.{asks, statusByte, no-task, wrong-status, branch-begun, order-open, pre-unmet, inc-broken}
 use Rattle.runs.specs.Model.Monitor.{returned, refusalOf, firstOf, orElse, code, appliesB, taskB, statusB, branchBegunB}
 use Rattle.runs.specs.Model.Monitor.{orderOpenB, preUnmetB, incBrokenB}
