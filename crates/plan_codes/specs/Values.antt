@@ -1,7 +1,8 @@
 -- The value of a condition.
 use Prim.Native.Nat.{ℕ, _+_, _*_, _/_, _%_}
-use mathlib.Core.Bool.{Bool, cond, _||_}
+use mathlib.Core.Bool.{Bool, true, false, cond, _||_}
 use lib.Dec.{eqb, leb, ltb}
+use Rattle.runs.specs.Plan.{pre, inc, post, placeNumber, signNumber}
 use Rattle.plan_codes.specs.declared.value.Place.{Place}
 use Rattle.plan_codes.specs.declared.value.Place.the-variants.{Pre, Inc, Post}
 use Rattle.plan_codes.specs.declared.value.Sign.{Sign}
@@ -26,13 +27,13 @@ placeOf v = v / 128
 
 -- 01's numbers of the enums' cases
 abbrev pub placeNum : Place → ℕ
-placeNum Pre = 0
-placeNum Inc = 1
-placeNum Post = 2
+placeNum Pre = placeNumber pre
+placeNum Inc = placeNumber inc
+placeNum Post = placeNumber post
 
 abbrev pub signNum : Sign → ℕ
-signNum Clear = 0
-signNum Set = 1
+signNum Clear = signNumber false
+signNum Set = signNumber true
 
 abbrev pub valueNum : Condition → ℕ
 valueNum c = valueOf (c .flag) (signNum (c .sign)) (placeNum (c .place))
