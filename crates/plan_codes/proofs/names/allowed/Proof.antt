@@ -1,24 +1,59 @@
--- `plan_codes::names::allowed` meets its contract: the marks agree with the rule at each value of a byte, which antt
--- computes. Assumes nothing.
+-- `plan_codes::names::allowed` meets its contract: the tests of the definition, in each gap between the ranges, at "-"
+-- and in each range. Assumes nothing.
 use native.Mathlib.Omega.{arith}
-use Prim.Native.Nat.{ℕ, _/_, _%_, _^_}
-use mathlib.Core.Bool.{Bool}
-use mathlib.Core.List.{[], _∷_}
-use lib.ListN.{getD}
-use lib.Dec.{eqb}
+use mathlib.Core.Path.{_≡_, sym, ap}
+use borrow.Author.Tests.{le-leb, lt-leb, ne-eqb}
 use Rattle.plan_codes.specs.Names.{nameAllowed}
-use Rattle.plan_codes.proofs.Below.{at}
 use Rattle.plan_codes.proofs.names.allowed.Statement.{statement}
 use Rattle.plan_codes.proofs.names.allowed.Tie as tie
 
--- bit k of the four words is one
-abbrev marked : ℕ → Bool
-marked k = eqb (getD (287984085547089920 ∷ 134217726 ∷ 0 ∷ 0 ∷ []) (k / 64) 0 / 2 ^ (k % 64) % 2) 1
-
+-- below 0, but not "-"
 returns : tie.Need-returns
 unfolding nameAllowed
-returns c = at marked nameAllowed 256 tt (c .args .c) (omega arith)
+returns c =
+    let k = c .before .before .args .c in
+    simp (lt-leb 48 k (omega arith), lt-leb 65 k (omega arith), ne-eqb k 45 (omega arith))
+
+-- after 9, below A
+returns-2 : tie.Need-returns-2
+unfolding nameAllowed
+returns-2 c =
+    let k = c .before .before .before .before .args .c in
+    simp (le-leb 48 k (omega arith), lt-leb k 57 (omega arith), lt-leb 65 k (omega arith), ne-eqb k 45 (omega arith))
+
+-- after Z
+returns-3 : tie.Need-returns-3
+unfolding nameAllowed
+returns-3 c =
+    let k = c .before .before .before .before .before .args .c in
+    simp (
+      le-leb 48 k (omega arith),
+      lt-leb k 57 (omega arith),
+      le-leb 65 k (omega arith),
+      lt-leb k 90 (omega arith),
+      ne-eqb k 45 (omega arith),
+    )
+
+-- "-"
+returns-4 : tie.Need-returns-4
+unfolding nameAllowed
+returns-4 c =
+    let e : c .before .args .c ≡ 45 = omega arith in
+    ap nameAllowed (sym e)
+
+-- 0 to 9
+returns-5 : tie.Need-returns-5
+unfolding nameAllowed
+returns-5 c =
+    let k = c .before .before .before .args .c in
+    simp (le-leb 48 k (omega arith), le-leb k 57 (omega arith))
+
+-- A to Z
+returns-6 : tie.Need-returns-6
+unfolding nameAllowed
+returns-6 c =
+    let k = c .before .before .before .before .before .args .c in
+    simp (le-leb 48 k (omega arith), lt-leb k 57 (omega arith), le-leb 65 k (omega arith), le-leb k 90 (omega arith))
 
 pub allowed-spec : {M : Type 1} → statement M
-allowed-spec = tie.close (tie.spec (λ c. omega arith) (λ c. omega arith) (λ c. omega arith) (λ c. omega arith)
-    (λ c. omega arith) returns)
+allowed-spec = tie.close (tie.spec returns returns-2 returns-3 returns-4 returns-5 returns-6)
