@@ -2,11 +2,15 @@
 ghost use mathlib.Core.Path.{_≡_};
 ghost use Rattle.plan_codes.specs.Names.{nameAllowed};
 
+// Letters by themselves and first: most characters are letters, and one comparison tells them.
 pub fn allowed(c: u8) -> bool
     ensures { λ r. ⌜ r ≡ nameAllowed c ⌝ }
 {
     match c {
-        b'-' | b'0'..=b'9' | b'A'..=b'Z' => true,
-        _ => false,
+        b'A'..=b'Z' => true,
+        _ => match c {
+            b'-' | b'0'..=b'9' => true,
+            _ => false,
+        },
     }
 }

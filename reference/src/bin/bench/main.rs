@@ -1,9 +1,10 @@
 //! Times calls of the archive on plans of 128 nodes and 64 flags, and prints the tables of docs/.
 //! No test depends on a time.
 //!
-//! Its modules in their order: timing; shapes, costs; plans, plain, verdicts.
+//! Its modules in their order: timing; shapes, costs; plans, plain, verdicts, names.
 
 mod costs;
+mod names;
 mod plain;
 mod plans;
 mod shapes;
@@ -16,6 +17,7 @@ use std::process::ExitCode;
 const USAGE: &str = "\
 bench         the verdict by the archive and by plain Rust, the table of docs/benchmark.md
 bench once    each of these verdicts once by both, for a program that counts instructions
+bench names   rule 5 on a plan of the greatest size by both
 bench cost    every call on plans of many shapes, the table of docs/costs.md";
 
 fn main() -> ExitCode {
@@ -24,6 +26,7 @@ fn main() -> ExitCode {
     match words[..] {
         [] => verdicts::print(),
         ["once"] => verdicts::once(),
+        ["names"] => names::print(),
         ["cost"] => costs::print(),
         _ => {
             eprintln!("{USAGE}");

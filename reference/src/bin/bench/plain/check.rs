@@ -14,17 +14,6 @@ pub struct Fields<'a> {
     pub later: &'a [u8],
 }
 
-const NAME_CHARACTERS: [bool; 256] = {
-    let mut table = [false; 256];
-    let allowed = b"0123456789ABCDEFGHIJKLMNOPQRSTUVWXYZ-";
-    let mut at = 0;
-    while at < allowed.len() {
-        table[allowed[at] as usize] = true;
-        at += 1;
-    }
-    table
-};
-
 impl<'a> Fields<'a> {
     /// 1 to 3.
     fn new(bytes: &'a [u8]) -> Result<Fields<'a>, u32> {
@@ -88,7 +77,7 @@ impl<'a> Fields<'a> {
     /// 5
     fn bad_name(&self) -> bool {
         let mut names = self.names.iter();
-        !names.all(|&character| NAME_CHARACTERS[usize::from(character)])
+        !names.all(|character| matches!(character, b'-' | b'0'..=b'9' | b'A'..=b'Z'))
     }
 
     /// 6
