@@ -15,7 +15,7 @@ use crate::timing::{least, medians};
 /// Each time is the least of so many medians.
 const ROUNDS: usize = 8;
 
-/// So many plans, one after another, are more than the processor keeps the branches of.
+/// So many plans in turn have more names than the processor learns the branches of.
 const MANY: usize = 1_024;
 
 pub fn print() {
@@ -41,7 +41,7 @@ fn letters(plan: &Plan) -> Plan {
     plan
 }
 
-/// The same plan with its names in another order, each with its characters in another order.
+/// The same plan with the characters of its names in another order.
 fn renamed(plan: &Plan, random: &mut Random) -> Plan {
     let mut plan = plan.clone();
     let mut characters: Vec<u8> = plan.nodes.iter().flat_map(|node| node.name).collect();
