@@ -2,7 +2,8 @@
 ghost use mathlib.Core.Path.{_≡_};
 ghost use Rattle.plan_codes.specs.Names.{nameAllowed};
 
-// Letters by themselves and first: most characters are letters, and one comparison tells them.
+// Letters are first, in a match of their own: most characters are letters, and the compiler then tells them by one
+// comparison.
 pub fn allowed(c: u8) -> bool
     ensures { λ r. ⌜ r ≡ nameAllowed c ⌝ }
 {
