@@ -43,6 +43,7 @@ fn prints_each_sample() {
         ("b", "CLEAR 17"),
         ("b-without-order", "OPEN 12"),
         ("b-flag-set", "DOOMED 17"),
+        ("equal-waits", "CLEAR 18"),
         ("large", "DOOMED 393546"),
         ("nodes-128", "CLEAR 0"),
         ("one-task", "CLEAR 0"),
@@ -66,6 +67,12 @@ fn prints_each_sample() {
 #[test]
 fn prints_b_as_the_document_does() {
     assert_eq!(run(&sample("b")), "CLEAR 17\nRADI 12\nSATL 12\nCAST 0\n");
+}
+
+#[test]
+fn prints_equal_waits_by_name() {
+    let lines = "CLEAR 18\nTMP- 12\nTMP2 12\nTMPA 12\nTMPA 12\nTMPB 12\nCAST 0\nPING 0\n";
+    assert_eq!(run(&sample("equal-waits")), lines);
 }
 
 #[test]

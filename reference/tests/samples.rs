@@ -11,10 +11,11 @@ use reference::tools::archive;
 use reference::tools::text::{make, show, Error, Source};
 
 /// Each sample with its length and its refusal.
-const SAMPLES: [(&str, usize, u32); 18] = [
+const SAMPLES: [(&str, usize, u32); 19] = [
     ("b", 82, 0),
     ("b-flag-set", 82, 0),
     ("b-without-order", 80, 0),
+    ("equal-waits", 90, 0),
     ("fifteen-bytes", 15, 1),
     ("incondition-broken", 49, 0),
     ("large", 5136, 0),

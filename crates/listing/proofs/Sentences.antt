@@ -31,7 +31,7 @@ is-listing b e = record {
   longest = longestWait b;
   times = times b (clean b e);
   tasks = ranking b;
-  arranged = arranged b;
+  arranged = arranged b (clean b e);
   digits = decimal (lengthOf b 0);
   plain = plain (lengthOf b 0);
   lines = linesOf b (ranking b);
@@ -50,7 +50,7 @@ listing-only {b} e h =
     (length-one ok (h .times) (own .times) 0 (ok .fits .limits .some-node)) in
     let w = longest-one ok (h .times) (own .times) in
     let l = lines-only (λ u a. w u (arranged-node b (h .arranged) u a)) (h .each)
-    ∙ ap (linesOf b) (arranged-only b w (h .arranged)) in
+    ∙ ap (linesOf b) (arranged-only b ok w (h .arranged)) in
     h .text
     ∙ ap (λ (u : Verdict). letters u ++ 32 ∷ h .digits ++ 10 ∷ h .lines) (sym v)
     ∙ ap (λ (xs : List ℕ). letters (own .verdict) ++ 32 ∷ xs ++ 10 ∷ h .lines) d

@@ -20,7 +20,7 @@ pub record IsListing (b s : List ℕ) : Type 0 where
   pub wait : ℕ → ℕ
   pub longest : ℕ → ℕ
   pub times : Times b len wait longest
-  -- all tasks, each once, longest wait first, ties to the lower node
+  -- all tasks, each once, longest wait first, ties by name in byte order, equal names by lower node
   pub tasks : List ℕ
   pub arranged : Arranged b longest tasks
   -- the root's length in digits, and the lines of the tasks

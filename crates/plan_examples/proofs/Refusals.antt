@@ -2,7 +2,7 @@
 use mathlib.Core.Path.{_≡_, refl}
 use mathlib.Core.Bool.{Bool, true, _&&_}
 use mathlib.Core.List.{List, [], _∷_, _++_}
-use Prim.Native.Nat.{ℕ, zero, suc}
+use Prim.Native.Nat.{ℕ}
 use lib.ListN.{replicate, set}
 use lib.Dec.{eqb}
 use Rattle.plan_codes.specs.Names.{nameAllowed}
@@ -15,25 +15,17 @@ use Rattle.plan_rules.specs.Rules.{cause1, cause2, cause3, badStart, cause4, ba
 use Rattle.plan_rules.specs.Rules.{badParent, cause7, childless, cause8, badCondition, cause9, notBelow, notRising}
 use Rattle.plan_rules.specs.Rules.{cause10, bothSigns, cause11, postOf, noPost, cause12, isChild, badPair, badOrder}
 use Rattle.plan_rules.specs.Rules.{cause13, cause14, refusal}
-use Rattle.plan_examples.specs.Plans.{planB}
+use Rattle.plan_examples.specs.Plans.{planB, sized, tasks, flat, fallingNames, equalNames, lastCharacters}
+use Rattle.plan_examples.specs.Plans.{firstCharacters}
 
 -- a plan of a single task, with the two bytes of its minutes
 bare : ℕ → ℕ → List ℕ
 bare low high = 1 ∷ 0 ∷ 0 ∷ 0 ∷ 0 ∷ 0 ∷ 1 ∷ 0 ∷ 0 ∷ 0 ∷ 0 ∷ 0 ∷ 0 ∷ 0 ∷ 0 ∷ 0 ∷ 66 ∷ 65 ∷ 82 ∷ 69 ∷ 255 ∷ 0 ∷ low ∷ high
     ∷ []
 
--- sizes N, 0, 0, 1 and no start flag
-sized : ℕ → List ℕ
-sized n = n ∷ 0 ∷ 0 ∷ 0 ∷ 0 ∷ 0 ∷ 1 ∷ 0 ∷ replicate 8 0
-
--- n entries of tasks under the root
-tasks : ℕ → List ℕ
-tasks zero = []
-tasks (suc n) = 0 ∷ 0 ∷ 1 ∷ 0 ∷ tasks n
-
 -- an all-of root with 127 tasks
 wide : List ℕ
-wide = sized 128 ++ (replicate 512 45 ++ (255 ∷ 1 ∷ 0 ∷ 0 ∷ tasks 127))
+wide = flat 127 (replicate 508 45)
 
 pub record Row : Type 0 where
   pub bytes : List ℕ
@@ -49,6 +41,10 @@ rows =
     ∷ row (sized 0) 2
     ∷ row (sized 129) 2
     ∷ row wide 0
+    ∷ row fallingNames 0
+    ∷ row equalNames 0
+    ∷ row lastCharacters 0
+    ∷ row firstCharacters 0
     ∷ row (bare 0 0) 0
     ∷ row (bare 0 0 ++ (0 ∷ [])) 3
     ∷ row (bare 96 39) 0
@@ -76,9 +72,10 @@ right [] = true
 right (r ∷ rs) = eqb (refusal (r .bytes)) (r .expected) && right rs
 
 pub examples : right rows ≡ true
-unfolding planB bare sized tasks wide row rows right nameAllowed flagOf signOf placeOf valueBad u16At nodeCount
-    condCount orderCount flagCount wholeLength startFlag nameChar entryAt parentOf kindOf minutesOf condNode condValue
-    earlierOf laterOf isKind isGroup anyBelow either cause1 cause2 cause3 badStart cause4 badChar cause5 badEntry cause6
-    badParent cause7 childless cause8 badCondition cause9 notBelow notRising cause10 bothSigns cause11 postOf noPost
-    cause12 isChild badPair badOrder cause13 cause14 refusal
+unfolding planB bare sized tasks flat wide fallingNames equalNames lastCharacters firstCharacters row rows right
+    nameAllowed flagOf signOf placeOf valueBad u16At nodeCount condCount orderCount flagCount wholeLength startFlag
+    nameChar entryAt parentOf kindOf minutesOf condNode condValue earlierOf laterOf isKind isGroup anyBelow either
+    cause1 cause2 cause3 badStart cause4 badChar cause5 badEntry cause6 badParent cause7 childless cause8 badCondition
+    cause9 notBelow notRising cause10 bothSigns cause11 postOf noPost cause12 isChild badPair badOrder cause13 cause14
+    refusal
 examples = refl

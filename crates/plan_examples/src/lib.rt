@@ -1,1 +1,1 @@
-// Definitions and laws only: 01's book B, and the refusals of small plans by computation.
+// Definitions and laws only: 01's book B and other small plans, and their refusals by computation.

@@ -2,7 +2,7 @@
 use Prim.Native.Nat.{ℕ, _+_, _*_, _/_, _%_, _^_, _≤_}
 use mathlib.Core.Path.{_≡_}
 use mathlib.Core.Bool.{Bool, _&&_, _||_}
-use mathlib.Core.List.{List}
+use mathlib.Core.List.{List, [], _∷_}
 use lib.ListN.{getD, length}
 use lib.Dec.{eqb, ltb}
 
@@ -33,6 +33,10 @@ startFlag b f = eqb (getD b (8 + f / 8) 0 / 2 ^ (f % 8) % 2) 1
 -- character k of all names; node n has those from 4n to 4n + 3
 unfoldable pub nameChar : List ℕ → ℕ → ℕ
 nameChar b k = getD b (16 + k) 0
+
+-- the four characters of node n's name
+unfoldable pub nameOf : List ℕ → ℕ → List ℕ
+nameOf b n = nameChar b (4 * n) ∷ nameChar b (4 * n + 1) ∷ nameChar b (4 * n + 2) ∷ nameChar b (4 * n + 3) ∷ []
 
 -- where the entry of node n begins
 unfoldable pub entryAt : List ℕ → ℕ → ℕ

@@ -1,17 +1,20 @@
 -- What it means that a cause does not apply, and what the tests of two conditions say. Assumes nothing.
 use mathlib.Core.Path.{_≡_}
+use mathlib.Core.Logic.{⊎-elim}
 use mathlib.Core.Bool.{true, false, not, _&&_, _||_}
 use mathlib.Core.List.{List}
-use Prim.Native.Nat.{ℕ, _<_, _≤_}
+use Prim.Native.Nat.{ℕ, _*_, _<_, _≤_}
 use native.Mathlib.Omega.{arith}
 use lib.ListN.{length}
 use lib.Dec.{eqb, ltb, leb}
-use borrow.Author.Tests.{eq-eqb, ne-eqb, eqb-true, ltb-true, ltb-false, not-false}
+use borrow.Author.Tests.{eq-eqb, ne-eqb, eqb-true, leb-true, ltb-true, ltb-false, not-false}
+use Rattle.plan_codes.specs.Names.{nameAllowed}
 use Rattle.plan_codes.specs.Values.{flagOf, signOf, placeOf, valueBad}
-use Rattle.plan_format.specs.Format.{nodeCount, condCount, orderCount, flagCount, wholeLength, parentOf, kindOf}
-use Rattle.plan_format.specs.Format.{condNode, condValue, isKind, isGroup, Limits, Whole}
-use Rattle.plan_rules.specs.Rules.{cause2, badParent, cause7, badCondition, cause9, bothSigns, postOf}
-use Rattle.plan_rules.proofs.Laws.{or-none, and-both, and-three, none-at}
+use Rattle.plan_format.specs.Format.{nodeCount, condCount, orderCount, flagCount, wholeLength, nameChar, parentOf}
+use Rattle.plan_format.specs.Format.{kindOf, condNode, condValue, isKind, isGroup, Limits, Whole}
+use Rattle.plan_rules.specs.Rules.{cause2, badChar, cause5, badParent, cause7, badCondition, cause9, bothSigns}
+use Rattle.plan_rules.specs.Rules.{postOf}
+use Rattle.plan_rules.proofs.Laws.{or-split, or-none, and-both, and-three, none-at}
 
 -- ---- sizes
 pub limits : (b : List ℕ) → 16 ≤ length b → cause2 b ≡ false → Limits b
@@ -36,6 +39,20 @@ limits b l h =
 pub whole : (b : List ℕ) → Limits b → length b ≡ wholeLength b → Whole b
 unfolding wholeLength
 whole b l e = record { limits = l; whole = e }
+
+-- ---- names
+-- no character is above "Z"
+pub name-limit : (b : List ℕ) → cause5 b ≡ false → (k : ℕ) → k < 4 * nodeCount b → nameChar b k ≤ 90
+unfolding cause5 badChar nameAllowed
+name-limit b h k l =
+    let c = nameChar b k in
+    let digit : (leb 48 c && leb c 57) ≡ true → c ≤ 90 =
+    λ e. omega (arith, leb-true c 57 (and-both (leb 48 c) (leb c 57) e .1)) in
+    let letter : (leb 65 c && leb c 90) ≡ true → c ≤ 90 = λ e. leb-true c 90 (and-both (leb 65 c) (leb c 90) e .1) in
+    let hyphen : eqb c 45 ≡ true → c ≤ 90 = λ e. omega (arith, eqb-true c 45 e) in
+    let allowed = not-false _ (none-at (4 * nodeCount b) (badChar b) h k l) in
+    ⊎-elim digit (λ o. ⊎-elim letter hyphen (or-split (leb 65 c && leb c 90) (eqb c 45) o))
+    (or-split (leb 48 c && leb c 57) ((leb 65 c && leb c 90) || eqb c 45) allowed)
 
 -- ---- parents and conditions
 -- every condition has a value up to 383 and a node

@@ -7,7 +7,7 @@ use native.Mathlib.Numerals.{add-one}
 use native.Mathlib.Omega.{arith}
 use lib.ListN.{length, getD, take, drop, length-append}
 use lib.Seq.{take-suc, take-all, getD-take, drop-cons}
-use Rattle.plan_format.specs.Format.{nodeCount, nameChar}
+use Rattle.plan_format.specs.Format.{nodeCount, nameChar, nameOf}
 use Rattle.plan_check.proofs.Accepted.{Clean}
 use Rattle.text_decimals.specs.Decimals.{decimal, Wrote}
 use Rattle.text_decimals.proofs.Laws.{length-limit, plain, plain-only}
@@ -17,7 +17,7 @@ use Rattle.wait_lengths.proofs.Bounds.{end-limit}
 use Rattle.text_order.specs.Order.{rankedTo, ranking}
 use Rattle.text_order.specs.Places.{Ranking}
 use Rattle.text_order.proofs.Order.{among-at, ranked-task, ranking-length}
-use Rattle.text_lines.specs.Lines.{nameOf, TaskLines, none, line, ending, lineOf, linesOf}
+use Rattle.text_lines.specs.Lines.{TaskLines, none, line, ending, lineOf, linesOf}
 
 pub name-length : (b : List ℕ) (n : ℕ) → length (nameOf b n) ≡ 4
 unfolding nameOf

@@ -1,13 +1,9 @@
 -- The task lines. Definitions only.
-use Prim.Native.Nat.{ℕ, _+_, _*_}
+use Prim.Native.Nat.{ℕ}
 use mathlib.Core.List.{List, [], _∷_, _++_}
-use Rattle.plan_format.specs.Format.{nameChar}
+use Rattle.plan_format.specs.Format.{nameOf}
 use Rattle.text_decimals.specs.Decimals.{Plain, decimal}
 use Rattle.wait_lengths.specs.Waits.{longestWait}
-
--- the four characters of a name
-unfoldable pub nameOf : List ℕ → ℕ → List ℕ
-nameOf b n = nameChar b (4 * n) ∷ nameChar b (4 * n + 1) ∷ nameChar b (4 * n + 2) ∷ nameChar b (4 * n + 3) ∷ []
 
 -- s is the lines of the tasks ts, one after another: name, space, longest wait in plain decimals, byte 10
 pub data TaskLines (b : List ℕ) (longest : ℕ → ℕ) : List ℕ → List ℕ → Type 0 where

@@ -23,7 +23,8 @@ fn text_with(plan: &Plan, verdict: Verdict) -> String {
         .tasks()
         .map(|task| (waits.longest(plan, task), task))
         .collect();
-    lines.sort_by_key(|&(wait, task)| (Reverse(wait), task));
+    // The longest wait first, ties by name in byte order, equal names by lower node.
+    lines.sort_by_key(|&(wait, task)| (Reverse(wait), plan.nodes[task].name, task));
     let mut text = format!("{} {}\n", verdict.word(), waits.length(0));
     for (wait, task) in lines {
         let name = String::from_utf8_lossy(&plan.nodes[task].name);

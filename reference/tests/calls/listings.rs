@@ -4,7 +4,7 @@ use reference::model::calls::{Answers, Call};
 use reference::model::format::{Plan, Sizes, NO_PARENT, SET, TASK};
 use reference::model::listing::LISTING_LEN;
 use reference::tools::generate::clear::{clear_plan, shaken_plan};
-use reference::tools::generate::{any_plan, dense_plan, plan, LIMITS, SHAPES};
+use reference::tools::generate::{alike, any_plan, dense_plan, plan, LIMITS, SHAPES};
 use reference::tools::random::Random;
 use reference::tools::scenario::tally::Tally;
 use reference::tools::scenario::Case;
@@ -42,7 +42,10 @@ pub fn random(tally: &mut Tally) {
             }
         }
     }
-    for plan in plans {
+    for mut plan in plans {
+        if random.below(2) == 0 {
+            alike(&mut random, &mut plan);
+        }
         let len = LISTING_LEN + random.below(100);
         listed(tally, &mut random, &plan, len);
     }
@@ -67,12 +70,47 @@ pub fn extremes(tally: &mut Tally) {
     plans.push(longest);
     for plan in plans {
         listed(tally, &mut random, &plan, LISTING_LEN);
-        // Names play no part in the order of lines.
+        // Ties by other names.
         let mut renamed = plan.clone();
         for node in &mut renamed.nodes {
             node.name = [(); 4].map(|()| random.pick(b"-09AMZ"));
         }
         listed(tally, &mut random, &renamed, LISTING_LEN);
+        alike(&mut random, &mut renamed);
+        listed(tally, &mut random, &renamed, LISTING_LEN);
+    }
+}
+
+/// Tasks that wait equally long: names that fall with the nodes, that rise, that differ in one
+/// place only, by each two of the characters, and that are equal.
+pub fn ties(tally: &mut Tally) {
+    let mut random = Random::new(124);
+    let characters = b"-0123456789ABCDEFGHIJKLMNOPQRSTUVWXYZ";
+    let mut compare = |names: &[[u8; 4]]| {
+        let mut plan = Plan::flat(1, names.len() + 1);
+        for (node, name) in plan.nodes[1..].iter_mut().zip(names) {
+            node.name = *name;
+        }
+        listed(tally, &mut random, &plan, LISTING_LEN);
+    };
+    for place in 0..4 {
+        let named = |c: &u8| {
+            let mut name = *b"MMMM";
+            name[place] = *c;
+            name
+        };
+        for x in characters {
+            for y in characters {
+                compare(&[named(x), named(y)]);
+            }
+        }
+        let mut all: Vec<[u8; 4]> = characters.iter().map(named).collect();
+        compare(&all);
+        all.reverse();
+        compare(&all);
+    }
+    for tasks in [1, 2, 4, 127] {
+        compare(&vec![*b"SAME"; tasks]);
     }
 }
 

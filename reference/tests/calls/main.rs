@@ -12,7 +12,7 @@ use reference::tools::scenario::tally::Tally;
 
 type Topic = (&'static str, fn(&mut Tally));
 
-const TOPICS: [Topic; 14] = [
+const TOPICS: [Topic; 15] = [
     ("summaries of small plans, by runs", summaries::small),
     ("summaries of large plans, by rules", summaries::large),
     ("summaries of the samples", summaries::samples),
@@ -24,6 +24,7 @@ const TOPICS: [Topic; 14] = [
     ("CLEAR and DOOMED, by all lists", lists::claims),
     ("listings of random plans", listings::random),
     ("listings of long, deep and equal waits", listings::extremes),
+    ("listings of equal waits, by names", listings::ties),
     ("listings in every length around 2,048", listings::lengths),
     ("plans with damaged bytes", damage::bytes),
     ("plans with damaged fields", damage::fields),

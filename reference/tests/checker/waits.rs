@@ -1,9 +1,9 @@
 //! Lengths, longest waits and the order of lines.
 
-use std::cmp::Reverse;
+use std::cmp::Ordering;
 
 use reference::model::format::{Order, Plan, Sizes, ANY_OF, TASK};
-use reference::tools::generate::any_plan;
+use reference::tools::generate::{alike, any_plan};
 use reference::tools::random::Random;
 
 use crate::{listed, plan, shown};
@@ -28,12 +28,54 @@ fn nested_groups() {
     assert_eq!(listed(&plan(text)), lines);
 }
 
-/// An any-of root; ties go to the lower node, names play no part.
+/// The names of the lines of an any-of group of tasks with these names, which all wait 0.
+fn lined_up(names: &[&str]) -> Vec<String> {
+    let mut text = String::from("flags 1\n0 PICK any-of\n");
+    for (node, name) in (1..).zip(names) {
+        text += &format!("{node} {name} task 1 under 0\n");
+    }
+    let listed = listed(&plan(&text));
+    let (first, lines) = listed.split_once('\n').unwrap();
+    assert_eq!(first, "CLEAR 1");
+    let name = |line: &str| line.strip_suffix(" 0").unwrap().to_string();
+    lines.lines().map(name).collect()
+}
+
+/// Equal waits: by name in byte order, whatever the nodes.
 #[test]
 fn ties() {
-    let text = "flags 1\n0 PICK any-of\n1 Z--- task 3 under 0\n2 A--- task 9 under 0\n\
-         3 M--- task 4 under 0\n";
-    assert_eq!(listed(&plan(text)), "CLEAR 9\nZ--- 0\nA--- 0\nM--- 0\n");
+    assert_eq!(lined_up(&["ZZZZ", "AAAA"]), ["AAAA", "ZZZZ"]);
+    // The last character alone, and the first before all others.
+    assert_eq!(
+        lined_up(&["BUOC", "BUOA", "BUOB"]),
+        ["BUOA", "BUOB", "BUOC"]
+    );
+    assert_eq!(lined_up(&["BAAA", "AZZZ"]), ["AZZZ", "BAAA"]);
+    // "-" before digits before letters, at each place.
+    for place in 0..4 {
+        let name = |c: char| {
+            let mut name = String::from("MMM");
+            name.insert(place, c);
+            name
+        };
+        let names = ['A', '9', '-', 'Z', '0'].map(name);
+        let want = ['-', '0', '9', 'A', 'Z'].map(name);
+        assert_eq!(lined_up(&names.each_ref().map(String::as_str)), want);
+    }
+    // Names may be equal.
+    assert_eq!(
+        lined_up(&["SAME", "SAME", "AAAA", "SAME", "SAME"]),
+        ["AAAA", "SAME", "SAME", "SAME", "SAME"]
+    );
+}
+
+/// A longer wait comes before any name.
+#[test]
+fn waits_before_names() {
+    let text = "flags 1\n0 ROOT all-of\n1 AAAA task 1 under 0\n2 ZZZZ task 255 under 0\n\
+         3 BBBB task 1 under 0\n4 ---- task 0 under 0\norder 1 2\norder 2 3\n";
+    let lines = "CLEAR 257\nBBBB 256\nZZZZ 1\n---- 0\nAAAA 0\n";
+    assert_eq!(listed(&plan(text)), lines);
 }
 
 /// The longest plan in minutes: 127 tasks of a week, one after another.
@@ -82,6 +124,19 @@ fn longest_wait(plan: &Plan, node: usize) -> u32 {
     wait_within(plan, node) + above.unwrap_or(0)
 }
 
+/// The order of two lines in 02's words, case by case.
+fn before(plan: &Plan, a: usize, b: usize) -> Ordering {
+    let (wait_a, wait_b) = (longest_wait(plan, a), longest_wait(plan, b));
+    if wait_a != wait_b {
+        return wait_b.cmp(&wait_a);
+    }
+    let names = plan.nodes[a].name.iter().zip(&plan.nodes[b].name);
+    match names.into_iter().find(|(x, y)| x != y) {
+        Some((x, y)) => x.cmp(y),
+        None => a.cmp(&b),
+    }
+}
+
 #[test]
 fn random_plans() {
     let mut random = Random::new(61);
@@ -92,13 +147,16 @@ fn random_plans() {
         flags: 4,
     };
     for _ in 0..2_000 {
-        let plan = any_plan(&mut random, most);
+        let mut plan = any_plan(&mut random, most);
+        if random.below(2) == 0 {
+            alike(&mut random, &mut plan);
+        }
         let text = listed(&plan.bytes());
         let mut lines = text.lines();
         let (_, found) = lines.next().unwrap().split_once(' ').unwrap();
         assert_eq!(found, length(&plan, 0).to_string(), "{}", shown(&plan));
         let mut tasks: Vec<usize> = plan.tasks().collect();
-        tasks.sort_by_key(|&task| Reverse(longest_wait(&plan, task)));
+        tasks.sort_by(|&a, &b| before(&plan, a, b));
         let line = |&task: &usize| {
             let name = String::from_utf8_lossy(&plan.nodes[task].name);
             format!("{name} {}", longest_wait(&plan, task))

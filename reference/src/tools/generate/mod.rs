@@ -116,6 +116,13 @@ fn name(random: &mut Random) -> [u8; 4] {
     [(); 4].map(|_| random.pick(b"0123456789ABCDEFGHIJKLMNOPQRSTUVWXYZ-"))
 }
 
+/// Names of few characters, so that many are equal or differ in the last place only.
+pub fn alike(random: &mut Random, plan: &mut Plan) {
+    for node in &mut plan.nodes {
+        node.name = [&b"A"[..], b"A", b"AZ", b"-09AZ"].map(|from| random.pick(from));
+    }
+}
+
 fn minutes(random: &mut Random) -> u16 {
     match random.below(8) {
         0 => 0,
