@@ -36,8 +36,8 @@ uint32_t knowetop_finish(const uint8_t *plan, size_t plan_len, uint8_t *state, s
 #define KNOWETOP_UNFINISHED 129
 uint32_t knowetop_status(const uint8_t *plan, size_t plan_len, const uint8_t *state, size_t state_len);
 
-/* Writes the listing from the first byte of out and keeps the rest: verdict and the root's length, then each task by its longest wait. Returns 256 + the length of the text, or 1 to 14 or 15
-   (out_len under 2,048). */
+/* Writes the listing from the first byte of out and keeps the rest: verdict and the root's length, then each task, the longest wait first, ties by name in byte order.
+   Returns 256 + the length of the text, or 1 to 14 or 15 (out_len under 2,048). */
 #define KNOWETOP_TEXT 256
 uint32_t knowetop_listing(const uint8_t *plan, size_t plan_len, uint8_t *out, size_t out_len);
 
