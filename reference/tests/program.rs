@@ -50,3 +50,17 @@ fn draws_what_it_shows() {
     assert!(drawn && shown);
     assert_eq!(run(&["make"], &text), (true, plan, String::new()));
 }
+
+#[test]
+fn shows_a_state() {
+    let path = concat!(env!("CARGO_MANIFEST_DIR"), "/../samples/b.plan");
+    let at_first = "0 MOOR unfinished\n1 CAST waiting\n2 COMS unfinished\n3 RADI waiting\n\
+         4 SATL waiting\n";
+    let shown = (true, at_first.as_bytes().to_vec(), String::new());
+    assert_eq!(run(&["state", path], &[0; 23]), shown);
+    let refused = |number| (false, Vec::new(), format!("REFUSED {number}\n"));
+    assert_eq!(run(&["state", path], &[0; 22]), refused(15));
+    assert_eq!(run(&["state", path], &[255; 23]), refused(16));
+    let text = concat!(env!("CARGO_MANIFEST_DIR"), "/../samples/b.txt");
+    assert_eq!(run(&["state", text], &[0; 23]), refused(2));
+}

@@ -4,6 +4,7 @@ pub mod Equations
 pub mod Says
 pub mod Words
 pub mod Count
+pub mod Tally
 pub mod First
 pub mod Overlay
 pub mod Zeros

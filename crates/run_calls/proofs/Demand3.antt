@@ -1,9 +1,11 @@
 -- Demand 3 over bytes holds of every accepted plan. Assumes nothing.
-use mathlib.Core.Path.{_≡_, refl, ap}
+use mathlib.Core.Path.{_≡_, refl, sym, ap, _∙_}
+use mathlib.Core.Logic.{_↔_}
 use mathlib.Core.List.{List}
-use Prim.Native.Nat.{ℕ, _+_}
+use Prim.Native.Nat.{ℕ, suc, _+_, _*_, _<_}
 use native.Mathlib.Omega.{arith}
-use lib.ListN.{replicate, length-replicate}
+use lib.ListN.{length, getD, replicate, length-replicate}
+use borrow.Author.Tests.{lt-ltb}
 use Rattle.plan_format.specs.Format.{nodeCount}
 use Rattle.plan_rules.specs.Rules.{refusal}
 use Rattle.plan_check.specs.Meaning.{planOf, startOf}
@@ -15,10 +17,10 @@ use Rattle.verdict.specs.declared.Answer.{Answer}
 use Rattle.verdict.specs.declared.Answer.the-variants.{Judged as Given}
 use Rattle.verdict.specs.Verdict.{Assessed}
 use Rattle.verdict.proofs.Judging.{assessed}
-use Rattle.runs.specs.Calls.{Call, World}
+use Rattle.runs.specs.Calls.{Call, World, acceptedStarts}
 use Rattle.runs.specs.Demand3 as plans
 use Rattle.runs.proofs.Calls.Demand3 as proved
-use Rattle.run_state.specs.State.{worldOf}
+use Rattle.run_state.specs.State.{ordinalIn, ordinalShown, worldOf}
 use Rattle.run_calls.specs.Lists.{Listed}
 use Rattle.run_calls.specs.Demand3.{Bytes, Demand3Of, Demand3}
 use Rattle.run_calls.proofs.Followed.{list-follows, list-made, list-each}
@@ -33,8 +35,8 @@ module _ (b : List ℕ) (h : Bytes b) (acc : refusal b ≡ 0) where
   -- the states worked out are those of some list of calls that was made
   never-worked : Never → plans.NeverViolates (planOf b) (startOf b)
   never-worked g cs ns a w n x =
-      let s : List ℕ = replicate {A = ℕ} (8 + nodeCount b) 0 in
-      let m = list-made b acc s (omega (arith, length-replicate {A = ℕ} (8 + nodeCount b) 0)) cs in
+      let s : List ℕ = replicate {A = ℕ} (8 + 3 * nodeCount b) 0 in
+      let m = list-made b acc s (omega (arith, length-replicate {A = ℕ} (8 + 3 * nodeCount b) 0)) cs in
       let f = list-follows b h s cs (m .0) (m .1) (m .2) in
       g s cs (m .0) (m .1) (m .2) n (rw (on-plans .unique w (f .worked) .0) at x)
 
@@ -44,6 +46,16 @@ module _ (b : List ℕ) (h : Bytes b) (acc : refusal b ≡ 0) where
   assessment DOOMED e = (Given Doomed, assessed b Doomed acc e)
   assessment OPEN e = (Given Open, assessed b Open acc e)
 
+  -- the ordinals in the bytes are those of the states worked out
+  positions : (s : List ℕ) (cs : List Call) (rs z : List ℕ) → Listed b s cs rs z → (n : ℕ) → n < nodeCount b → (k : ℕ)
+      → (ordinalIn b z n ≡ suc k) ↔ ((k < length (acceptedStarts cs rs)) × (getD (acceptedStarts cs rs) k 0 ≡ n))
+  unfolding worldOf ordinalShown
+  positions s cs rs z l n m k =
+      let f = list-follows b h s cs rs z l in
+      let e : f .after .ordinal n ≡ ordinalIn b z n = ap (λ (a : World). a .ordinal n) (sym (f .shown .states))
+      ∙ rw (lt-ltb n (nodeCount b) m) in
+      rw e at (on-plans .ordinals (f .worked) .position n k)
+
   of-plan : Demand3Of b
   unfolding worldOf
   of-plan =
@@ -52,6 +64,7 @@ module _ (b : List ℕ) (h : Bytes b) (acc : refusal b ≡ 0) where
         assessed = assessment (verdict (planOf b) (startOf b)) refl;
         each = list-each b h;
         follows = list-follows b h;
+        ordinals = positions;
         answer = λ r x. let (v, j, u) = on-plans .judged in (v, x .judged acc v .1 j, j, u);
         clear = λ r x. (
           λ q s cs rs z l. let f = list-follows b h s cs rs z l in

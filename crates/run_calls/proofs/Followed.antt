@@ -2,7 +2,7 @@
 -- the states worked out. Assumes nothing.
 use mathlib.Core.Path.{_≡_, refl, sym, ap, _∙_}
 use mathlib.Core.List.{List, [], _∷_, _++_}
-use Prim.Native.Nat.{ℕ, _+_, _≤_}
+use Prim.Native.Nat.{ℕ, _+_, _*_, _≤_}
 use lib.ListN.{length}
 use Rattle.plan_format.specs.Format.{nodeCount}
 use Rattle.plan_rules.specs.Rules.{refusal}
@@ -20,7 +20,7 @@ use Rattle.run_monitor.proofs.Events.{event-steps}
 use Rattle.run_monitor.proofs.Called.{called}
 use Rattle.run_calls.specs.Lists.{Calls, no-calls, next-call, Listed}
 use Rattle.run_calls.specs.Demand3.{Bytes, Shows, Follows, EachCall}
-use Rattle.run_calls.proofs.Kept.{Kept, fresh-kept, event-kept, group-byte, shown-is}
+use Rattle.run_calls.proofs.Kept.{Kept, fresh-kept, event-kept, group-none, shown-is}
 
 -- one list of calls after another
 pub calls-append : {b s z y : List ℕ} {cs ds : List Call} {rs ns : List ℕ} → Calls b s cs rs z → Calls b z ds ns y
@@ -72,7 +72,7 @@ module _ (b : List ℕ) where
     well-formed = ok;
     states = refl;
     bytes = shown-is b s z ok k;
-    groups = group-byte b s z ok k;
+    groups = group-none b s z ok k;
   }
 
   pub list-follows : Bytes b → (s : List ℕ) (cs : List Call) (rs z : List ℕ) → Listed b s cs rs z → Follows b s cs rs z
@@ -97,7 +97,7 @@ module _ (b : List ℕ) where
         made = next-call (called b s e refl refl) (m .made);
       }
 
-  pub list-made : refusal b ≡ 0 → (s : List ℕ) → 8 + nodeCount b ≤ length s → (cs : List Call)
+  pub list-made : refusal b ≡ 0 → (s : List ℕ) → 8 + 3 * nodeCount b ≤ length s → (cs : List Call)
       → (rs : List ℕ) × (z : List ℕ) × Listed b s cs rs z
   list-made acc s l cs =
       let m = make cs (freshState b s) in (

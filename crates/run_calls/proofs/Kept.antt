@@ -1,49 +1,50 @@
--- What lists keep: a state's length, its bytes from 8 + N on, and that its flags are bytes; and the bytes of a state by
+-- What lists keep: a state's length, its bytes from 8 + 3N on, and that its flags are bytes; and the bytes of a state by
 -- what it shows. Assumes nothing.
-use mathlib.Core.Path.{_≡_, refl, sym, _∙_}
+use mathlib.Core.Path.{_≡_, refl, sym, ap, _∙_}
 use mathlib.Core.Logic.{by-cases, ⊎-elim}
 use mathlib.Core.Bool.{true, false}
 use mathlib.Core.List.{List}
-use Prim.Native.Nat.{ℕ, _+_, _-_, _<_, _≤_}
+use Prim.Native.Nat.{ℕ, _+_, _-_, _*_, _/_, _%_, _<_, _≤_}
 use native.Mathlib.Decide.{ℕ-discrete, decLt}
 use native.Mathlib.Omega.{arith}
 use lib.ListN.{length, getD, take, List·getD-eq-default}
 use lib.Seq.{ext-getD, getD-take, length-take-le}
-use borrow.Author.Tests.{eqb-true, not-false, lt-ltb, le-ltb}
-use Rattle.plan_format.specs.Format.{nodeCount, isKind}
-use Rattle.runs.specs.Tests.{anyBelow}
-use Rattle.plan_rules.proofs.Laws.{either, or-none, none-at}
+use borrow.Author.Tests.{eq-eqb, ne-eqb, eqb-true, not-false, lt-ltb, le-ltb}
+use Rattle.plan_format.specs.Format.{u16At, nodeCount, isKind}
+use Rattle.plan_rules.proofs.Laws.{either}
 use Rattle.runs.specs.Plan.{placeNumber}
 use Rattle.plan_check.proofs.Meaning.{kind-is}
 use Rattle.runs.specs.Execution.{Event, nodeOf, statusOf}
 use Rattle.runs.specs.Calls.{statusByte}
-use Rattle.run_state.specs.State.{nodeByte, badFlag, badByte, malformed, roomRefusal, stateRefusal, statusIn}
-use Rattle.run_state.specs.State.{worldOf}
+use Rattle.run_state.specs.State.{nodeByte, ordinalAt, ordinalIn, badByte, startedIn, roomRefusal, stateRefusal}
+use Rattle.run_state.specs.State.{statusIn, ordinalShown, worldOf}
 use Rattle.run_state.specs.Fresh.{freshByte, freshState}
 use Rattle.base.specs.Answers.{overlay}
-use Rattle.run_state.proofs.Refused.{roomy, state-well}
+use Rattle.run_state.proofs.Refused.{roomy}
 use Rattle.base.proofs.Overlay.{length-overlay, at-overlay, past-overlay}
 use Rattle.run_state.proofs.Left.{fresh-accepted}
-use Rattle.run_state.proofs.Passed.{status-back, has-room, byte-small}
+use Rattle.run_state.proofs.Passed.{status-back, has-room, is-well, byte-small}
+use Rattle.run_state.proofs.Well.{unnumbered, ordinal-small}
 use Rattle.run_refusals.specs.Events.{eventPlace, eventRefusal}
 use Rattle.run_refusals.proofs.Chain.{answer-task}
 use Rattle.run_monitor.specs.Events.{afterEvent, eventState}
 use Rattle.run_monitor.proofs.Equations.{refused-22, accepted}
-use Rattle.run_monitor.proofs.Events.{next-length, byte-other, byte-flags}
-use Rattle.run_calls.specs.Shown.{shownByte}
+use Rattle.run_monitor.proofs.Written.{byte-flags}
+use Rattle.run_monitor.proofs.After.{after-length, after-past, after-flags}
+use Rattle.run_calls.specs.Shown.{numberByte, shownByte}
 use Rattle.run_calls.specs.Demand3.{Bytes}
 use Rattle.run_calls.proofs.Bytes.{flag-byte, made-small}
 
 pub record Kept (b s z : List ℕ) : Type 0 where
   pub same-length : length z ≡ length s
-  pub later : (k : ℕ) → 8 + nodeCount b ≤ k → getD z k 0 ≡ getD s k 0
+  pub later : (k : ℕ) → 8 + 3 * nodeCount b ≤ k → getD z k 0 ≡ getD s k 0
   pub small : (k : ℕ) → k < 8 → getD z k 0 < 256
 
 -- ---- fresh
 pub fresh-kept : (b s : List ℕ) → Bytes b → roomRefusal b s ≡ 0 → Kept b s (freshState b s)
 unfolding freshByte
 fresh-kept b s h e =
-    let n = 8 + nodeCount b in
+    let n = 8 + 3 * nodeCount b in
     rw (sym (fresh-accepted b s e))
     (record {
       same-length = length-overlay (freshByte b) s n;
@@ -63,23 +64,17 @@ module _ (b s z : List ℕ) (ok : stateRefusal b z ≡ 0) (h : Kept b s z) (e : 
       (λ l. rw (List·getD-eq-default (take 8 z) 0 {n = i} (omega (arith, eight-long))) (omega arith))
 
   written-kept : isKind b (nodeOf e) 0 ≡ true → Kept b s (afterEvent b z e)
-  unfolding nodeByte
   written-kept y =
-      let l = kind-is b (nodeOf e) 0 y .0 in
       let k = eventPlace e in
-      let x = statusByte (statusOf e) in
       record {
-        same-length = next-length b z ok k (nodeOf e) x y ∙ h .same-length;
-        later = λ j m. past j m l y ∙ h .later j m;
-        small = λ j m. rw (byte-flags b z ok k (nodeOf e) x y j m)
+        same-length = after-length b z ok e y ∙ h .same-length;
+        later = λ j m. after-past b z ok e y j m ∙ h .later j m;
+        small = λ j m. rw (
+          after-flags b z ok e y j m,
+          byte-flags b z ok k (nodeOf e) (statusByte (statusOf e)) y j m,
+        )
             (made-small b (placeNumber k) (nodeOf e) (take 8 z) (omega (arith, eight-long)) first-small j);
       }
-    where
-      past : (j : ℕ) → 8 + nodeCount b ≤ j → nodeOf e < nodeCount b → isKind b (nodeOf e) 0 ≡ true
-          → getD (afterEvent b z e) j 0 ≡ getD z j 0
-      past j m l y =
-          let q : 8 + (j - 8) ≡ j = omega arith in
-          rw q at (byte-other b z ok (eventPlace e) (nodeOf e) (statusByte (statusOf e)) y (j - 8) (λ w. omega arith))
 
   pub event-kept : Kept b s (eventState b z e)
   event-kept =
@@ -88,12 +83,18 @@ module _ (b s z : List ℕ) (ok : stateRefusal b z ≡ 0) (h : Kept b s z) (e : 
       (λ n. rw (sym (refused-22 b z e ok n .1)) h)
 
 -- ---- the bytes of a state are those of what it shows
+-- a small number in two bytes
+low-byte : (x y : ℕ) → x + 256 * y ≤ 128 → ((x + 256 * y) % 256 ≡ x) × ((x + 256 * y) / 256 ≡ y)
+low-byte x y l = (omega arith, omega arith)
+
 module _ (b s z : List ℕ) (ok : stateRefusal b z ≡ 0) (h : Kept b s z) where
-  pub group-byte : (n : ℕ) → n < nodeCount b → isKind b n 0 ≡ false → nodeByte z n ≡ 0
-  unfolding malformed badByte
-  group-byte n l y =
-      let w = or-none (anyBelow 64 (badFlag b z)) (anyBelow (nodeCount b) (badByte b z)) (state-well b z ok .1) in
-      eqb-true (nodeByte z n) 0 (not-false _ (rw y at (none-at (nodeCount b) (badByte b z) (w .1) n l)))
+  group-byte : (n : ℕ) → n < nodeCount b → isKind b n 0 ≡ false → nodeByte z n ≡ 0
+  unfolding badByte
+  group-byte n l y = eqb-true (nodeByte z n) 0 (not-false _ (rw y at (is-well b z ok .bytes n l)))
+
+  pub group-none : (n : ℕ) → n < nodeCount b → isKind b n 0 ≡ false → (nodeByte z n ≡ 0) × (ordinalIn b z n ≡ 0)
+  unfolding startedIn
+  group-none n l y = (group-byte n l y, unnumbered b z (is-well b z ok) n l (rw y))
 
   status-byte : (n : ℕ) → n < nodeCount b → statusByte (statusIn b z n) ≡ nodeByte z n
   unfolding statusIn
@@ -103,18 +104,40 @@ module _ (b s z : List ℕ) (ok : stateRefusal b z ≡ 0) (h : Kept b s z) where
       (λ (y : isKind b n 0 ≡ false). rw (y, group-byte n l y))
       (either (isKind b n 0))
 
-  shown-at : (k : ℕ) → k < 8 + nodeCount b → shownByte (worldOf b z) k ≡ getD z k 0
+  -- the two bytes of an ordinal
+  number-byte : (k : ℕ) → 8 + nodeCount b ≤ k → k < 8 + 3 * nodeCount b
+      → numberByte (ordinalShown b z) (k - (8 + nodeCount b)) ≡ getD z k 0
+  unfolding numberByte ordinalShown ordinalIn ordinalAt u16At
+  number-byte k m l =
+      let n = (k - (8 + nodeCount b)) / 2 in
+      let i : n < nodeCount b = omega arith in
+      let small : ordinalIn b z n ≤ 128 =
+      omega (arith, ordinal-small b z (is-well b z ok) n i, has-room b z ok .plan .fits .limits .nodes) in
+      by-cases (ℕ-discrete ((k - (8 + nodeCount b)) % 2) 0)
+      (λ (e : (k - (8 + nodeCount b)) % 2 ≡ 0).
+      let q : 8 + nodeCount b + 2 * n ≡ k = omega arith in
+      rw (eq-eqb ((k - (8 + nodeCount b)) % 2) 0 e, lt-ltb n (nodeCount b) i)
+      (low-byte _ _ small .0 ∙ ap (λ (j : ℕ). getD z j 0) q))
+      (λ e.
+      let q : 8 + nodeCount b + 2 * n + 1 ≡ k = omega arith in
+      rw (ne-eqb ((k - (8 + nodeCount b)) % 2) 0 e, lt-ltb n (nodeCount b) i)
+      (low-byte _ _ small .1 ∙ ap (λ (j : ℕ). getD z j 0) q))
+
+  shown-at : (k : ℕ) → k < 8 + 3 * nodeCount b → shownByte (nodeCount b) (worldOf b z) k ≡ getD z k 0
   unfolding shownByte worldOf nodeByte
   shown-at k l =
       by-cases (decLt k 8)
       (λ (m : k < 8). rw (lt-ltb k 8 m) (flag-byte z k m (h .small k m)))
-      (λ m. let q : 8 + (k - 8) ≡ k = omega arith in
-      rw (le-ltb k 8 (omega arith)) (rw q at (status-byte (k - 8) (omega arith))))
+      (λ m. rw (le-ltb k 8 (omega arith))
+      (by-cases (decLt k (8 + nodeCount b))
+      (λ (j : k < 8 + nodeCount b). let q : 8 + (k - 8) ≡ k = omega arith in
+      rw (lt-ltb k (8 + nodeCount b) j) (rw q at (status-byte (k - 8) (omega arith))))
+      (λ j. rw (le-ltb k (8 + nodeCount b) (omega arith)) (number-byte k (omega arith) l))))
 
-  pub shown-is : z ≡ overlay (shownByte (worldOf b z)) (8 + nodeCount b) s
+  pub shown-is : z ≡ overlay (shownByte (nodeCount b) (worldOf b z)) (8 + 3 * nodeCount b) s
   shown-is =
-      let f = shownByte (worldOf b z) in
-      let n = 8 + nodeCount b in
+      let f = shownByte (nodeCount b) (worldOf b z) in
+      let n = 8 + 3 * nodeCount b in
       ext-getD 0 z (overlay f n s) (h .same-length ∙ sym (length-overlay f s n))
       (λ k l.
       by-cases (decLt k n)

@@ -2,7 +2,7 @@
 use mathlib.Core.Path.{_≡_, refl, sym, ap, _∙_}
 use mathlib.Core.Bool.{Bool, false, cond}
 use mathlib.Core.List.{List, [], _∷_, _++_, append-assoc}
-use Prim.Native.Nat.{ℕ, zero, suc, _+_, _<_, _≤_, min}
+use Prim.Native.Nat.{ℕ, zero, suc, _+_, _*_, _<_, _≤_, min}
 use native.Mathlib.Numerals.{add-one}
 use native.Mathlib.Nat.{le-of-suc-le-suc, not-suc-le-zero}
 use native.Mathlib.Omega.{arith}
@@ -100,7 +100,7 @@ module _ (b s out : List ℕ) (cs : List Call) where
       let (p, q) = worked-only (planOf b) (well-formed b z (g .shown .well-formed)) (g .worked) in
       record {
         returns = f .returns;
-        leaves = g .shown .bytes ∙ ap (λ (a : World). overlay (shownByte a) (8 + nodeCount b) s) q;
+        leaves = g .shown .bytes ∙ ap (λ (a : World). overlay (shownByte (nodeCount b) a) (8 + 3 * nodeCount b) s) q;
         writes = w ∙ ap (λ (x : List ℕ). x ++ drop (length cs) out) p;
         listed = λ e. rw p at l;
         follows = λ e. rw p at g;

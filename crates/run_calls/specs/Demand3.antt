@@ -2,7 +2,7 @@
 -- anywhere among them, on any bytes that have room for a state.
 -- Its hypotheses are the relations that `fresh`, `start`, `finish`, `assess` and `status` promise; what it says comes
 -- from the plan and the calls alone.
-use Prim.Native.Nat.{ℕ, _+_, _≤_, _<_}
+use Prim.Native.Nat.{ℕ, suc, _+_, _*_, _≤_, _<_}
 use mathlib.Core.Path.{_≡_}
 use mathlib.Core.Logic.{_≢_, _↔_, inr}
 use mathlib.Core.Bool.{false}
@@ -13,8 +13,8 @@ use Rattle.plan_rules.specs.Rules.{refusal}
 use Rattle.plan_check.specs.Meaning.{planOf, startOf}
 use Rattle.runs.specs.Execution.{Complete}
 use Rattle.runs.specs.Verdict.{Verdict, CLEAR, DOOMED, Judged}
-use Rattle.runs.specs.Calls.{Call, World, fresh, Answered, Worked}
-use Rattle.run_state.specs.State.{nodeByte, stateRefusal, worldOf}
+use Rattle.runs.specs.Calls.{Call, World, fresh, Answered, Worked, acceptedStarts}
+use Rattle.run_state.specs.State.{nodeByte, ordinalIn, stateRefusal, worldOf}
 use Rattle.base.specs.Answers.{overlay}
 use Rattle.run_monitor.specs.declared.Progress.{Progress}
 use Rattle.run_monitor.specs.Status as status
@@ -28,13 +28,13 @@ use Rattle.run_calls.specs.Lists.{Calls, Listed}
 abbrev pub Bytes : List ℕ → Type 0
 Bytes b = (i : ℕ) → getD b i 0 < 256
 
--- the bytes z show the states a: they pass all checks, the first 8 + N are those of a, with 0 at each group, and each
+-- the bytes z show the states a: they pass all checks, the first 8 + 3N are those of a, with 0 at each group, and each
 -- later byte is as it was in s, before fresh
 pub record Shows (b s : List ℕ) (a : World) (z : List ℕ) : Type 0 where
   pub well-formed : stateRefusal b z ≡ 0
   pub states : worldOf b z ≡ a
-  pub bytes : z ≡ overlay (shownByte a) (8 + nodeCount b) s
-  pub groups : (g : ℕ) → g < nodeCount b → isKind b g 0 ≡ false → nodeByte z g ≡ 0
+  pub bytes : z ≡ overlay (shownByte (nodeCount b) a) (8 + 3 * nodeCount b) s
+  pub groups : (g : ℕ) → g < nodeCount b → isKind b g 0 ≡ false → (nodeByte z g ≡ 0) × (ordinalIn b z g ≡ 0)
 
 -- a list of calls returned what 01 works out from the plan and the calls, and the bytes after it show the states worked
 -- out
@@ -63,7 +63,7 @@ pub record EachCall (b s : List ℕ) (cs : List Call) (c : Call) (ds : List Call
 
 pub record Demand3Of (b : List ℕ) : Type 0 where
   -- every list of calls can be made, on any bytes that have room for a state, and the plan has an answer
-  pub made : (s : List ℕ) → 8 + nodeCount b ≤ length s → (cs : List Call)
+  pub made : (s : List ℕ) → 8 + 3 * nodeCount b ≤ length s → (cs : List Call)
       → (rs : List ℕ) × (z : List ℕ) × Listed b s cs rs z
   pub assessed : (r : Answer) × Assessed b r
   -- each call of a list returns what 01 works out from the plan and the calls up to it, and the bytes then show the
@@ -72,6 +72,11 @@ pub record Demand3Of (b : List ℕ) : Type 0 where
       → Listed b s (cs ++ (c ∷ ds)) rs z → EachCall b s cs c ds rs z
   -- and so for the list as a whole
   pub follows : (s : List ℕ) (cs : List Call) (rs z : List ℕ) → Listed b s cs rs z → Follows b s cs rs z
+  -- the ordinals that the bytes then have (02: places) are the positions of the accepted starts of the list, from 1: a
+  -- node has k + 1 exactly if its start is in their list after k others
+  pub ordinals : (s : List ℕ) (cs : List Call) (rs z : List ℕ) → Listed b s cs rs z → (n : ℕ) → n < nodeCount b
+      → (k : ℕ) → (ordinalIn b z n ≡ suc k)
+      ↔ ((k < length (acceptedStarts cs rs)) × (getD (acceptedStarts cs rs) k 0 ≡ n))
   -- the answer is the one that 01 defines
   pub answer : (r : Answer) → Assessed b r
       → (v : Verdict) × (said r ≡ inr v) × Judged (planOf b) (startOf b) v

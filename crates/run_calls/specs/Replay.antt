@@ -1,5 +1,5 @@
 -- What `replay` returns and leaves: it makes fresh and then a list of calls.
-use Prim.Native.Nat.{ℕ, _+_}
+use Prim.Native.Nat.{ℕ, _+_, _*_}
 use mathlib.Core.Path.{_≡_}
 use mathlib.Core.Bool.{Bool, cond}
 use mathlib.Core.List.{List, [], _∷_, _++_}
@@ -28,7 +28,8 @@ unfoldable pub listReturns : List ℕ → List Call → List ℕ
 listReturns b cs = returns (planOf b) (fresh (startOf b)) cs
 
 unfoldable pub listState : List ℕ → List ℕ → List Call → List ℕ
-listState b s cs = overlay (shownByte (states (planOf b) (fresh (startOf b)) cs)) (8 + nodeCount b) s
+listState b s cs =
+    overlay (shownByte (nodeCount b) (states (planOf b) (fresh (startOf b)) cs)) (8 + 3 * nodeCount b) s
 
 -- Where fresh refuses, all is as it was. Else the state is the one after the calls cs, the first places of out hold
 -- what they returned, and the claim of demand 3 about lists holds of them.

@@ -1,8 +1,8 @@
 -- The bytes of a state that shows given states: eight bytes of flags, then 0 waiting, 1 running or 2 done for each
--- node.
-use Prim.Native.Nat.{ℕ, _+_, _-_, _*_}
+-- node, then for each node the ordinal of its start in two bytes, the low one first.
+use Prim.Native.Nat.{ℕ, _+_, _-_, _*_, _/_, _%_}
 use mathlib.Core.Bool.{Bool, cond}
-use lib.Dec.{ltb}
+use lib.Dec.{eqb, ltb}
 use Rattle.runs.specs.Calls.{World, statusByte}
 use Rattle.base.specs.Count.{num}
 
@@ -12,6 +12,11 @@ flagByte F i =
     num (F (8 * i + 0)) + 2 * num (F (8 * i + 1)) + 4 * num (F (8 * i + 2)) + 8 * num (F (8 * i + 3))
     + 16 * num (F (8 * i + 4)) + 32 * num (F (8 * i + 5)) + 64 * num (F (8 * i + 6)) + 128 * num (F (8 * i + 7))
 
--- byte i
-unfoldable pub shownByte : World → ℕ → ℕ
-shownByte a i = cond (ltb i 8) (flagByte (a .flag) i) (statusByte (a .status (i - 8)))
+-- byte j of numbers of two bytes
+unfoldable pub numberByte : (ℕ → ℕ) → ℕ → ℕ
+numberByte o j = cond (eqb (j % 2) 0) (o (j / 2) % 256) (o (j / 2) / 256)
+
+-- byte i, where there are m nodes
+unfoldable pub shownByte : ℕ → World → ℕ → ℕ
+shownByte m a i = cond (ltb i 8) (flagByte (a .flag) i)
+    (cond (ltb i (8 + m)) (statusByte (a .status (i - 8))) (numberByte (a .ordinal) (i - (8 + m))))

@@ -21,7 +21,7 @@ use Rattle.runs.proofs.Reflect.{Reflects, true-T, T-true}
 use Rattle.runs.proofs.Plan.Trees.{under-le, child-lt}
 use Rattle.runs.proofs.Execution.Completeness.{picks-any}
 use Rattle.runs.proofs.Calls.Reflect.{r-begun, r-applies}
-use Rattle.run_state.specs.State.{stateRefusal, statusIn}
+use Rattle.run_state.specs.State.{stateRefusal, statusIn, worldOf}
 use Rattle.run_state.proofs.Passed.{has-room, well-formed}
 use Rattle.base.specs.Count.{num, countBelow}
 use Rattle.run_progress.specs.Progress.{countedAt, countedChild, childrenCounted}
@@ -153,9 +153,8 @@ module _ (b s : List ℕ) (ok : stateRefusal b s ≡ 0) where
   none-at-root x = omega (arith, x .own-child .not-root, under-le (planOf b) (well-formed b s ok) (x .above))
 
   branches : (t : ℕ) → Reflects (branchBegunB (planOf b) (statusIn b s) t) (BranchBegun (planOf b) (statusIn b s) t)
-  unfolding appliesB
-  branches t = r-applies (planOf b) (well-formed b s ok) (record { status = statusIn b s; flag = λ f. false })
-      (one (start t)) branch-begun
+  unfolding appliesB worldOf
+  branches t = r-applies (planOf b) (well-formed b s ok) (worldOf b s) (one (start t)) branch-begun
 
   pub begun-yes : (t : ℕ) → BranchBegun (planOf b) (statusIn b s) t → true ≡ branchBegunB (planOf b) (statusIn b s) t
   begun-yes t x = sym (T-true _ (branches t .from x))

@@ -22,7 +22,7 @@ use Rattle.runs.specs.Model.Trees.{underB}
 use Rattle.runs.proofs.Reflect.{Reflects, true-T, T-true, same-test}
 use Rattle.runs.proofs.Plan.Reflect.{r-under}
 use Rattle.runs.proofs.Calls.Reflect.{r-complete, r-applies}
-use Rattle.run_state.specs.State.{stateRefusal, statusIn}
+use Rattle.run_state.specs.State.{stateRefusal, statusIn, worldOf}
 use Rattle.run_state.proofs.Passed.{has-room, well-formed}
 use Rattle.base.specs.Count.{num}
 use Rattle.run_enabled.specs.Enabling.{openAt}
@@ -92,9 +92,8 @@ module _ (b s : List ℕ) (ok : stateRefusal b s ≡ 0) (t : ℕ) (marks : List 
       (λ z. x .incomplete (rw (w .earlier) at (completes (earlierOf b j) (n .0) .to z))))))
 
   opens : Reflects (orderOpenB (planOf b) (statusIn b s) t) (OrderOpen (planOf b) (statusIn b s) t)
-  unfolding appliesB
-  opens = r-applies (planOf b) (well-formed b s ok) (record { status = statusIn b s; flag = λ f. false })
-      (one (start t)) order-open
+  unfolding appliesB worldOf
+  opens = r-applies (planOf b) (well-formed b s ok) (worldOf b s) (one (start t)) order-open
 
   pub open-is : anyBelow (orderCount b) (openAt b s marks) ≡ orderOpenB (planOf b) (statusIn b s) t
   open-is = same-test _ _ (record { to = open-to; from = open-from }) opens

@@ -1,20 +1,16 @@
 -- The promise of `start` and `finish`, from its two equations and by what the function has at hand. Assumes nothing.
-use mathlib.Core.Path.{_≡_, refl, sym, ap, _∙_}
+use mathlib.Core.Path.{_≡_, sym, ap, _∙_}
 use mathlib.Core.List.{List}
 use Prim.Native.Nat.{ℕ}
-use Rattle.runs.specs.Plan.{placeNumber}
 use Rattle.plan_check.specs.Meaning.{planOf}
-use Rattle.runs.specs.Execution.{Event, statusOf}
-use Rattle.runs.specs.Calls.{one, statusByte}
+use Rattle.runs.specs.Execution.{Event}
+use Rattle.runs.specs.Calls.{one}
 use Rattle.runs.proofs.Calls.First.{answered}
 use Rattle.base.proofs.First.{first-none}
 use Rattle.run_state.specs.State.{stateRefusal, worldOf}
 use Rattle.run_state.proofs.Passed.{well-formed}
-use Rattle.run_refusals.specs.declared.Move.{Move}
-use Rattle.run_refusals.specs.declared.Move.the-variants.{Start, Finish}
-use Rattle.run_refusals.specs.Events.{eventOf, eventPlace, eventRefusal}
-use Rattle.run_refusals.proofs.Chain.{node-of, place-is}
-use Rattle.run_monitor.specs.Events.{withEvent, eventReturn, afterEvent, eventState, Called}
+use Rattle.run_refusals.specs.Events.{eventRefusal}
+use Rattle.run_monitor.specs.Events.{eventReturn, afterEvent, eventState, Called}
 use Rattle.run_monitor.proofs.Equations.{refused-16, refused-22, accepted}
 use Rattle.run_monitor.proofs.Events.{event-steps}
 
@@ -40,16 +36,6 @@ pub called-22 : (b s : List ℕ) (e : Event) → stateRefusal b s ≡ 0 → (r :
     → Called b s e r s
 called-22 b s e ok r q n = let w = refused-22 b s e ok (λ z. n (q ∙ z)) in called b s e (q ∙ w .0) (w .1)
 
--- the status that a move gives does not depend on the task
-status-of : (m : Move) (t : ℕ) → statusOf (eventOf m 0) ≡ statusOf (eventOf m t)
-status-of Start t = refl
-status-of Finish t = refl
-
-pub called-0 : (b s : List ℕ) (m : Move) (t : ℕ) → stateRefusal b s ≡ 0 → eventRefusal b s (eventOf m t) ≡ 0
-    → (q : ℕ) → q ≡ placeNumber (eventPlace (eventOf m 0)) → (x : ℕ) → x ≡ statusByte (statusOf (eventOf m 0))
-    → (s′ : List ℕ) → s′ ≡ withEvent b q t x s → Called b s (eventOf m t) 0 s′
-called-0 b s m t ok z q eq x ex s′ h =
-    let w = accepted b s (eventOf m t) ok z in
-    let y : withEvent b q t x s ≡ afterEvent b s (eventOf m t) =
-    rw (eq, ex, place-is m t, status-of m t, node-of m t) in
-    called b s (eventOf m t) (w .0) (h ∙ y ∙ w .1)
+pub called-0 : (b s : List ℕ) (e : Event) → stateRefusal b s ≡ 0 → eventRefusal b s e ≡ 0 → {s′ : List ℕ}
+    → s′ ≡ afterEvent b s e → Called b s e 0 s′
+called-0 b s e ok z h = let w = accepted b s e ok z in called b s e (w .0) (h ∙ w .1)

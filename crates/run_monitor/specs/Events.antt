@@ -1,5 +1,5 @@
 -- What `start` and `finish` return and leave, in terms of the states that 01 works out.
-use Prim.Native.Nat.{ℕ, _+_}
+use Prim.Native.Nat.{ℕ, suc, _+_}
 use mathlib.Core.Path.{_≡_}
 use mathlib.Core.Bool.{cond}
 use mathlib.Core.List.{List, _++_}
@@ -7,10 +7,10 @@ use lib.ListN.{take, drop, set}
 use lib.Dec.{eqb}
 use Rattle.runs.specs.Plan.{placeNumber}
 use Rattle.plan_check.specs.Meaning.{planOf}
-use Rattle.runs.specs.Execution.{Event, nodeOf, statusOf}
+use Rattle.runs.specs.Execution.{Event, start, finish, nodeOf, statusOf}
 use Rattle.runs.specs.Calls.{one, statusByte, Answered}
 use Rattle.base.specs.Answers.{first}
-use Rattle.run_state.specs.State.{stateRefusal, worldOf}
+use Rattle.run_state.specs.State.{withOrdinal, startedCount, stateRefusal, worldOf}
 use Rattle.run_state.specs.Made.{made}
 use Rattle.run_refusals.specs.Events.{eventPlace, eventRefusal}
 
@@ -22,9 +22,15 @@ eventReturn b s e = first (stateRefusal b s) (eventRefusal b s e)
 unfoldable pub withEvent : List ℕ → ℕ → ℕ → ℕ → List ℕ → List ℕ
 withEvent b q t x s = set (made b q t (take 8 s) ++ drop 8 s) (8 + t) x
 
+-- a state with the ordinal k at the task that an event starts; a finish takes none
+abbrev pub withStart : List ℕ → ℕ → Event → List ℕ → List ℕ
+withStart b k (start t) s = withOrdinal b t k s
+withStart b k (finish t) s = s
+
 -- the state after an event that happens
 abbrev pub afterEvent : List ℕ → List ℕ → Event → List ℕ
-afterEvent b s e = withEvent b (placeNumber (eventPlace e)) (nodeOf e) (statusByte (statusOf e)) s
+afterEvent b s e = withStart b (suc (startedCount b s)) e
+    (withEvent b (placeNumber (eventPlace e)) (nodeOf e) (statusByte (statusOf e)) s)
 
 -- an accepted event happens; a refused one changes nothing
 unfoldable pub eventState : List ℕ → List ℕ → Event → List ℕ

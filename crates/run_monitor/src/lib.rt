@@ -1,4 +1,6 @@
 // The monitor (01: keeper): whether the root is complete, the start and the finish of a task.
+use base::places::INC;
+use base::places::POST;
 use base::statuses::DONE;
 use base::statuses::RUNNING;
 use run_conditions::with_literals;
@@ -8,16 +10,16 @@ use run_progress::Tally;
 use run_progress::children;
 use run_progress::is_complete;
 use run_refusals::Move;
-use run_refusals::place_of;
 use run_refusals::refused;
 use run_state::check_state;
+use run_state::starts::started;
+use run_state::starts::write_ordinal;
 ghost use mathlib.Core.Path.{_≡_};
 ghost use Rattle.runs.specs.Execution as execution;
-ghost use Rattle.runs.specs.Calls.{statusByte};
 ghost use Rattle.run_state.specs.State.{AtEvent};
 ghost use Rattle.run_refusals.specs.Events.{eventOf};
 ghost use Rattle.run_monitor.specs.Status.{Told};
-ghost use Rattle.run_monitor.specs.Events.{withEvent, Called};
+ghost use Rattle.run_monitor.specs.Events.{withEvent, afterEvent, Called};
 
 pub enum Progress {
     Refused(u32),
@@ -40,16 +42,6 @@ pub fn status(plan: &[u8], state: &[u8]) -> Progress
     Progress::Unfinished
 }
 
-// The byte that a move gives its task: running, done.
-fn given(m: Move) -> u8
-    ensures { λ r. ⌜ r ≡ statusByte (execution.statusOf (eventOf m 0)) ⌝ }
-{
-    match m {
-        Move::Start => RUNNING,
-        Move::Finish => DONE,
-    }
-}
-
 // Writes the literals of the task at the place, and its byte.
 fn write_event(plan: &[u8], state: &mut [u8], place: u16, task: usize, byte: u8)
     requires { ⌜ AtEvent (now plan) (now state) task ⌝ }
@@ -60,7 +52,24 @@ fn write_event(plan: &[u8], state: &mut [u8], place: u16, task: usize, byte: u8)
     state[8 + task] = byte;
 }
 
-// The task moves on: its byte is written and its literals are made true. Refused, nothing changes.
+// Writes all that a move changes: the literals, the byte, and the ordinal of a start.
+fn write_move(plan: &[u8], state: &mut [u8], m: Move, task: usize)
+    requires { ⌜ AtEvent (now plan) (now state) task ⌝ }
+    ensures { λ _. ⌜ now (state .exit) ≡ afterEvent (now (plan .entry)) (now (state .entry)) (eventOf m task) ⌝ }
+{
+    match m {
+        Move::Start => {
+            let k = started(plan, state) + 1;
+            write_event(plan, state, INC, task, RUNNING);
+            write_ordinal(plan, state, task, k);
+        }
+        Move::Finish => {
+            write_event(plan, state, POST, task, DONE);
+        }
+    }
+}
+
+// The task moves on: what its move changes is written. Refused, nothing changes.
 fn call(plan: &[u8], state: &mut [u8], m: Move, task: usize) -> u32
     ensures { λ r. ⌜ Called (now (plan .entry)) (now (state .entry)) (eventOf m task) r (now (state .exit)) ⌝ }
 {
@@ -72,11 +81,12 @@ fn call(plan: &[u8], state: &mut [u8], m: Move, task: usize) -> u32
     if q != 0 {
         return q;
     }
-    write_event(plan, state, place_of(m), task, given(m));
+    write_move(plan, state, m, task);
     0
 }
 
-// The task starts: its byte says running and its inconditions are made true. Refused, nothing changes.
+// The task starts: its byte says running, its inconditions are made true and its start takes the next ordinal. Refused,
+// nothing changes.
 pub fn start(plan: &[u8], state: &mut [u8], task: usize) -> u32
     ensures { λ r. ⌜ Called (now (plan .entry)) (now (state .entry)) (execution.start task) r (now (state .exit)) ⌝ }
 {

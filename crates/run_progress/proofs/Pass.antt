@@ -1,7 +1,7 @@
 -- The table of counts, turn by turn. Assumes nothing.
 use mathlib.Core.Path.{_≡_, sym, ap, _∙_}
 use mathlib.Core.Logic.{by-cases}
-use mathlib.Core.Bool.{true, false, not, _&&_, true≢false}
+use mathlib.Core.Bool.{Bool, true, false, not, _&&_, true≢false}
 use mathlib.Core.List.{List}
 use Prim.Native.Nat.{ℕ, _+_, _-_, _<_, _≤_}
 use native.Mathlib.Decide.{ℕ-discrete}
@@ -26,18 +26,23 @@ use Rattle.run_progress.specs.Progress.{countedAt, countedChild, childre
 use Rattle.run_progress.specs.declared.Tally.{Tally}
 use Rattle.run_progress.specs.declared.Tally.the-variants.{Begun, Ends}
 use Rattle.base.proofs.Count.{count-le, count-rest, count-back}
+use Rattle.base.proofs.Tally.{tally-start, tally-one, tally-none}
+
+-- the child counted at g in turn i
+abbrev turn : Tally → List ℕ → List ℕ → ℕ → ℕ → Bool
+turn k b s g i = countedChild k b s g (nodeCount b - 1 - i)
 
 -- the counted children of g among the last m nodes
 unfoldable pub part : Tally → List ℕ → List ℕ → ℕ → ℕ → ℕ
-part k b s m g = countBelow m (λ i. countedChild k b s g (nodeCount b - 1 - i))
+part k b s m g = countBelow m (turn k b s g)
 
 -- the table t after m turns
 abbrev pub Holds : Tally → List ℕ → List ℕ → ℕ → List ℕ → Type 0
 Holds k b s m t = (length t ≡ 128) × ((g : ℕ) → g < 128 → getD t g 0 ≡ part k b s m g)
 
 pub none-yet : (k : Tally) (b s t : List ℕ) → Zeros 128 t → Holds k b s 0 t
-unfolding part countBelow
-none-yet k b s t z = (z .long, z .zero)
+unfolding part
+none-yet k b s t z = tally-start (turn k b s) 128 t z
 
 pub part-le : (k : Tally) (b s : List ℕ) (m g : ℕ) → part k b s m g ≤ m
 unfolding part
@@ -77,44 +82,25 @@ module _ (k : Tally) (b s : List ℕ) (ok : stateRefusal b s ≡ 0) where
     pub parent-small : g < 128
     parent-small = let r = has-room b s ok .plan in omega (arith, lower g c child, r .fits .limits .nodes)
 
-    more : (h : ℕ) → part k b s (m + 1) h ≡ part k b s m h + num (countedChild k b s h c)
-    unfolding part countBelow
-    more h = rw (add-one m, ec)
-
     other-parent : (h : ℕ) → (h ≡ g → ⊥) → countedChild k b s h c ≡ false
     unfolding countedChild
     other-parent h n = not-passed _
         (λ y. n (sym (child-is b h c (and-both (isChild b h c) (countedAt k b s h c) y .0) .2) ∙ sym eg))
 
-    kept : (h : ℕ) → (h ≡ g → ⊥) → part k b s (m + 1) h ≡ part k b s m h
-    kept h n = omega (arith, more h, ap num (other-parent h n))
-
     module _ (t u : List ℕ) (held : Holds k b s m t) where
       pub counts : countedAt k b s g c ≡ true → u ≡ set t g (getD t g 0 + 1) → Holds k b s (m + 1) u
-      unfolding countedChild
-      counts y e = (
-        ap length e ∙ length-set t g (getD t g 0 + 1) ∙ held .0,
-        λ h q.
-            ap (λ (v : List ℕ). getD v h 0) e
-            ∙ by-cases (ℕ-discrete h g)
-            (λ (z : h ≡ g). let o = ap num (and-of (isChild b g c) (countedAt k b s g c) child y) in
-            rw z (getD-set-same t g (getD t g 0 + 1) 0 (omega (arith, held .0, parent-small))
-            ∙ omega (arith, held .1 g parent-small, more g, o)))
-            (λ z. getD-set-other t g h (getD t g 0 + 1) 0 z ∙ held .1 h q ∙ sym (kept h z)),
-      )
+      unfolding part countedChild
+      counts y e = tally-one (turn k b s) 128 m t u held g parent-small
+          (rw (← ec) (and-of (isChild b g c) (countedAt k b s g c) child y)) (λ h n. rw (← ec) (other-parent h n)) e
 
       pub passes : countedAt k b s g c ≡ false → u ≡ t → Holds k b s (m + 1) u
-      unfolding countedChild
-      passes y e = (
-        ap length e ∙ held .0,
-        λ h q.
-            ap (λ (v : List ℕ). getD v h 0) e
-            ∙ by-cases (ℕ-discrete h g)
-            (λ (z : h ≡ g). let o = ap num (not-passed (isChild b g c && countedAt k b s g c)
-            (λ x. true≢false (sym (and-both (isChild b g c) (countedAt k b s g c) x .1) ∙ y))) in
-            rw z (omega (arith, held .1 g parent-small, more g, o)))
-            (λ z. held .1 h q ∙ sym (kept h z)),
-      )
+      unfolding part countedChild
+      passes y e = tally-none (turn k b s) 128 m t u held
+          (λ h q. rw (← ec)
+          (by-cases (ℕ-discrete h g)
+          (λ (z : h ≡ g). rw z (not-passed (isChild b g c && countedAt k b s g c)
+          (λ x. true≢false (sym (and-both (isChild b g c) (countedAt k b s g c) x .1) ∙ y))))
+          (λ z. other-parent h z))) e
 
 -- the test of a counted child, by what is counted
 module _ (k : Tally) (b s : List ℕ) (g c : ℕ) where

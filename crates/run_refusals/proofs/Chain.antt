@@ -1,9 +1,10 @@
 -- The chain of refusals 17 to 22. Assumes nothing.
 use mathlib.Core.Path.{_≡_, refl, sym, ap, _∙_}
-use mathlib.Core.Logic.{⊎-elim}
+use mathlib.Core.Logic.{by-cases, ⊎-elim}
 use mathlib.Core.Bool.{Bool, true, false, cond, not}
 use mathlib.Core.List.{List}
 use Prim.Native.Nat.{ℕ, zero, suc, _≤_}
+use native.Mathlib.Decide.{ℕ-discrete}
 use native.Mathlib.Omega.{arith}
 use lib.Dec.{eqb}
 use lib.ListN.{replicate}
@@ -144,6 +145,12 @@ module _ (b s : List ℕ) (ok : stateRefusal b s ≡ 0) where
         ⊎-elim (λ (y : isKind b t 0 ≡ true). y)
         (λ (y : isKind b t 0 ≡ false). absurd (omega (arith, answer-17 y, z)))
         (either (isKind b t 0))
+
+    -- whose byte is the one that it asks for
+    pub answer-asked : answer ≡ 0 → nodeByte s t ≡ statusByte (asks e)
+    answer-asked z =
+        by-cases (ℕ-discrete (nodeByte s t) (statusByte (asks e))) (λ y. y)
+        (λ n. absurd (omega (arith, answer-18 (answer-task z) n, z)))
 
   -- what an event asserts
   pub event-does : (e : Event) (f : ℕ) → asserts (planOf b) e f ≡ signIn b (eventPlace e) (nodeOf e) f

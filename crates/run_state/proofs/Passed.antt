@@ -8,15 +8,14 @@ use native.Mathlib.Omega.{arith}
 use lib.ListN.{length}
 use borrow.Author.Tests.{ltb-false}
 use Rattle.plan_format.specs.Format.{nodeCount, kindOf}
-use Rattle.runs.specs.Tests.{anyBelow}
-use Rattle.plan_rules.proofs.Laws.{or-none, none-at}
 use Rattle.plan_check.specs.Meaning.{planOf}
 use Rattle.plan_check.proofs.Meaning.{means-well-formed, kind-of}
 use Rattle.runs.specs.Plan.{WellFormed}
 use Rattle.runs.specs.Execution.{Status, waiting, running, done}
 use Rattle.runs.specs.Calls.{statusByte}
-use Rattle.run_state.specs.State.{nodeByte, badFlag, badByte, malformed, stateRefusal, statusAt, statusIn}
+use Rattle.run_state.specs.State.{nodeByte, badByte, stateRefusal, statusAt, statusIn}
 use Rattle.run_state.proofs.Refused.{Roomy, roomy, state-well}
+use Rattle.run_state.proofs.Well.{Well, well}
 
 -- a byte and the status that it shows, back and forth
 pub status-back : (x : ℕ) → x ≤ 2 → statusByte (statusAt x) ≡ x
@@ -39,12 +38,13 @@ module _ (b s : List ℕ) (ok : stateRefusal b s ≡ 0) where
   pub well-formed : WellFormed (planOf b)
   well-formed = means-well-formed b (has-room .accepted)
 
+  pub is-well : Well b s
+  is-well = well b s (state-well b s ok .1)
+
   -- a task's byte
   pub byte-small : (n : ℕ) → n < nodeCount b → kindOf b n ≡ 0 → nodeByte s n ≤ 2
-  unfolding malformed badByte
-  byte-small n l k =
-      let w = or-none (anyBelow 64 (badFlag b s)) (anyBelow (nodeCount b) (badByte b s)) (state-well b s ok .1) in
-      ltb-false 2 (nodeByte s n) (rw (kind-of b n 0 l k) at (none-at (nodeCount b) (badByte b s) (w .1) n l))
+  unfolding badByte
+  byte-small n l k = ltb-false 2 (nodeByte s n) (rw (kind-of b n 0 l k) at (is-well .bytes n l))
 
   task-status : (n : ℕ) → n < nodeCount b → kindOf b n ≡ 0 → statusIn b s n ≡ statusAt (nodeByte s n)
   unfolding statusIn

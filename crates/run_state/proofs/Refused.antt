@@ -2,7 +2,7 @@
 use mathlib.Core.Path.{_≡_}
 use mathlib.Core.Bool.{Bool, true, false, _&&_, _||_}
 use mathlib.Core.List.{List}
-use Prim.Native.Nat.{ℕ, _+_, _<_, _≤_}
+use Prim.Native.Nat.{ℕ, _+_, _*_, _<_, _≤_}
 use lib.ListN.{length, take}
 use lib.Dec.{leb}
 use borrow.Author.Tests.{lt-ltb, le-ltb, ltb-false}
@@ -13,18 +13,19 @@ use Rattle.plan_format.specs.Format.{nodeCount, flagCount}
 use Rattle.plan_rules.specs.Rules.{refusal}
 use Rattle.runs.specs.Tests.{anyBelow}
 use Rattle.plan_check.proofs.Accepted.{Clean, clean}
-use Rattle.run_state.specs.State.{tooShort, badFlag, badByte, malformed, roomRefusal, stateRefusal}
+use Rattle.run_state.specs.State.{Fits, tooShort, badFlag, badNode, misnumbered, malformed, roomRefusal}
+use Rattle.run_state.specs.State.{stateRefusal}
 
 module _ (b s : List ℕ) where
   pub room-plan : (refusal b ≡ 0 → ⊥) → refusal b ≡ roomRefusal b s
   unfolding roomRefusal
   room-plan n = first-some (refusal b) _ n
 
-  pub room-short : refusal b ≡ 0 → length s < 8 + nodeCount b → 15 ≡ roomRefusal b s
+  pub room-short : refusal b ≡ 0 → length s < 8 + 3 * nodeCount b → 15 ≡ roomRefusal b s
   unfolding roomRefusal tooShort
   room-short e l = simp (e, lt-ltb _ _ l)
 
-  pub room-long : refusal b ≡ 0 → 8 + nodeCount b ≤ length s → 0 ≡ roomRefusal b s
+  pub room-long : refusal b ≡ 0 → 8 + 3 * nodeCount b ≤ length s → 0 ≡ roomRefusal b s
   unfolding roomRefusal tooShort
   room-long e l = simp (e, le-ltb _ _ l)
 
@@ -32,13 +33,16 @@ module _ (b s : List ℕ) where
   pub record Roomy : Type 0 where
     pub accepted : refusal b ≡ 0
     pub plan : Clean b
-    pub room : 8 + nodeCount b ≤ length s
+    pub room : 8 + 3 * nodeCount b ≤ length s
 
   pub roomy : roomRefusal b s ≡ 0 → Roomy
   unfolding roomRefusal tooShort
   roomy e =
       let w = both-none (refusal b) _ e in
       record { accepted = w .0; plan = clean b (w .0); room = ltb-false _ _ (check-passed _ 14 0 (w .1) .0) }
+
+  pub fits : Roomy → Fits b s
+  fits r = record { plan = r .plan .fits; room = r .room }
 
   pub state-room : (roomRefusal b s ≡ 0 → ⊥) → roomRefusal b s ≡ stateRefusal b s
   unfolding stateRefusal
@@ -62,7 +66,7 @@ pub flag-bad : (b s bytes : List ℕ) (v f : ℕ) (h : Bool) → v ≡ flagCount
 unfolding badFlag
 flag-bad b s bytes v f h ev eb eh l = rw (ev, eh, eb, in-first s f l)
 
-pub bad-parts : (b s : List ℕ) (x y : Bool) → x ≡ anyBelow 64 (badFlag b s) → y ≡ anyBelow (nodeCount b) (badByte b s)
-    → (x || y) ≡ malformed b s
+pub bad-parts : (b s : List ℕ) (x y z : Bool) → x ≡ anyBelow 64 (badFlag b s)
+    → y ≡ anyBelow (nodeCount b) (badNode b s) → z ≡ misnumbered b s → (x || y || z) ≡ malformed b s
 unfolding malformed
-bad-parts b s x y ex ey = rw (ex, ey)
+bad-parts b s x y z ex ey ez = rw (ex, ey, ez)

@@ -3,7 +3,7 @@ use mathlib.Core.Path.{_≡_, refl, sym, _∙_, fun-ext}
 use mathlib.Core.Logic.{by-cases, ⊎-elim}
 use mathlib.Core.Bool.{Bool, true, false, cond, not, _&&_, and-false}
 use mathlib.Core.List.{List}
-use Prim.Native.Nat.{ℕ, _+_, _/_, _<_, _≤_}
+use Prim.Native.Nat.{ℕ, _+_, _*_, _/_, _<_, _≤_}
 use native.Mathlib.Decide.{decLt}
 use native.Mathlib.Omega.{arith}
 use lib.Dec.{eqb, ltb, leb}
@@ -11,8 +11,9 @@ use borrow.Author.Tests.{eq-eqb, lt-ltb, le-ltb, lt-leb}
 use Rattle.base.specs.Answers.{overlay}
 use Rattle.base.proofs.Overlay.{length-overlay, at-overlay}
 use Rattle.base.specs.Bits.{bit}
+use Rattle.base.proofs.Count.{count-none}
 use Rattle.run_flags.specs.Flags.{flagIn}
-use Rattle.plan_format.specs.Format.{nodeCount, flagCount, startFlag, isKind}
+use Rattle.plan_format.specs.Format.{u16At, nodeCount, flagCount, startFlag, isKind}
 use Rattle.plan_rules.proofs.Laws.{either, none-all, not-passed}
 use Rattle.plan_check.specs.Meaning.{startOf}
 use Rattle.plan_check.proofs.Accepted.{start-below}
@@ -20,41 +21,72 @@ use Rattle.plan_check.proofs.Meaning.{kind-is}
 use Rattle.runs.specs.Execution.{waiting}
 use Rattle.runs.specs.Calls as calls
 use Rattle.run_state.specs.State.{nodeByte, badFlag, badByte, malformed, roomRefusal, stateRefusal, statusAt}
-use Rattle.run_state.specs.State.{statusIn, flagShown, worldOf}
+use Rattle.run_state.specs.State.{statusIn, flagShown, ordinalShown, worldOf, ordinalAt, ordinalIn, startedIn}
+use Rattle.run_state.specs.State.{startedCount, strayOrdinal}
 use Rattle.run_state.specs.Fresh.{freshByte, freshState}
 use Rattle.run_state.proofs.Refused.{Roomy, roomy, room-long, state-good}
+use Rattle.run_state.proofs.Well.{from-parts}
 
 module _ (b s : List ℕ) (r : Roomy b s) where
   written : List ℕ
-  written = overlay (freshByte b) (8 + nodeCount b) s
+  written = overlay (freshByte b) (8 + 3 * nodeCount b) s
 
   fresh-flag : (f : ℕ) → f < 64 → flagIn written f ≡ startFlag b f
   unfolding written flagIn bit startFlag freshByte
   fresh-flag f l =
-      rw (at-overlay (freshByte b) s (8 + nodeCount b) (f / 8) (r .room) (omega arith), lt-ltb (f / 8) 8 (omega arith))
+      rw (at-overlay (freshByte b) s (8 + 3 * nodeCount b) (f / 8) (r .room) (omega arith), lt-ltb (f / 8) 8 (omega arith))
 
   fresh-node : (n : ℕ) → n < nodeCount b → nodeByte written n ≡ 0
   unfolding written nodeByte freshByte
-  fresh-node n l = at-overlay (freshByte b) s (8 + nodeCount b) (8 + n) (r .room) (omega arith)
+  fresh-node n l = at-overlay (freshByte b) s (8 + 3 * nodeCount b) (8 + n) (r .room) (omega arith)
       ∙ rw (le-ltb (8 + n) 8 (omega arith))
 
   start-past : (f : ℕ) → flagCount b ≤ f → f < 64 → startFlag b f ≡ false
   start-past f l m = not-passed _ (λ y. omega (arith, start-below b (r .plan) f m y))
 
-  well-formed : malformed b written ≡ false
-  unfolding malformed badFlag badByte
-  well-formed =
+  fresh-ordinal : (n : ℕ) → n < nodeCount b → ordinalIn b written n ≡ 0
+  unfolding written ordinalIn ordinalAt u16At freshByte
+  fresh-ordinal n l =
       rw (
-        none-all 64 (λ f. leb (flagCount b) f && flagIn written f)
-            (λ f l. by-cases (decLt f (flagCount b)) (λ (h : f < flagCount b). rw (lt-leb (flagCount b) f h))
-            (λ h. rw (fresh-flag f l, start-past f (omega arith) l) (and-false (leb (flagCount b) f)))),
-        none-all (nodeCount b) (λ n. cond (isKind b n 0) (ltb 2 (nodeByte written n))
-            (not (eqb (nodeByte written n) 0))) (λ n l. rw (fresh-node n l) (alike (isKind b n 0))),
+        at-overlay (freshByte b) s (8 + 3 * nodeCount b) (8 + nodeCount b + 2 * n) (r .room) (omega arith),
+        at-overlay (freshByte b) s (8 + 3 * nodeCount b) (8 + nodeCount b + 2 * n + 1) (r .room) (omega arith),
+        le-ltb (8 + nodeCount b + 2 * n) 8 (omega arith),
+        le-ltb (8 + nodeCount b + 2 * n + 1) 8 (omega arith),
       )
+
+  none-started : (n : ℕ) → n < nodeCount b → startedIn b written n ≡ false
+  unfolding startedIn
+  none-started n l = rw (fresh-node n l) (and-false (isKind b n 0))
+
+  no-starts : startedCount b written ≡ 0
+  unfolding startedCount
+  no-starts = count-none (nodeCount b) (startedIn b written) none-started
+
+  well-formed : malformed b written ≡ false
+  unfolding badFlag badByte strayOrdinal
+  well-formed = from-parts b written (record {
+    flags = λ f l. by-cases (decLt f (flagCount b)) (λ (h : f < flagCount b). past f h)
+        (λ h. at-start f l (omega arith));
+    bytes = small;
+    strays = λ n l. stray n l;
+    once = λ k l. absurd (omega (arith, no-starts));
+  })
     where
+      past : (f : ℕ) → f < flagCount b → badFlag b written f ≡ false
+      past f h = rw (lt-leb (flagCount b) f h)
+
+      at-start : (f : ℕ) → f < 64 → flagCount b ≤ f → badFlag b written f ≡ false
+      at-start f l h = rw (fresh-flag f l, start-past f h l) (and-false (leb (flagCount b) f))
+
       alike : (x : Bool) → cond x false false ≡ false
       alike true = refl
       alike false = refl
+
+      small : (n : ℕ) → n < nodeCount b → badByte b written n ≡ false
+      small n l = rw (fresh-node n l) (alike (isKind b n 0))
+
+      stray : (n : ℕ) → n < nodeCount b → strayOrdinal b written n ≡ false
+      stray n l = rw (none-started n l, fresh-ordinal n l)
 
   shows-status : (n : ℕ) → statusIn b written n ≡ waiting
   unfolding statusIn statusAt
@@ -74,9 +106,16 @@ module _ (b s : List ℕ) (r : Roomy b s) where
       (by-cases (decLt f 64) (λ (m : f < 64). rw (lt-ltb f 64 m, fresh-flag f m) (start-past f (omega arith) m))
       (λ m. rw (le-ltb f 64 (omega arith)))))
 
+  shows-ordinal : (n : ℕ) → ordinalShown b written n ≡ 0
+  unfolding ordinalShown
+  shows-ordinal n =
+      by-cases (decLt n (nodeCount b))
+      (λ (l : n < nodeCount b). rw (lt-ltb n (nodeCount b) l) (fresh-ordinal n l))
+      (λ l. rw (le-ltb n (nodeCount b) (omega arith)))
+
   shows : worldOf b written ≡ calls.fresh (startOf b)
   unfolding worldOf
-  shows = cc (fun-ext shows-status, fun-ext shows-flag)
+  shows = cc (fun-ext shows-status, fun-ext shows-flag, no-starts, fun-ext shows-ordinal)
 
 -- an accepted call leaves a state that passes all checks and shows the states at the start
 pub record Started (b s : List ℕ) : Type 0 where
@@ -87,11 +126,11 @@ pub fresh-started : (b s : List ℕ) → roomRefusal b s ≡ 0 → Started b (fr
 unfolding freshState written
 fresh-started b s e =
     let r = roomy b s e in
-    let w = overlay (freshByte b) (8 + nodeCount b) s in
+    let w = overlay (freshByte b) (8 + 3 * nodeCount b) s in
     rw (eq-eqb (roomRefusal b s) 0 e)
     (record {
       well-formed = sym (state-good b w
-          (sym (room-long b w (r .accepted) (omega (arith, r .room, length-overlay (freshByte b) s (8 + nodeCount b)))))
+          (sym (room-long b w (r .accepted) (omega (arith, r .room, length-overlay (freshByte b) s (8 + 3 * nodeCount b)))))
           (well-formed b s r));
       at-first = shows b s r;
     })

@@ -1,5 +1,6 @@
--- The state that `fresh` writes: the start flags of the plan and a 0 for each node; later bytes are kept.
-use Prim.Native.Nat.{ℕ, _+_}
+-- The state that `fresh` writes: the start flags of the plan, and zeros for each node and each ordinal; later bytes are
+-- kept.
+use Prim.Native.Nat.{ℕ, _+_, _*_}
 use mathlib.Core.Path.{_≡_}
 use mathlib.Core.Bool.{cond}
 use mathlib.Core.List.{List}
@@ -14,7 +15,7 @@ freshByte b i = cond (ltb i 8) (getD b (8 + i) 0) 0
 
 -- the bytes after the call: as they were, if it is refused
 unfoldable pub freshState : List ℕ → List ℕ → List ℕ
-freshState b s = cond (eqb (roomRefusal b s) 0) (overlay (freshByte b) (8 + nodeCount b) s) s
+freshState b s = cond (eqb (roomRefusal b s) 0) (overlay (freshByte b) (8 + 3 * nodeCount b) s) s
 
 -- what `fresh` returns and the bytes that it leaves
 pub record Freshened (b s : List ℕ) (r : ℕ) (s′ : List ℕ) : Type 0 where

@@ -1,4 +1,6 @@
 // The bytes of a state (01: record): the checks that every call makes first, and the fresh state.
+use crate::starts::is_stray;
+use crate::starts::ordinals_bad;
 use base::kinds::TASK;
 use plan_check::check;
 use plan_format::fields::flags;
@@ -8,10 +10,12 @@ use run_flags::load;
 ghost use mathlib.Core.Path.{_≡_};
 ghost use Prim.Native.Nat.{_+_, _<_, _≤_};
 ghost use lib.ListN.{length};
-ghost use Rattle.plan_format.specs.Format.{Whole, nodeCount};
+ghost use Rattle.plan_format.specs.Format.{nodeCount};
 ghost use Rattle.runs.specs.Tests.{anyBelow};
-ghost use Rattle.run_state.specs.State.{badFlag, badByte, roomRefusal, stateRefusal};
+ghost use Rattle.run_state.specs.State.{Fits, badFlag, badByte, badNode, roomRefusal, stateRefusal};
 ghost use Rattle.run_state.specs.Fresh.{freshByte, Freshened};
+
+pub mod starts;
 
 // A bit for a flag of number v or higher.
 fn flags_bad(plan: &[u8], state: &[u8]) -> bool
@@ -32,7 +36,7 @@ fn flags_bad(plan: &[u8], state: &[u8]) -> bool
 
 // The byte of node n is none that it may have.
 fn byte_bad(plan: &[u8], state: &[u8], n: usize) -> bool
-    requires { ⌜ (n < nodeCount (now plan)) × (Whole (now plan) × (8 + nodeCount (now plan) ≤ length (now state))) ⌝ }
+    requires { ⌜ (n < nodeCount (now plan)) × Fits (now plan) (now state) ⌝ }
     ensures { λ r. ⌜ r ≡ badByte (now (plan .entry)) (now (state .entry)) n ⌝ }
 {
     let x = state[8 + n];
@@ -42,15 +46,23 @@ fn byte_bad(plan: &[u8], state: &[u8], n: usize) -> bool
     x != 0
 }
 
-fn bytes_bad(plan: &[u8], state: &[u8]) -> bool
-    requires { ⌜ Whole (now plan) × (8 + nodeCount (now plan) ≤ length (now state)) ⌝ }
+// The byte of node n is bad, or it has an ordinal and has not been started.
+fn node_bad(plan: &[u8], state: &[u8], n: usize) -> bool
+    requires { ⌜ (n < nodeCount (now plan)) × Fits (now plan) (now state) ⌝ }
+    ensures { λ r. ⌜ r ≡ badNode (now (plan .entry)) (now (state .entry)) n ⌝ }
+{
+    byte_bad(plan, state, n) | is_stray(plan, state, n)
+}
+
+fn nodes_bad(plan: &[u8], state: &[u8]) -> bool
+    requires { ⌜ Fits (now plan) (now state) ⌝ }
     ensures { λ r. ⌜ r ≡ anyBelow (nodeCount (now (plan .entry)))
-        (badByte (now (plan .entry)) (now (state .entry))) ⌝ }
+        (badNode (now (plan .entry)) (now (state .entry))) ⌝ }
 {
     let n = nodes(plan);
     let mut i = 0;
     while i < n {
-        if byte_bad(plan, state, i) {
+        if node_bad(plan, state, i) {
             return true;
         }
         i += 1;
@@ -66,7 +78,7 @@ pub fn check_room(plan: &[u8], state: &[u8]) -> u32
     if r != 0 {
         return r;
     }
-    if state.len() < 8 + nodes(plan) {
+    if state.len() < 8 + 3 * nodes(plan) {
         return 15;
     }
     0
@@ -80,7 +92,7 @@ pub fn check_state(plan: &[u8], state: &[u8]) -> u32
     if r != 0 {
         return r;
     }
-    if flags_bad(plan, state) | bytes_bad(plan, state) {
+    if flags_bad(plan, state) | nodes_bad(plan, state) | ordinals_bad(plan, state) {
         return 16;
     }
     0
@@ -104,7 +116,7 @@ pub fn fresh(plan: &[u8], state: &mut [u8]) -> u32
     if r != 0 {
         return r;
     }
-    let n = 8 + nodes(plan);
+    let n = 8 + 3 * nodes(plan);
     let mut k = 0;
     while k < n {
         state[k] = fresh_byte(plan, k);

@@ -10,22 +10,47 @@ use Rattle.plan_rules.specs.Rules.{cause10, bothSigns, cause11, postOf, noPost,
 use Rattle.plan_rules.specs.Rules.{cause13, cause14, refusal}
 use Rattle.plan_check.specs.Meaning.{planOf, startOf, kindAt, conditionIs, hasCondition, signIn, orderIs, hasOrder}
 use Rattle.runs.specs.Model.Computing.{computing}
-use Rattle.run_calls.specs.Shown.{flagByte, shownByte}
+use Rattle.base.specs.Bits.{bit}
+use Rattle.base.specs.Count.{countBelow}
+use Rattle.run_flags.specs.Flags.{flagIn}
+use Rattle.run_state.specs.State.{nodeByte, ordinalAt, ordinalIn, tooShort, badFlag, badByte, startedIn, startedCount}
+use Rattle.run_state.specs.State.{holders, strayOrdinal, misnumbered, badNode, malformed, roomRefusal, stateRefusal}
+use Rattle.run_calls.specs.Shown.{flagByte, numberByte, shownByte}
 use Rattle.run_trials.specs.Written.{two, twos, eight, names, nodes, conditionNodes, conditionValues}
 use Rattle.run_trials.specs.Written.{earlierNodes, laterNodes, bytesOf}
 use Rattle.run_trials.specs.Trial.{statusBytes, stateBytes, AllHold}
-use Rattle.run_trials.specs.Starred.{starred}
+use Rattle.run_trials.specs.Starred.{starred, of-starts, of-places}
+use Rattle.run_trials.specs.Checked.{AllChecked}
 use Rattle.run_trials.proofs.Tests.{showsB, leftB, holdsB, allHoldB, all-hold}
+use Rattle.run_trials.proofs.Checks.{allCheckedB, all-checked}
+
+-- the plans and their bytes, and the bytes of states, under one name
+unfoldable pub bytes : Unit {0}
+unfolding computing nameAllowed flagOf signOf placeOf valueBad u16At nodeCount condCount orderCount flagCount
+    wholeLength startFlag nameChar entryAt parentOf kindOf minutesOf condNode condValue earlierOf laterOf isKind isGroup
+    cause1 cause2 cause3 badStart cause4 badChar cause5 badEntry cause6 badParent cause7 childless cause8 badCondition
+    cause9 notBelow notRising cause10 bothSigns cause11 postOf noPost cause12 isChild badPair badOrder cause13 cause14
+    refusal flagByte two twos eight names nodes conditionNodes conditionValues earlierNodes laterNodes bytesOf
+    statusBytes stateBytes
+bytes = tt
+
+-- the meaning of a plan, and a row as one test
+unfoldable pub rows : Unit {0}
+unfolding bytes planOf startOf kindAt conditionIs hasCondition signIn orderIs hasOrder numberByte shownByte showsB leftB
+    holdsB allHoldB
+rows = tt
 
 -- every starred row of 01 holds
 pub starred-hold : AllHold starred
-unfolding computing nameAllowed flagOf signOf placeOf valueBad u16At nodeCount condCount orderCount flagCount
-    wholeLength startFlag nameChar entryAt parentOf kindOf minutesOf
-    condNode condValue earlierOf laterOf isKind isGroup cause1 cause2 cause3 badStart cause4 badChar cause5
-    badEntry cause6 badParent cause7 childless cause8
-    badCondition cause9 notBelow notRising cause10 bothSigns cause11 postOf noPost cause12 isChild badPair badOrder
-    cause13 cause14 refusal planOf startOf kindAt conditionIs
-    hasCondition signIn orderIs hasOrder flagByte shownByte two twos eight names nodes conditionNodes conditionValues
-    earlierNodes laterNodes bytesOf
-    statusBytes stateBytes showsB leftB holdsB allHoldB
+unfolding rows
 starred-hold = all-hold starred tt
+
+-- and every row for 02's order of starts
+pub starts-hold : AllHold of-starts
+unfolding rows
+starts-hold = all-hold of-starts tt
+
+pub places-checked : AllChecked of-places
+unfolding bytes nodeByte ordinalAt ordinalIn tooShort badFlag badByte startedIn startedCount holders strayOrdinal
+    misnumbered badNode malformed roomRefusal stateRefusal flagIn bit countBelow allCheckedB
+places-checked = all-checked of-places tt

@@ -3,7 +3,7 @@ use mathlib.Core.Path.{_≡_, refl, ap, _∙_}
 use mathlib.Core.Logic.{⊎-elim}
 use mathlib.Core.Bool.{Bool, true, decide}
 use mathlib.Core.List.{List, [], _∷_}
-use Prim.Native.Nat.{ℕ, zero, suc, _+_, _<_}
+use Prim.Native.Nat.{ℕ, zero, suc, _+_, _*_, _<_}
 use native.Mathlib.Omega.{arith}
 use lib.ListN.{getD}
 use lib.Dec.{T, eqb, ltb}
@@ -52,8 +52,8 @@ showsB b (shown n f v m ∷ l) = both (both (ltb n (nodeCount b)) (λ u. ltb f (
     (λ u. both (markedB (planOf b) n f v m) (λ u. showsB b l))
 
 unfoldable pub leftB : List ℕ → Trial → Bool
-leftB b t = allBelow (8 + nodeCount b)
-    (λ k. eqb (shownByte (states (planOf b) (fresh (startOf b)) (t .calls)) k) (getD (t .left) k 0))
+leftB b t = allBelow (8 + 3 * nodeCount b)
+    (λ k. eqb (shownByte (nodeCount b) (states (planOf b) (fresh (startOf b)) (t .calls)) k) (getD (t .left) k 0))
 
 unfoldable pub holdsB : List ℕ → Trial → Bool
 holdsB b t = both (both (areBytes b) (λ u. eqb (refusal b) 0))
@@ -92,14 +92,14 @@ module _ (b : List ℕ) (t : Trial) (x : T (holdsB b t)) where
     judged : verdict (planOf b) (startOf b) ≡ t .verdict
     shows : T (showsB b (t .marks))
     returned : p-returns ≡ t .returned
-    left : (k : ℕ) → k < 8 + nodeCount b → shownByte p-after k ≡ getD (t .left) k 0
+    left : (k : ℕ) → k < 8 + 3 * nodeCount b → shownByte (nodeCount b) p-after k ≡ getD (t .left) k 0
 
   passed : Passed
   unfolding holdsB leftB
   passed =
       let r : Reflects (holdsB b t) ((T (areBytes b) × (refusal b ≡ 0)) × ((verdict (planOf b) (startOf b) ≡ t .verdict)
       × (T (showsB b (t .marks)) × ((p-returns ≡ t .returned)
-      × ((k : ℕ) → k < 8 + nodeCount b → shownByte p-after k ≡ getD (t .left) k 0)))))
+      × ((k : ℕ) → k < 8 + 3 * nodeCount b → shownByte (nodeCount b) p-after k ≡ getD (t .left) k 0)))))
       = r-both _ _ (r-both _ _ (r-T _) (r-eq _ _))
       (r-both _ _ (r-decide _) (r-both _ _ (r-T _) (r-both _ _ (r-list _ _) (r-all _ _ _ (λ k. r-eq _ _))))) in
       let ((a, c), (d, (e, (f, g)))) = r .to x in
@@ -117,8 +117,8 @@ module _ (b : List ℕ) (t : Trial) (x : T (holdsB b t)) where
             let g = list-follows b (bytes-of b (T-true (areBytes b) (w .small))) s (t .calls) rs z l in
             let (e, q) = worked-only (planOf b) (means-well-formed b (w .accepted)) (g .worked) in (
               e ∙ w .returned,
-              g .shown .bytes ∙ ap (λ (a : World). overlay (shownByte a) (8 + nodeCount b) s) q
-                  ∙ overlay-same (shownByte p-after) (λ k. getD (t .left) k 0) (8 + nodeCount b) s (w .left),
+              g .shown .bytes ∙ ap (λ (a : World). overlay (shownByte (nodeCount b) a) (8 + 3 * nodeCount b) s) q
+                  ∙ overlay-same (shownByte (nodeCount b) p-after) (λ k. getD (t .left) k 0) (8 + 3 * nodeCount b) s (w .left),
             );
       }
 

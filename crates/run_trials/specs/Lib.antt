@@ -1,3 +1,4 @@
 pub mod Written
 pub mod Trial
+pub mod Checked
 pub mod Starred

@@ -1,8 +1,8 @@
--- The trial plans and calls of 01 that are marked *, as one table. Definitions only.
+-- The trial plans and calls of 01 that are marked *, as one table; and rows for 02's order of starts. Definitions only.
 use Prim.Native.Nat.{ℕ}
 use mathlib.Core.Bool.{Bool, true, false}
 use mathlib.Core.List.{List, [], _∷_}
-use lib.ListN.{replicate}
+use lib.ListN.{replicate, take}
 use lib.Dec.{eqb}
 use Rattle.runs.specs.Plan.{task, all-of, any-of, Place, pre, inc, post, placeNumber, signNumber}
 use Rattle.plan_codes.specs.Values.{valueOf}
@@ -12,6 +12,7 @@ use Rattle.runs.specs.Verdict.{Verdict, CLEAR, OPEN, DOOMED}
 use Rattle.runs.specs.Calls.{Call, one, no-task, wrong-status, branch-begun, order-open, pre-unmet, inc-broken, number}
 use Rattle.run_trials.specs.Written.{Entry, Order, then, Written}
 use Rattle.run_trials.specs.Trial.{Trial, Shown, shown, stateBytes}
+use Rattle.run_trials.specs.Checked.{Checked}
 
 -- ---- names
 pub data Letter : Type 0 where
@@ -150,38 +151,83 @@ picked = under-root
 abbrev trial : Written → Verdict → List Shown → List Call → List ℕ → List ℕ → Trial
 trial w v ms cs rs l = record { plan = w; verdict = v; marks = ms; calls = cs; returned = rs; left = l }
 
--- all tasks wait
+-- all tasks wait; none has been started
 abbrev waits : ℕ → List Status
 waits n = replicate n waiting
+
+abbrev none : ℕ → List ℕ
+none n = replicate n 0
 
 abbrev pub starred : List Trial
 starred =
     trial (B none-set in-order) CLEAR [] (begin coms ∷ begin 5 ∷ end 77 ∷ begin 256 ∷ [])
     (number no-task ∷ number no-task ∷ number no-task ∷ number no-task ∷ [])
-    (stateBytes none-set (waits 5))
-    ∷ trial (B none-set in-order) CLEAR [] (begin radi ∷ []) (number order-open ∷ []) (stateBytes none-set (waits 5))
+    (stateBytes none-set (waits 5) (none 5))
+    ∷ trial (B none-set in-order) CLEAR [] (begin radi ∷ []) (number order-open ∷ []) (stateBytes none-set (waits 5) (none 5))
     ∷ trial (B none-set in-order) CLEAR [] (begin cast ∷ begin cast ∷ [])
-    (ok ∷ number wrong-status ∷ []) (stateBytes (only 0) (waiting ∷ running ∷ waits 3))
+    (ok ∷ number wrong-status ∷ []) (stateBytes (only 0) (waiting ∷ running ∷ waits 3) (0 ∷ 1 ∷ none 3))
     ∷ trial (B none-set in-order) CLEAR [] (begin cast ∷ end cast ∷ begin satl ∷ begin radi ∷ [])
     (ok ∷ ok ∷ ok ∷ number branch-begun ∷ [])
-    (stateBytes (only 1) (waiting ∷ done ∷ waiting ∷ waiting ∷ running ∷ []))
+    (stateBytes (only 1) (waiting ∷ done ∷ waiting ∷ waiting ∷ running ∷ []) (0 ∷ 1 ∷ 0 ∷ 0 ∷ 2 ∷ []))
     ∷ trial (B none-set in-order) CLEAR []
     (begin cast ∷ end cast ∷ begin satl ∷ begin radi ∷ end radi ∷ end satl ∷ begin radi ∷ [])
     (ok ∷ ok ∷ ok ∷ number branch-begun ∷ number wrong-status ∷ ok ∷ number branch-begun ∷ [])
-    (stateBytes none-set (waiting ∷ done ∷ waiting ∷ waiting ∷ done ∷ []))
+    (stateBytes none-set (waiting ∷ done ∷ waiting ∷ waiting ∷ done ∷ []) (0 ∷ 1 ∷ 0 ∷ 0 ∷ 2 ∷ []))
     ∷ trial (B none-set []) OPEN [] (begin cast ∷ begin radi ∷ []) (ok ∷ number pre-unmet ∷ [])
-    (stateBytes (only 0) (waiting ∷ running ∷ waits 3))
-    ∷ trial (B (only 0) in-order) DOOMED [] (begin cast ∷ []) (number pre-unmet ∷ []) (stateBytes (only 0) (waits 5))
+    (stateBytes (only 0) (waiting ∷ running ∷ waits 3) (0 ∷ 1 ∷ none 3))
+    ∷ trial (B (only 0) in-order) DOOMED [] (begin cast ∷ []) (number pre-unmet ∷ []) (stateBytes (only 0) (waits 5) (none 5))
     ∷ trial holder OPEN [] (begin 1 ∷ begin 2 ∷ end 2 ∷ []) (ok ∷ ok ∷ number inc-broken ∷ [])
-    (stateBytes (only 0) (waiting ∷ running ∷ running ∷ []))
+    (stateBytes (only 0) (waiting ∷ running ∷ running ∷ []) (0 ∷ 1 ∷ 2 ∷ []))
     ∷ trial holder OPEN [] (begin 1 ∷ begin 2 ∷ end 2 ∷ end 1 ∷ end 2 ∷ []) (ok ∷ ok ∷ number inc-broken ∷ ok ∷ ok ∷ [])
-    (stateBytes none-set (waiting ∷ done ∷ done ∷ []))
-    ∷ trial (twins []) OPEN (shown 0 0 off must-pre ∷ []) [] [] (stateBytes none-set (waits 3))
+    (stateBytes none-set (waiting ∷ done ∷ done ∷ []) (0 ∷ 1 ∷ 2 ∷ []))
+    ∷ trial (twins []) OPEN (shown 0 0 off must-pre ∷ []) [] [] (stateBytes none-set (waits 3) (none 3))
     ∷ trial (twins (then 1 2 ∷ [])) DOOMED [] (begin 1 ∷ end 1 ∷ begin 2 ∷ []) (ok ∷ ok ∷ number pre-unmet ∷ [])
-    (stateBytes (only 0) (waiting ∷ done ∷ waiting ∷ []))
-    ∷ trial (three (then 1 2 ∷ then 2 3 ∷ [])) CLEAR [] [] [] (stateBytes none-set (waits 4))
-    ∷ trial (three (then 2 3 ∷ [])) OPEN [] [] [] (stateBytes none-set (waits 4))
+    (stateBytes (only 0) (waiting ∷ done ∷ waiting ∷ []) (0 ∷ 1 ∷ 0 ∷ []))
+    ∷ trial (three (then 1 2 ∷ then 2 3 ∷ [])) CLEAR [] [] [] (stateBytes none-set (waits 4) (none 4))
+    ∷ trial (three (then 2 3 ∷ [])) OPEN [] [] [] (stateBytes none-set (waits 4) (none 4))
     ∷ trial picked OPEN [] (begin 1 ∷ end 1 ∷ begin 4 ∷ end 4 ∷ begin 5 ∷ [])
     (ok ∷ ok ∷ ok ∷ ok ∷ number pre-unmet ∷ [])
-    (stateBytes (only 0) (waiting ∷ done ∷ waiting ∷ waiting ∷ done ∷ waiting ∷ []))
+    (stateBytes (only 0) (waiting ∷ done ∷ waiting ∷ waiting ∷ done ∷ waiting ∷ []) (0 ∷ 1 ∷ 0 ∷ 0 ∷ 2 ∷ 0 ∷ []))
+    ∷ []
+
+-- 02's order of starts: the starts that are accepted take the places 1, 2, ..; refused ones and finishes take none
+abbrev pub of-starts : List Trial
+of-starts =
+    trial (B none-set in-order) CLEAR [] (begin cast ∷ end cast ∷ begin satl ∷ []) (ok ∷ ok ∷ ok ∷ [])
+    (stateBytes (only 1) (waiting ∷ done ∷ waiting ∷ waiting ∷ running ∷ []) (0 ∷ 1 ∷ 0 ∷ 0 ∷ 2 ∷ []))
+    ∷ trial (B none-set in-order) CLEAR [] (begin radi ∷ begin coms ∷ begin cast ∷ end cast ∷ begin radi ∷ [])
+    (number order-open ∷ number no-task ∷ ok ∷ ok ∷ ok ∷ [])
+    (stateBytes (only 1) (waiting ∷ done ∷ waiting ∷ running ∷ waiting ∷ []) (0 ∷ 1 ∷ 0 ∷ 2 ∷ 0 ∷ []))
+    ∷ trial holder OPEN [] (begin 2 ∷ begin 1 ∷ end 1 ∷ end 2 ∷ []) (ok ∷ ok ∷ ok ∷ ok ∷ [])
+    (stateBytes none-set (waiting ∷ done ∷ done ∷ []) (0 ∷ 2 ∷ 1 ∷ []))
+    ∷ []
+
+-- and 16 and 15 on a state of B
+abbrev begun : List ℕ → List ℕ
+begun os = stateBytes (only 1) (waiting ∷ done ∷ waiting ∷ waiting ∷ running ∷ []) os
+
+abbrev row : List ℕ → ℕ → Checked
+row s r = record { plan = B none-set in-order; state = s; refusal = r }
+
+abbrev pub of-places : List Checked
+of-places =
+    -- as the calls leave it, and as no list of calls can
+    row (begun (0 ∷ 1 ∷ 0 ∷ 0 ∷ 2 ∷ [])) 0
+    ∷ row (begun (0 ∷ 2 ∷ 0 ∷ 0 ∷ 1 ∷ [])) 0
+    -- a gap, a repeated place, none at a started task
+    ∷ row (begun (0 ∷ 1 ∷ 0 ∷ 0 ∷ 3 ∷ [])) 16
+    ∷ row (begun (0 ∷ 1 ∷ 0 ∷ 0 ∷ 1 ∷ [])) 16
+    ∷ row (begun (0 ∷ 2 ∷ 0 ∷ 0 ∷ 2 ∷ [])) 16
+    ∷ row (begun (0 ∷ 1 ∷ 0 ∷ 0 ∷ 0 ∷ [])) 16
+    -- at a waiting task, at a group, at the root
+    ∷ row (begun (0 ∷ 1 ∷ 0 ∷ 3 ∷ 2 ∷ [])) 16
+    ∷ row (begun (0 ∷ 1 ∷ 3 ∷ 0 ∷ 2 ∷ [])) 16
+    ∷ row (begun (3 ∷ 1 ∷ 0 ∷ 0 ∷ 2 ∷ [])) 16
+    -- above the count, in either byte
+    ∷ row (begun (0 ∷ 5 ∷ 0 ∷ 0 ∷ 2 ∷ [])) 16
+    ∷ row (begun (0 ∷ 1 ∷ 0 ∷ 0 ∷ 258 ∷ [])) 16
+    ∷ row (begun (0 ∷ 1 ∷ 0 ∷ 256 ∷ 2 ∷ [])) 16
+    -- 8 + 3N - 1 bytes, 8 + N bytes
+    ∷ row (take 22 (begun (0 ∷ 1 ∷ 0 ∷ 0 ∷ 2 ∷ []))) 15
+    ∷ row (take 13 (begun (0 ∷ 1 ∷ 0 ∷ 0 ∷ 2 ∷ []))) 15
     ∷ []

@@ -18,7 +18,7 @@ use Rattle.run_calls.specs.Lists.{Listed}
 use Rattle.verdict.specs.declared.Answer.{Answer}
 use Rattle.verdict.specs.Verdict.{said, Assessed}
 use Rattle.summary.specs.Summary.{Summarised}
-use Rattle.run_trials.specs.Written.{Written, bytesOf, eight}
+use Rattle.run_trials.specs.Written.{Written, bytesOf, eight, twos}
 
 -- node, flag, sign, mark
 pub data Shown : Type 0 where
@@ -34,13 +34,13 @@ pub record Trial : Type 0 where
   pub returned : List ℕ
   pub left : List ℕ
 
--- the bytes of a state: flags, then a status for each node
+-- the bytes of a state: flags, then a status and then an ordinal for each node
 unfoldable pub statusBytes : List Status → List ℕ
 statusBytes [] = []
 statusBytes (a ∷ l) = statusByte a ∷ statusBytes l
 
-unfoldable pub stateBytes : (ℕ → Bool) → List Status → List ℕ
-stateBytes F l = eight F ++ statusBytes l
+unfoldable pub stateBytes : (ℕ → Bool) → List Status → List ℕ → List ℕ
+stateBytes F l os = eight F ++ statusBytes l ++ twos os
 
 -- whatever `summary` writes for node n, its byte for the literal and the mark is 1
 pub record ShownBy (b : List ℕ) (n f : ℕ) (v : Bool) (m : Mark) : Type 0 where
@@ -52,13 +52,13 @@ AllShown b [] = Unit {0}
 AllShown b (shown n f v m ∷ l) = ShownBy b n f v m × AllShown b l
 
 -- the plan's bytes b are accepted; whatever `assess` answers for them, it is the verdict; whatever fresh and the calls
--- return and leave, on any bytes s with room, it is what the trial says, the bytes after 8 + N as they were
+-- return and leave, on any bytes s with room, it is what the trial says, the bytes after 8 + 3N as they were
 pub record HoldsOf (b : List ℕ) (t : Trial) : Type 0 where
   pub accepted : refusal b ≡ 0
   pub judged : (r : Answer) → Assessed b r → said r ≡ inr (t .verdict)
   pub shows : AllShown b (t .marks)
   pub called : (s rs z : List ℕ) → Listed b s (t .calls) rs z
-      → (rs ≡ t .returned) × (z ≡ overlay (λ k. getD (t .left) k 0) (8 + nodeCount b) s)
+      → (rs ≡ t .returned) × (z ≡ overlay (λ k. getD (t .left) k 0) (8 + 3 * nodeCount b) s)
 
 abbrev pub Holds : Trial → Type 0
 Holds t = HoldsOf (bytesOf (t .plan)) t

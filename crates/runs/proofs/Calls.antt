@@ -5,4 +5,5 @@ pub mod Violation
 pub mod Accepted
 pub mod Rows
 pub mod Lists
+pub mod Numbered
 pub mod Demand3

@@ -2,11 +2,11 @@
 -- reachable or not. Definitions only.
 use mathlib.Core.Path.{_≡_}
 use mathlib.Core.Logic.{_≢_, _⊎_}
-use mathlib.Core.Bool.{Bool, not}
+use mathlib.Core.Bool.{Bool, not, cond}
 use mathlib.Core.Option.{Option·getD, some}
-use mathlib.Core.List.{List, [], _∷_}
-use Prim.Native.Nat.{ℕ}
-use lib.Dec.{T}
+use mathlib.Core.List.{List, [], _∷_, _++_}
+use Prim.Native.Nat.{ℕ, suc}
+use lib.Dec.{T, eqb}
 use Rattle.runs.specs.Plan.{task, Picks, inc, Plan, Node, Child, Under}
 use Rattle.runs.specs.Execution.{Status, waiting, running, done, State, Event, start, finish, History, nodeOf}
 use Rattle.runs.specs.Execution.{moved, Complete, Rival, preOf}
@@ -20,18 +20,35 @@ pub data Call : Type 0 where
 abbrev pub events : Call → History
 events (one e) = e ∷ []
 
--- the states that 01 works out from the book and the calls: the status of each task, the value of each flag
+-- the states that 01 works out from the book and the calls: the status of each task, the value of each flag; and 02: how
+-- many starts there were, and the ordinal of each node's start among them (02: place), from 1, 0 for a node not started
 pub record World : Type 0 where
   pub status : State
   pub flag : ℕ → Bool
+  pub starts : ℕ
+  pub ordinal : ℕ → ℕ
 
 -- at first every task waits and each flag is as its start bit says
 abbrev pub fresh : (ℕ → Bool) → World
-fresh F = record { status = λ x. waiting; flag = F }
+fresh F = record { status = λ x. waiting; flag = F; starts = 0; ordinal = λ x. 0 }
 
--- an event moves its task on and makes its literals true
+-- the number of starts after one event more, and the ordinals: a start takes the next one, a finish takes none
+abbrev pub counted : ℕ → Event → ℕ
+counted n (start t) = suc n
+counted n (finish t) = n
+
+abbrev pub numbered : ℕ → (ℕ → ℕ) → Event → ℕ → ℕ
+numbered n o (start t) x = cond (eqb x t) (suc n) (o x)
+numbered n o (finish t) x = o x
+
+-- an event moves its task on and makes its literals true; a start takes its ordinal
 abbrev pub happen : Plan → World → Event → World
-happen p a e = record { status = moved (a .status) e; flag = λ f. Option·getD (asserts p e f) (a .flag f) }
+happen p a e = record {
+  status = moved (a .status) e;
+  flag = λ f. Option·getD (asserts p e f) (a .flag f);
+  starts = counted (a .starts) e;
+  ordinal = numbered (a .starts) (a .ordinal) e;
+}
 
 abbrev pub happenAll : Plan → World → History → World
 happenAll p a [] = a
@@ -128,6 +145,16 @@ pub data Worked (p : Plan) : World → List Call → List ℕ → World → Type
   no-calls : {a : World} → Worked p a [] [] a
   next-call : {a b z : World} {c : Call} {cs : List Call} {n : ℕ} {ns : List ℕ} → Answered p a c n b
       → Worked p b cs ns z → Worked p a (c ∷ cs) (n ∷ ns) z
+
+-- The tasks of a list's accepted starts, the first start first: cs are the calls and ns what they returned.
+abbrev pub startedBy : Call → List ℕ
+startedBy (one (start t)) = t ∷ []
+startedBy (one (finish t)) = []
+
+unfoldable pub acceptedStarts : List Call → List ℕ → List ℕ
+acceptedStarts (c ∷ cs) (n ∷ ns) = cond (eqb n 0) (startedBy c) [] ++ acceptedStarts cs ns
+acceptedStarts [] ns = []
+acceptedStarts (c ∷ cs) [] = []
 
 -- the state's byte for a task (01: record)
 abbrev pub statusByte : Status → ℕ

@@ -4,15 +4,23 @@ use mathlib.Core.Path.{_≡_}
 use mathlib.Core.Logic.{_≢_, _↔_}
 use mathlib.Core.Bool.{Bool}
 use mathlib.Core.List.{List, List·Memᴰ as Among}
-use Prim.Native.Nat.{ℕ, _≤_}
+use Prim.Native.Nat.{ℕ, suc, _<_, _≤_}
+use lib.ListN.{length, getD}
 use Rattle.runs.specs.Plan.{Plan}
 use Rattle.runs.specs.Execution.{waiting, Complete}
 use Rattle.runs.specs.Verdict.{Verdict, Clear, Doomed, Judged}
-use Rattle.runs.specs.Calls.{Call, World, fresh, Task, Worked}
+use Rattle.runs.specs.Calls.{Call, World, fresh, Task, Worked, acceptedStarts}
 
 -- none of the returns is 21 or 22
 abbrev pub NoViolation : List ℕ → Type 0
 NoViolation ns = (r : ℕ) → Among r ns → (r ≢ 21) × (r ≢ 22)
+
+-- Starts in the order of the list l: the ordinal of x is k + 1 exactly if x stands in l after k others, and 0 exactly
+-- while x waits.
+pub record Numbered (l : List ℕ) (a : World) : Type 0 where
+  pub counts : a .starts ≡ length l
+  pub position : (x k : ℕ) → (a .ordinal x ≡ suc k) ↔ ((k < length l) × (getD l k 0 ≡ x))
+  pub unstarted : (x : ℕ) → (a .ordinal x ≡ 0) ↔ (a .status x ≡ waiting)
 
 module _ (p : Plan) (F : ℕ → Bool) where
   -- no call in any list returns 21 or 22
@@ -34,6 +42,9 @@ pub record Demand3 (p : Plan) (F : ℕ → Bool) : Type 0 where
       → a .status x ≡ waiting
   pub beyond : {cs : List Call} {ns : List ℕ} {a : World} → Worked p (fresh F) cs ns a → (f : ℕ) → p .cond .flags ≤ f
       → a .flag f ≡ F f
+  -- a task's ordinal is the position of its start among the accepted starts of the list
+  pub ordinals : {cs : List Call} {ns : List ℕ} {a : World} → Worked p (fresh F) cs ns a
+      → Numbered (acceptedStarts cs ns) a
   -- the plan has one verdict
   pub judged : (v : Verdict) × Judged p F v × ((u : Verdict) → Judged p F u → u ≡ v)
   -- CLEAR exactly if no call in any list returns 21 or 22

@@ -1,19 +1,21 @@
-//! Makes a plan file from its text, shows the text of a plan file, and lists it as the checker
-//! does.
+//! Makes a plan file from its text, shows the text of a plan file, lists it as the checker does,
+//! and shows a state of it as text.
 
 use std::env::args;
+use std::fs;
 use std::io::{self, Read, Write};
 use std::process::ExitCode;
 
 use reference::model::listing::printed;
 use reference::tools::generate::{plan, Shape, LIMITS};
 use reference::tools::random::Random;
-use reference::tools::text::{make, show};
+use reference::tools::text::{make, show, show_state};
 
 const USAGE: &str = "\
 plans make < TEXT > PLAN    the bytes of a text
 plans show < PLAN > TEXT    the text of an accepted plan
 plans list < PLAN           what the checker prints for any bytes
+plans state PLAN < STATE    the text of a state of the accepted plan in the file PLAN
 plans draw SEED > PLAN      a random accepted plan of 128 nodes, as large as its tree permits";
 
 fn main() -> ExitCode {
@@ -23,6 +25,7 @@ fn main() -> ExitCode {
         ["make"] => made(),
         ["show"] => shown(),
         ["list"] => input().map(|plan| printed(&plan).into_bytes()),
+        ["state", plan] => shown_state(plan),
         ["draw", seed] => drawn(seed),
         _ => Err(USAGE.to_string()),
     };
@@ -43,6 +46,12 @@ fn made() -> Result<Vec<u8>, String> {
 
 fn shown() -> Result<Vec<u8>, String> {
     let text = show(&input()?).map_err(|e| e.to_string())?;
+    Ok(text.into_bytes())
+}
+
+fn shown_state(path: &str) -> Result<Vec<u8>, String> {
+    let plan = fs::read(path).map_err(|e| format!("{path}: {e}"))?;
+    let text = show_state(&plan, &input()?).map_err(|e| e.to_string())?;
     Ok(text.into_bytes())
 }
 

@@ -55,10 +55,14 @@ impl Statuses {
         self.0[task] == Status::Running
     }
 
-    /// Whether a task under the node runs or is done (01: taken).
+    /// Whether the node is a task that runs or is done.
+    pub fn started(&self, node: usize) -> bool {
+        self.0[node] != Status::Waiting
+    }
+
+    /// Whether a task under the node is started (01: taken).
     pub fn begun(&self, plan: &Plan, node: usize) -> bool {
-        let mut tasks = plan.tasks_under(node);
-        tasks.any(|task| self.0[task] != Status::Waiting)
+        plan.tasks_under(node).any(|task| self.started(task))
     }
 
     pub fn complete(&self, plan: &Plan, node: usize) -> bool {

@@ -189,7 +189,7 @@ impl Plan {
 }
 
 /// A number of 2 bytes, the low one first.
-fn number(bytes: &[u8]) -> u16 {
+pub fn number(bytes: &[u8]) -> u16 {
     u16::from(bytes[0]) + 256 * u16::from(bytes[1])
 }
 

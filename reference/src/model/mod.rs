@@ -1,4 +1,5 @@
-//! What document 01 says, written down from it alone. Each module rests on those above it.
+//! What documents 01 and 02 say, written down from them alone. Each module rests on those above
+//! it.
 
 pub mod format;
 pub mod literal;
@@ -8,6 +9,7 @@ pub mod rules;
 
 pub mod events;
 pub mod marks;
+pub mod places;
 pub mod runs;
 pub mod verdict;
 

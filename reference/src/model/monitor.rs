@@ -3,6 +3,7 @@
 use crate::model::events::{Event, Status, Statuses};
 use crate::model::format::{Plan, INCONDITION, PRECONDITION, SET};
 use crate::model::literal::Literal;
+use crate::model::places::Places;
 
 /// What the bytes of a well-formed state say.
 #[derive(Clone, Debug, PartialEq, Eq, Hash)]
@@ -10,6 +11,7 @@ pub struct State {
     /// Bit f is flag f.
     pub flags: u64,
     pub statuses: Statuses,
+    pub places: Places,
 }
 
 #[derive(Clone, Copy, Debug, PartialEq, Eq)]
@@ -18,8 +20,13 @@ pub enum Progress {
     Unfinished,
 }
 
-/// The length of a state: 8 + N.
+/// The length of a state: 8 + 3N.
 pub fn state_len(plan: &Plan) -> usize {
+    places_begin(plan) + 2 * plan.nodes.len()
+}
+
+/// Where the places begin, after the flags and statuses: at byte 8 + N.
+pub fn places_begin(plan: &Plan) -> usize {
     8 + plan.nodes.len()
 }
 
@@ -56,6 +63,7 @@ impl State {
         State {
             flags: u64::from_le_bytes(plan.start),
             statuses: Statuses::all_waiting(plan),
+            places: Places::none(plan),
         }
     }
 
@@ -77,19 +85,27 @@ impl State {
                 _ => return Err(16),
             };
         }
-        Ok(State { flags, statuses })
+        let places = Places::read(&bytes[places_begin(plan)..state_len(plan)]);
+        if !places.fit(&statuses) {
+            return Err(16);
+        }
+        Ok(State {
+            flags,
+            statuses,
+            places,
+        })
     }
 
-    /// Writes the first 8 + N bytes.
+    /// Writes the first 8 + 3N bytes.
     pub fn write(&self, bytes: &mut [u8]) {
-        bytes[..8].copy_from_slice(&self.flags.to_le_bytes());
-        for (node, status) in self.statuses.0.iter().enumerate() {
-            bytes[8 + node] = match status {
-                Status::Waiting => 0,
-                Status::Running => 1,
-                Status::Done => 2,
-            };
-        }
+        let mut shown = self.flags.to_le_bytes().to_vec();
+        shown.extend(self.statuses.0.iter().map(|status| match status {
+            Status::Waiting => 0,
+            Status::Running => 1,
+            Status::Done => 2,
+        }));
+        shown.extend(self.places.bytes());
+        bytes[..shown.len()].copy_from_slice(&shown);
     }
 
     pub fn progress(&self, plan: &Plan) -> Progress {
@@ -121,6 +137,7 @@ impl State {
         Ok(State {
             flags,
             statuses: self.statuses.after(event),
+            places: self.places.after(event),
         })
     }
 

@@ -5,7 +5,7 @@ use std::collections::HashSet;
 use crate::model::calls::{Answers, Call};
 use crate::model::events::Event;
 use crate::model::format::Plan;
-use crate::model::monitor::state_len;
+use crate::model::monitor::{places_begin, state_len};
 
 /// What the status call returns then.
 const COMPLETE: u32 = 128;
@@ -25,7 +25,8 @@ pub fn search(plan: &Plan) -> Outcome {
     search_by(plan, |call, _, lent| answers.make(call, lent))
 }
 
-/// Goes through every state that these calls reach. Numbers beyond the nodes only ever return 17.
+/// Goes through every state that these calls reach, but for the order of starts: no return depends
+/// on it, and there are too many. Numbers beyond the nodes only ever return 17.
 pub fn search_by(plan: &Plan, make: impl Fn(Call, &mut [u8], &mut [u8]) -> u32) -> Outcome {
     let mut outcome = Outcome {
         conflict: false,
@@ -35,7 +36,8 @@ pub fn search_by(plan: &Plan, make: impl Fn(Call, &mut [u8], &mut [u8]) -> u32) 
     let mut make = |call, state: &mut [u8]| make(call, &mut bytes, state);
     let mut fresh = vec![0; state_len(plan)];
     assert_eq!(make(Call::Fresh, &mut fresh), 0);
-    let mut seen = HashSet::from([fresh.clone()]);
+    let without_places = |state: &[u8]| state[..places_begin(plan)].to_vec();
+    let mut seen = HashSet::from([without_places(&fresh)]);
     let mut open = vec![fresh];
     while let Some(mut state) = open.pop() {
         outcome.completable |= make(Call::Status, &mut state) == COMPLETE;
@@ -43,7 +45,7 @@ pub fn search_by(plan: &Plan, make: impl Fn(Call, &mut [u8], &mut [u8]) -> u32) 
             for event in [Event::Start(number), Event::Finish(number)] {
                 let mut after = state.clone();
                 match make(Call::Event(event), &mut after) {
-                    0 if seen.insert(after.clone()) => open.push(after),
+                    0 if seen.insert(without_places(&after)) => open.push(after),
                     21 | 22 => outcome.conflict = true,
                     _ => {}
                 }

@@ -5,13 +5,16 @@ use std::iter::once;
 use reference::model::calls::{Answers, Call};
 use reference::model::events::Event;
 use reference::model::format::{Plan, Sizes};
+use reference::model::monitor::{places_begin, state_len};
+use reference::model::places::Places;
 use reference::tools::archive;
 use reference::tools::generate::clear::{clear_plan, shaken_plan};
 use reference::tools::generate::{any_plan, dense_plan, LIMITS, SHAPES};
 use reference::tools::random::Random;
-use reference::tools::scenario::cases::lengths_around;
 use reference::tools::scenario::lists::{any_event, list, long_list};
-use reference::tools::scenario::states::{any_state, bytes, malformed, reached_state};
+use reference::tools::scenario::states::{
+    any_state, bytes, malformed, reached_state, reordered_state,
+};
 use reference::tools::scenario::tally::Tally;
 use reference::tools::scenario::Case;
 use reference::tools::search::search_by;
@@ -20,7 +23,7 @@ use reference::tools::search::search_by;
 fn replay(tally: &mut Tally, random: &mut Random, plan: &Plan, list: &[Event]) {
     let bytes = plan.bytes();
     let extra = random.below(4);
-    let state = random.bytes(8 + plan.nodes.len() + extra);
+    let state = random.bytes(state_len(plan) + extra);
     let events = list.iter().map(|&event| Call::Event(event));
     let calls: Vec<Call> = once(Call::Fresh).chain(events).collect();
     tally.replay(&Answers::by_rules(&bytes), &bytes, &calls, state);
@@ -81,8 +84,8 @@ fn every_call(
     }
 }
 
-/// States that lists reach and others, each of all lengths around 8 + N and with each fault that
-/// makes it malformed.
+/// States that lists reach and others, each of all lengths from below 8 + N to above 8 + 3N and
+/// with each fault that makes it malformed.
 pub fn states(tally: &mut Tally) {
     let mut random = Random::new(113);
     let medium = Sizes {
@@ -98,14 +101,11 @@ pub fn states(tally: &mut Tally) {
     plans.extend((0..3).map(|_| any_plan(&mut random, LIMITS)));
     for plan in plans {
         let answers = Answers::by_rules(&plan.bytes());
-        for state in [
-            any_state(&mut random, &plan),
-            reached_state(&mut random, &plan),
-        ] {
+        for draw in [any_state, reached_state, reordered_state] {
+            let state = draw(&mut random, &plan);
             let good = bytes(&mut random, &plan, &state, 40);
-            let needed = 8 + plan.nodes.len();
-            let around = needed.saturating_sub(12)..=needed + 12;
-            for len in around.chain(lengths_around(needed)) {
+            let around = places_begin(&plan).saturating_sub(12)..=state_len(&plan) + 12;
+            for len in around.chain([0, 1, good.len()]) {
                 every_call(tally, &mut random, &plan, &answers, &good[..len]);
             }
             for wrong in malformed(&mut random, &plan, &state) {
@@ -127,6 +127,23 @@ pub fn unreachable(tally: &mut Tally) {
                 let state = bytes(&mut random, &plan, &state, 1);
                 every_call(tally, &mut random, &plan, &answers, &state);
             }
+        }
+    }
+}
+
+/// All statuses of three tasks, with each of these places at each of them and at their group.
+pub fn places(tally: &mut Tally) {
+    let mut random = Random::new(116);
+    let plan = Plan::flat(1, 4);
+    let answers = Answers::by_rules(&plan.bytes());
+    let numbers = [0, 1, 2, 3, 4, 257];
+    for statuses in 0..27 {
+        let statuses = [0, statuses / 9, statuses / 3 % 3, statuses % 3];
+        for at in 0..6_usize.pow(4) {
+            let place = |node| numbers[at / 6_usize.pow(node) % 6];
+            let places = Places((0..4).map(place).collect());
+            let state = [&[0; 8][..], &statuses, &places.bytes()].concat();
+            every_call(tally, &mut random, &plan, &answers, &state);
         }
     }
 }

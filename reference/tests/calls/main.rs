@@ -12,7 +12,7 @@ use reference::tools::scenario::tally::Tally;
 
 type Topic = (&'static str, fn(&mut Tally));
 
-const TOPICS: [Topic; 15] = [
+const TOPICS: [Topic; 16] = [
     ("summaries of small plans, by runs", summaries::small),
     ("summaries of large plans, by rules", summaries::large),
     ("summaries of the samples", summaries::samples),
@@ -21,6 +21,7 @@ const TOPICS: [Topic; 15] = [
     ("lists of calls on large plans", lists::large),
     ("states of every length and fault", lists::states),
     ("states that no list reaches", lists::unreachable),
+    ("places of every kind", lists::places),
     ("CLEAR and DOOMED, by all lists", lists::claims),
     ("listings of random plans", listings::random),
     ("listings of long, deep and equal waits", listings::extremes),

@@ -8,7 +8,7 @@ use reference::model::format::{
 };
 use reference::tools::generate::{any_plan, dense_plan, LIMITS};
 use reference::tools::random::Random;
-use reference::tools::scenario::lists::{list, replay};
+use reference::tools::scenario::lists::{list, long_list, replay};
 
 use crate::{make, shown};
 
@@ -45,7 +45,7 @@ impl Past<'_> {
         }
     }
 
-    /// The first 8 + N bytes of the state.
+    /// The first 8 + 3N bytes of the state.
     fn state(&self) -> Vec<u8> {
         let mut bytes = vec![0; 8];
         for flag in 0..self.plan.flags {
@@ -54,7 +54,17 @@ impl Past<'_> {
         }
         let status = |node| u8::from(self.has(Start(node))) + u8::from(self.has(Finish(node)));
         bytes.extend((0..self.plan.nodes.len()).map(status));
+        let place = |node| self.place(node).to_le_bytes();
+        bytes.extend((0..self.plan.nodes.len()).flat_map(place));
         bytes
+    }
+
+    /// Which of the accepted starts is that of the node, from 1; 0 for none.
+    fn place(&self, node: usize) -> u16 {
+        let events = self.accepted.iter();
+        let mut starts = events.filter(|event| matches!(event, Start(_)));
+        let at = starts.position(|&start| start == Start(node));
+        at.map_or(0, |at| u16::try_from(at).unwrap() + 1)
     }
 
     fn has(&self, event: Event) -> bool {
@@ -160,15 +170,14 @@ impl Past<'_> {
     }
 }
 
-/// Replays a random list and counts its returns. The bytes after the state must stay.
-fn check(random: &mut Random, plan: &Plan, calls: usize, counts: &mut [usize; 23]) {
-    let list = list(random, plan, calls);
-    let state_len = 8 + plan.nodes.len();
+/// Replays a list and counts its returns. The bytes after the state must stay.
+fn check(random: &mut Random, plan: &Plan, list: &[Event], counts: &mut [usize; 23]) {
+    let state_len = 8 + 3 * plan.nodes.len();
     let extra = random.below(4);
     let lent = random.bytes(state_len + extra);
     let bytes = plan.bytes();
     let by_both = |call, plan: &mut [u8], lent: &mut [u8]| make(call, plan, lent);
-    let afters = replay(&bytes, &list, lent.clone(), by_both);
+    let afters = replay(&bytes, list, lent.clone(), by_both);
     let mut past = Past {
         plan,
         accepted: Vec::new(),
@@ -198,7 +207,8 @@ fn returns_and_states() {
     for nodes in 1..=10 {
         for _ in 0..400 {
             let plan = dense_plan(&mut random, nodes);
-            check(&mut random, &plan, 4 * nodes, &mut counts);
+            let drawn = list(&mut random, &plan, 4 * nodes);
+            check(&mut random, &plan, &drawn, &mut counts);
         }
     }
     let medium = Sizes {
@@ -209,12 +219,18 @@ fn returns_and_states() {
     };
     for _ in 0..200 {
         let plan = any_plan(&mut random, medium);
-        check(&mut random, &plan, 60, &mut counts);
+        let drawn = list(&mut random, &plan, 60);
+        check(&mut random, &plan, &drawn, &mut counts);
     }
     for _ in 0..3 {
         let plan = any_plan(&mut random, LIMITS);
-        check(&mut random, &plan, 200, &mut counts);
+        let drawn = list(&mut random, &plan, 200);
+        check(&mut random, &plan, &drawn, &mut counts);
     }
+    // All 127 tasks start and finish.
+    let flat = Plan::flat(1, 128);
+    let long = long_list(&mut random, &flat);
+    check(&mut random, &flat, &long, &mut counts);
     println!(
         "returns from 17 to 22: {:?}, accepted: {}",
         &counts[17..],

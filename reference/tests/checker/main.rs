@@ -1,11 +1,12 @@
-//! Expectations made by hand from 01, put to the reference and to the archive; the parts of the
-//! reference against each other.
+//! Expectations made by hand from 01 and 02, put to the reference and to the archive; the parts of
+//! the reference against each other.
 
 mod agreement;
 mod clobbering;
 mod lists;
 mod memory;
 mod monitor;
+mod places;
 mod readings;
 mod trials;
 mod waits;
@@ -70,7 +71,7 @@ fn entries(plan: &[u8], node: usize) -> Vec<[u8; 8]> {
 /// What each call of a list returns.
 fn returns(plan: &[u8], list: &[Event]) -> Vec<u32> {
     let by_both = |call, plan: &mut [u8], lent: &mut [u8]| make(call, plan, lent);
-    let afters = replay(plan, list, vec![7; 200], by_both);
+    let afters = replay(plan, list, vec![7; 400], by_both);
     let mut returned = afters.iter().map(|after| after.returned);
     assert_eq!(returned.next(), Some(0), "fresh");
     returned.collect()

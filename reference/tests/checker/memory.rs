@@ -12,7 +12,9 @@ use reference::tools::edit::edit;
 use reference::tools::generate::{any_plan, dense_plan, LIMITS};
 use reference::tools::random::Random;
 use reference::tools::scenario::cases::cases;
-use reference::tools::scenario::states::{any_state, bytes, malformed, reached_state};
+use reference::tools::scenario::states::{
+    any_state, bytes, malformed, reached_state, reordered_state,
+};
 use reference::tools::scenario::{reference, After, Case};
 
 use crate::sample;
@@ -44,19 +46,9 @@ fn accepted(plan: &Plan, case: &Case, after: &After) {
         }
         Call::Fresh => {
             want[..8].copy_from_slice(&plan.start);
-            want[8..8 + plan.nodes.len()].fill(0);
+            want[8..8 + 3 * plan.nodes.len()].fill(0);
         }
-        Call::Event(event) => {
-            want[8 + event.task()] += 1;
-            for literal in event.asserts(plan) {
-                let bit = 1 << (literal.flag % 8);
-                let byte = &mut want[usize::from(literal.flag / 8)];
-                *byte = match literal.sign {
-                    SET => *byte | bit,
-                    _ => *byte & !bit,
-                };
-            }
-        }
+        Call::Event(event) => write_event(plan, event, &mut want),
         Call::Listing => {
             let text = listing::text(plan);
             assert_eq!(after.returned as usize, 256 + text.len());
@@ -66,6 +58,26 @@ fn accepted(plan: &Plan, case: &Case, after: &After) {
     assert_eq!(after.lent, want, "{:?}", case.call);
     if let Call::Event(_) = case.call {
         assert!(State::read(plan, &after.lent).is_ok());
+    }
+}
+
+/// Writes the task's byte, its place if it starts, and its literals.
+fn write_event(plan: &Plan, event: Event, state: &mut [u8]) {
+    let (nodes, task) = (plan.nodes.len(), event.task());
+    state[8 + task] += 1;
+    if let Event::Start(_) = event {
+        let started = state[8..8 + nodes].iter().filter(|&&byte| byte != 0);
+        let place = u16::try_from(started.count()).unwrap();
+        let at = 8 + nodes + 2 * task;
+        state[at..at + 2].copy_from_slice(&place.to_le_bytes());
+    }
+    for literal in event.asserts(plan) {
+        let bit = 1 << (literal.flag % 8);
+        let byte = &mut state[usize::from(literal.flag / 8)];
+        *byte = match literal.sign {
+            SET => *byte | bit,
+            _ => *byte & !bit,
+        };
     }
 }
 
@@ -106,12 +118,10 @@ fn lent_states() {
     let mut random = Random::new(52);
     for _ in 0..50 {
         let plan = any_plan(&mut random, LIMITS);
-        for state in [
-            any_state(&mut random, &plan),
-            reached_state(&mut random, &plan),
-        ] {
+        for draw in [any_state, reached_state, reordered_state] {
+            let state = draw(&mut random, &plan);
             let bytes = bytes(&mut random, &plan, &state, 3);
-            assert_eq!(bytes.len(), 8 + plan.nodes.len() + 3);
+            assert_eq!(bytes.len(), 8 + 3 * plan.nodes.len() + 3);
             for wrong in malformed(&mut random, &plan, &state) {
                 assert_eq!(State::read(&plan, &wrong), Err(16));
             }
@@ -125,7 +135,7 @@ fn refused() -> Case {
     Case {
         call: Call::Event(Event::Start(2)),
         plan: sample("b"),
-        lent: vec![0; 13],
+        lent: vec![0; 23],
     }
 }
 
@@ -141,7 +151,7 @@ fn another_return() {
 }
 
 #[test]
-#[should_panic(expected = "leaves 13 bytes 00000000000000000000010000")]
+#[should_panic(expected = "leaves 23 bytes 0000000000000000000001000000000000000000000000, not")]
 fn a_byte_written() {
     refused().compare(|call, plan, lent| {
         let returned = reference(call, plan, lent);

@@ -19,18 +19,22 @@ fn returned(plan: &[u8], state: &[u8], call: Call) -> u32 {
     returned
 }
 
-/// A state with this flag byte and these statuses.
+/// A state with this flag byte and these statuses; the tasks were started in the order of their
+/// numbers.
 fn state(flags: u8, statuses: [u8; 6]) -> Vec<u8> {
-    let mut state = vec![flags, 0, 0, 0, 0, 0, 0, 0];
-    state.extend(statuses);
-    state
+    let mut places = [0; 12];
+    let started = [1, 2, 4, 5].into_iter().filter(|&task| statuses[task] != 0);
+    for (place, task) in (1..).zip(started) {
+        places[2 * task] = place;
+    }
+    [&[flags, 0, 0, 0, 0, 0, 0, 0][..], &statuses, &places].concat()
 }
 
 #[test]
 fn causes_taken_away_one_by_one() {
     let plan = plan(PLAN);
     // All causes at once; a number that is no task hides those after it.
-    let short_and_malformed = [255; 13];
+    let short_and_malformed = [255; 25];
     for (state, number, want) in [
         (short_and_malformed.to_vec(), 3, 15),
         (state(255, [1, 1, 0, 0, 1, 0]), 3, 16),
@@ -62,7 +66,7 @@ fn causes_taken_away_one_by_one() {
 fn causes_for_a_finish() {
     let plan = plan(PLAN);
     for (state, number, want) in [
-        (state(255, [0; 6])[..13].to_vec(), 3, 15),
+        (state(255, [0; 6])[..25].to_vec(), 3, 15),
         (state(4, [0; 6]), 3, 16),
         (state(0, [0; 6]), 3, 17),
         (state(0, [0; 6]), 5, 18),
@@ -90,7 +94,7 @@ fn plan_comes_first() {
 fn memory_comes_next() {
     let plan = sample("b");
     for call in calls(Start(9)).into_iter().chain(calls(Finish(9))) {
-        assert_eq!(returned(&plan, &[255; 12], call), 15, "{call:?}");
+        assert_eq!(returned(&plan, &[255; 22], call), 15, "{call:?}");
     }
 }
 
@@ -108,9 +112,10 @@ fn calls(event: Event) -> [Call; 5] {
 #[test]
 fn fresh_over_a_malformed_state() {
     let plan = sample("b-flag-set");
-    let mut state = [255; 14];
+    let mut state = [255; 24];
     assert_eq!(make(Call::Status, &plan, &mut state), 16);
     assert_eq!(make(Call::Fresh, &plan, &mut state), 0);
-    assert_eq!(state, [1, 0, 0, 0, 0, 0, 0, 0, 0, 0, 0, 0, 0, 255]);
+    assert_eq!((state[0], state[23]), (1, 255));
+    assert_eq!(state[1..23], [0; 22]);
     assert_eq!(make(Call::Status, &plan, &mut state), 129);
 }

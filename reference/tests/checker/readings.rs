@@ -52,13 +52,13 @@ fn touch_without_change() {
 fn hold_on_a_flag_that_differs() {
     let plan = sample("incondition-broken");
     // A and Z run, and the flag is clear although A holds it set.
-    let mut state = [0, 0, 0, 0, 0, 0, 0, 0, 0, 1, 1];
+    let mut state = [0, 0, 0, 0, 0, 0, 0, 0, 0, 1, 1, 0, 0, 1, 0, 2, 0];
     let before = state;
     assert_eq!(make(Call::Event(Finish(2)), &plan, &mut state), 22);
     assert_eq!(state, before);
     // A's own finish breaks nothing of another.
     assert_eq!(make(Call::Event(Finish(1)), &plan, &mut state), 0);
-    assert_eq!(state, [0, 0, 0, 0, 0, 0, 0, 0, 0, 2, 1]);
+    assert_eq!(state, [0, 0, 0, 0, 0, 0, 0, 0, 0, 2, 1, 0, 0, 1, 0, 2, 0]);
 }
 
 /// Writing what another holds breaks nothing.
@@ -80,14 +80,16 @@ fn two_branches_taken() {
         "flags 1\n0 PICK any-of\n1 GRP- all-of under 0\n2 ONE- task 0 under 1\n\
          3 TWO- task 0 under 1\n4 LAST task 0 under 0\n",
     );
-    let mut state = [0; 13];
+    // ONE is done and LAST runs, started in this order: statuses, then places.
+    let mut state = [0; 23];
     (state[10], state[12]) = (2, 1);
+    (state[17], state[21]) = (1, 2);
     assert_eq!(make(Call::Event(Start(3)), &plan, &mut state), 19);
     assert_eq!(make(Call::Status, &plan, &mut state), 129);
     assert_eq!(make(Call::Event(Finish(4)), &plan, &mut state), 0);
     assert_eq!(make(Call::Status, &plan, &mut state), 128);
     // With its own branch alone taken, it may start.
-    state[12] = 0;
+    (state[12], state[21]) = (0, 0);
     assert_eq!(make(Call::Event(Start(3)), &plan, &mut state), 0);
 }
 

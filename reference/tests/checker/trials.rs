@@ -48,27 +48,31 @@ fn returns_of_calls() {
     assert_eq!(returns(&a_and_z, &broken), [0, 0, 22]);
 }
 
-/// B from fresh to its end, byte by byte.
+/// B from fresh to its end, byte by byte: flags, statuses and the places of starts.
 #[test]
 fn states_of_b() {
     let b = sample("b");
-    let mut state = [9; 15];
-    for (call, returned, flags, tasks, status) in [
-        (Call::Fresh, 0, 0, [0, 0, 0, 0, 0], 129),
-        (Call::Event(Start(1)), 0, 1, [0, 1, 0, 0, 0], 129),
-        (Call::Event(Start(4)), 20, 1, [0, 1, 0, 0, 0], 129),
-        (Call::Event(Finish(1)), 0, 0, [0, 2, 0, 0, 0], 129),
-        (Call::Event(Start(4)), 0, 2, [0, 2, 0, 0, 1], 129),
-        (Call::Event(Start(3)), 19, 2, [0, 2, 0, 0, 1], 129),
-        (Call::Event(Finish(4)), 0, 0, [0, 2, 0, 0, 2], 128),
-        (Call::Event(Start(3)), 19, 0, [0, 2, 0, 0, 2], 128),
+    let mut state = [9; 25];
+    assert_eq!(make(Call::Fresh, &b, &mut state), 0);
+    assert_eq!((&state[..23], &state[23..]), (&[0; 23][..], &[9; 2][..]));
+    for (event, returned, flags, tasks, places, status) in [
+        (Start(3), 20, 0, [0, 0, 0, 0, 0], [0, 0, 0, 0, 0], 129),
+        (Start(1), 0, 1, [0, 1, 0, 0, 0], [0, 1, 0, 0, 0], 129),
+        (Start(4), 20, 1, [0, 1, 0, 0, 0], [0, 1, 0, 0, 0], 129),
+        (Finish(1), 0, 0, [0, 2, 0, 0, 0], [0, 1, 0, 0, 0], 129),
+        (Start(4), 0, 2, [0, 2, 0, 0, 1], [0, 1, 0, 0, 2], 129),
+        (Start(3), 19, 2, [0, 2, 0, 0, 1], [0, 1, 0, 0, 2], 129),
+        (Finish(4), 0, 0, [0, 2, 0, 0, 2], [0, 1, 0, 0, 2], 128),
+        (Start(3), 19, 0, [0, 2, 0, 0, 2], [0, 1, 0, 0, 2], 128),
     ] {
-        assert_eq!(make(call, &b, &mut state), returned, "{call:?}");
-        assert_eq!(state[0], flags, "{call:?}");
-        assert_eq!(state[1..8], [0; 7], "{call:?}");
-        assert_eq!(state[8..13], tasks, "{call:?}");
-        assert_eq!(state[13..], [9; 2], "{call:?}");
-        assert_eq!(make(Call::Status, &b, &mut state), status, "{call:?}");
+        assert_eq!(make(Call::Event(event), &b, &mut state), returned);
+        assert_eq!(state[0], flags, "{event:?}");
+        assert_eq!(state[1..8], [0; 7], "{event:?}");
+        assert_eq!(state[8..13], tasks, "{event:?}");
+        let places = places.map(|place| [place, 0]).concat();
+        assert_eq!(state[13..23], places, "{event:?}");
+        assert_eq!(state[23..], [9; 2], "{event:?}");
+        assert_eq!(make(Call::Status, &b, &mut state), status, "{event:?}");
     }
 }
 

@@ -1,5 +1,5 @@
 /* Plan B of document 01 through every call of knowetop.h, as C11 and as C++17. The argument is the
-   path of samples/b.plan. All numbers and bytes that are expected were made by hand from 01. */
+   path of samples/b.plan. What is expected was made by hand from 01 and 02. */
 #include "knowetop.h"
 
 #undef NDEBUG
@@ -11,7 +11,7 @@
 enum { MOOR, CAST, COMS, RADI, SATL, NODES };
 
 /* B has two flags, so a summary has four entries of eight marks. */
-enum { FLAGS = 2, SUMMARY = 16 * FLAGS, STATE = 8 + NODES, LISTING = 2048 };
+enum { FLAGS = 2, SUMMARY = 16 * FLAGS, STATE = 8 + 3 * NODES, LISTING = 2048 };
 
 static int same(const uint8_t *found, const uint8_t *wanted, size_t len)
 {
@@ -55,14 +55,32 @@ static void summary(const uint8_t *plan, size_t len)
     assert(same(out, of_root, SUMMARY) && kept(out + SUMMARY, sizeof out - SUMMARY));
 }
 
+/* The states of a run: flags, a byte for each node, the place of each in the order of starts. */
+static const uint8_t at_first[STATE] = {0};
+static const uint8_t casting[STATE] = {
+    1, 0, 0, 0, 0, 0, 0, 0,
+    0, 1, 0, 0, 0,
+    0, 0, 1, 0, 0, 0, 0, 0, 0, 0,
+};
+static const uint8_t cast[STATE] = {
+    0, 0, 0, 0, 0, 0, 0, 0,
+    0, 2, 0, 0, 0,
+    0, 0, 1, 0, 0, 0, 0, 0, 0, 0,
+};
+static const uint8_t calling[STATE] = {
+    2, 0, 0, 0, 0, 0, 0, 0,
+    0, 2, 0, 0, 1,
+    0, 0, 1, 0, 0, 0, 0, 0, 2, 0,
+};
+static const uint8_t at_last[STATE] = {
+    0, 0, 0, 0, 0, 0, 0, 0,
+    0, 2, 0, 0, 2,
+    0, 0, 1, 0, 0, 0, 0, 0, 2, 0,
+};
+
 /* A run from the beginning to the end, and the calls that the monitor refuses on the way. */
 static void run(const uint8_t *plan, size_t len)
 {
-    static const uint8_t at_first[STATE] = {0};
-    static const uint8_t casting[STATE] = {1, 0, 0, 0, 0, 0, 0, 0, 0, 1, 0, 0, 0};
-    static const uint8_t cast[STATE] = {0, 0, 0, 0, 0, 0, 0, 0, 0, 2, 0, 0, 0};
-    static const uint8_t calling[STATE] = {2, 0, 0, 0, 0, 0, 0, 0, 0, 2, 0, 0, 1};
-    static const uint8_t at_last[STATE] = {0, 0, 0, 0, 0, 0, 0, 0, 0, 2, 0, 0, 2};
     uint8_t state[STATE];
 
     assert(knowetop_fresh(plan, len, state, sizeof state) == 0);
@@ -99,6 +117,12 @@ static void lent_states(const uint8_t *plan, size_t len)
     assert(kept(state, sizeof state));
     assert(knowetop_fresh(plan, len, state, sizeof state) == 0);
     assert(kept(state + STATE, sizeof state - STATE));
+
+    /* without a byte, and without places */
+    assert(knowetop_status(plan, len, state, STATE - 1) == 15);
+    assert(knowetop_start(plan, len, state, 8 + NODES, CAST) == 15);
+    state[8 + NODES + 2 * CAST] = 1; /* a place, but CAST waits */
+    assert(knowetop_start(plan, len, state, sizeof state, CAST) == 16);
 }
 
 static void listing(const uint8_t *plan, size_t len)

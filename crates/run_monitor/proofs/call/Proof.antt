@@ -27,24 +27,18 @@ returns c = called-16 _ _ _ _ (c .before .check-state .ensures) (c .if1 .taken)
 returns-2 : tie.Need-returns-2
 returns-2 c = called-22 _ _ _ (passed (c .before .before .before)) _ (c .before .refused .ensures) (c .if2 .taken)
 
-write-event-requires : tie.Need-write-event-requires
-write-event-requires c κs =
-    let a = c .before .before .before .before .before .before .before .before .before .before .before .args in
-    let ok = passed (c .before .before .before .before .before .before) in
+write-move-requires : tie.Need-write-move-requires
+write-move-requires c κs =
+    let a = c .before .before .before .before .before .before .before .before .before .args in
+    let ok = passed (c .before .before .before .before) in
     record {
-      node = kind-is _ _ 0
-          (answer-task _ _ ok (a .task) _ (node-of (a .m) (a .task)) (none (c .before .before .before))) .0;
+      node = kind-is _ _ 0 (answer-task _ _ ok (a .task) _ (node-of (a .m) (a .task)) (none (c .before))) .0;
       passed = ok;
     }
 
 returns-3 : tie.Need-returns-3
-returns-3 c =
-    let a = c .before .before .before .before .before .before .before .before .before .before .before .before .before
-    .before .args in
-    called-0 _ _ (a .m) (a .task) (passed (c .before .before .before .before .before .before .before .before .before))
-    (none (c .before .before .before .before .before .before)) _
-    (c .before .before .before .before .place-of .ensures) _ (c .before .before .before .given .ensures) _
-    (c .before .before .write-event .ensures)
+returns-3 c = called-0 _ _ _ (passed (c .before .before .before .before .before .before .before))
+    (none (c .before .before .before .before)) (c .before .before .write-move .ensures)
 
 pub call-spec : {M : Type 1} → statement M
 call-spec =
@@ -56,8 +50,6 @@ call-spec =
     (λ c κs. passed (c .before))
     (λ c. search needs)
     returns-2
-    (λ c κs. tt)
-    (λ c κs. tt)
-    write-event-requires
+    write-move-requires
     (λ c. search needs)
     returns-3)

@@ -24,6 +24,9 @@ returns c =
 nodes-requires : tie.Need-nodes-requires
 nodes-requires c κs = accepted c .fits .limits .long
 
+mul-if2 : tie.Need-mul-if2
+mul-if2 c = omega (arith, accepted (c .before) .fits .limits .nodes)
+
 add-if2 : tie.Need-add-if2
 add-if2 c = omega (arith, accepted (c .before) .fits .limits .nodes)
 
@@ -34,4 +37,4 @@ returns-3 : tie.Need-returns-3
 returns-3 c = room-long _ _ (sound (c .before .before)) (omega arith)
 
 pub check-room-spec : {M : Type 1} → statement M
-check-room-spec = tie.close (tie.spec (λ c κs. search needs) returns nodes-requires add-if2 returns-2 returns-3)
+check-room-spec = tie.close (tie.spec (λ c κs. search needs) returns nodes-requires mul-if2 add-if2 returns-2 returns-3)

@@ -1,6 +1,6 @@
 -- `run_state::fresh` meets its contract. Assumes nothing.
 use mathlib.Core.Path.{_≡_, sym, ap, _∙_}
-use Prim.Native.Nat.{ℕ, _≤_, _-_, _+_}
+use Prim.Native.Nat.{ℕ, _≤_, _-_, _+_, _*_}
 use denote.Ref.{now}
 use Rattle.plan_format.specs.Format.{nodeCount}
 use Rattle.run_state.specs.State.{roomRefusal}
@@ -39,6 +39,9 @@ returns c =
 nodes-requires : tie.Need-nodes-requires Inv-loop μ-loop
 nodes-requires c κs = enough c .plan .fits .limits .long
 
+mul-n : tie.Need-mul-n Inv-loop μ-loop
+mul-n c = omega (arith, enough (c .before) .plan .fits .limits .nodes)
+
 add-n : tie.Need-add-n Inv-loop μ-loop
 add-n c = omega (arith, enough (c .before) .plan .fits .limits .nodes)
 
@@ -68,7 +71,7 @@ returns-2 c =
     let l = c .before in
     let p = passed (l .before .before) in
     let a = l .before .before .before .before .before .before .before .args in
-    let e : l .loop .k ≡ 8 + nodeCount (now (a .plan)) = omega arith in
+    let e : l .loop .k ≡ 8 + 3 * nodeCount (now (a .plan)) = omega arith in
     record {
       returns = sym p;
       leaves = l .loop .inv .1
@@ -86,6 +89,7 @@ fresh-spec =
     (λ c. search needs)
     returns
     nodes-requires
+    mul-n
     add-n
     loop-holds
     fresh-byte-requires

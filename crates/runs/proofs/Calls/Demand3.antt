@@ -18,6 +18,7 @@ use Rattle.runs.proofs.Calls.Accepted.{clear-or-first-violation}
 use Rattle.runs.proofs.Calls.Accepted.{doomed-incomplete}
 use Rattle.runs.proofs.Calls.First.{worked, worked-only}
 use Rattle.runs.proofs.Calls.Lists.{ViolatingList, Reached, reaches, violating-list, list-violates}
+use Rattle.runs.proofs.Calls.Numbered.{worked-numbered, fresh-numbered}
 use Rattle.runs.proofs.Calls.Rows.{Violating}
 use Rattle.runs.proofs.Calls.Violation.{flagAfter}
 
@@ -95,6 +96,7 @@ module _ (p : Plan) (w : WellFormed p) (F : ℕ → Bool) where
     unique = λ x y. let (a, b) = worked-only p w x in let (c, d) = worked-only p w y in (a ∙ sym c, b ∙ sym d);
     others = λ x. others x;
     beyond = λ x. beyond x;
+    ordinals = λ x. worked-numbered p [] x (fresh-numbered p F);
     judged = (verdict p F, (verdict-exact p w F (verdict p F)) .0 refl, λ u j. sym ((verdict-exact p w F u) .1 j));
     clear = (
       λ c cs ns a x. never c x,

@@ -11,7 +11,7 @@ use Rattle.runs.proofs.Calls.Accepted.{flat, EnabledCall, ViolatesCall,
 use Rattle.runs.proofs.Calls.Accepted.{FirstViolation}
 use Rattle.runs.proofs.Calls.First.{code-inj}
 use Rattle.runs.proofs.Calls.Rows.{Violating, accepted-is, violates-to, violates-from}
-use Rattle.runs.proofs.Calls.Violation.{flagAfter, worldAfter}
+use Rattle.runs.proofs.Calls.Violation.{flagAfter, startsAfter, ordinalAfter, worldAfter}
 
 -- a list of calls in which one returns 21 or 22
 pub record ViolatingList (p : Plan) (F : ℕ → Bool) : Type 0 where
@@ -28,14 +28,16 @@ pub record Reached (p : Plan) (F : ℕ → Bool) (b : World) : Type 0 where
 
 module _ (p : Plan) (w : WellFormed p) (F : ℕ → Bool) where
   fresh-is : fresh F ≡ worldAfter p F []
-  unfolding statusAfter flagAfter lastAssertedOf
+  unfolding statusAfter flagAfter startsAfter ordinalAfter lastAssertedOf
   fresh-is = refl
 
   happen-is : (h : History) (e : Event) → happen p (worldAfter p F h) e ≡ worldAfter p F (e ∷ h)
-  unfolding statusAfter flagAfter lastAssertedOf
+  unfolding statusAfter flagAfter startsAfter ordinalAfter lastAssertedOf
   happen-is h e = λ i. record {
     status = statusAfter (e ∷ h);
     flag = fun-ext (λ f. at (asserts p e f) (lastAsserted p h f) (F f)) i;
+    starts = startsAfter (e ∷ h);
+    ordinal = ordinalAfter (e ∷ h);
   }
     where
       at : (o l : Option Bool) (b : Bool) → Option·getD o (Option·getD l b) ≡ Option·getD (latest o l) b

@@ -1,11 +1,11 @@
 -- Refusals 21 and 22 after an execution of the root: a CLEAR plan has none, and what makes a plan not CLEAR is one.
 use Rattle.runs.proofs.Base.{_≡_, refl, sym, ap, _∙_, _⊎_, inl, inr, Bool, not, Option, none, some, Option·getD}
-use Rattle.runs.proofs.Base.{_∷_, ℕ}
+use Rattle.runs.proofs.Base.{[], _∷_, ℕ}
 use Rattle.runs.specs.Plan.{Plan, WellFormed}
 use Rattle.runs.specs.Execution.{Event, History, statusAfter, Execution, lastAsserted}
 use Rattle.runs.specs.Summary.{Clobbers, precondition, incondition}
 use Rattle.runs.specs.Verdict.{Clear}
-use Rattle.runs.specs.Calls.{World, PreUnmet, IncBroken}
+use Rattle.runs.specs.Calls.{World, counted, numbered, PreUnmet, IncBroken}
 use Rattle.runs.proofs.Reflect.{decided, dec-or}
 use Rattle.runs.proofs.Execution.{earlier-execution}
 use Rattle.runs.proofs.Summary.{unasserted-all, may-pre-is-meet}
@@ -16,8 +16,18 @@ use Rattle.runs.proofs.Calls.Reflect.{r-inc-broken, r-pre-unmet}
 unfoldable pub flagAfter : Plan → (ℕ → Bool) → History → ℕ → Bool
 flagAfter p F h f = Option·getD (lastAsserted p h f) (F f)
 
+-- the starts of a history, and the ordinals that they took
+unfoldable pub startsAfter : History → ℕ
+startsAfter [] = 0
+startsAfter (e ∷ h) = counted (startsAfter h) e
+
+unfoldable pub ordinalAfter : History → ℕ → ℕ
+ordinalAfter [] x = 0
+ordinalAfter (e ∷ h) x = numbered (startsAfter h) (ordinalAfter h) e x
+
 abbrev pub worldAfter : Plan → (ℕ → Bool) → History → World
-worldAfter p F h = record { status = statusAfter h; flag = flagAfter p F h }
+worldAfter p F h =
+    record { status = statusAfter h; flag = flagAfter p F h; starts = startsAfter h; ordinal = ordinalAfter h }
 
 -- 21 or 22 applies to the event
 abbrev pub Violates : Plan → World → Event → Type 0

@@ -3,7 +3,7 @@
 use std::hint::black_box;
 
 use reference::model::calls::Call;
-use reference::model::events::{Event, Statuses};
+use reference::model::events::Event;
 use reference::model::format::{Plan, PRECONDITION, SET};
 use reference::model::listing::LISTING_LEN;
 use reference::model::monitor::{state_len, State};
@@ -86,7 +86,7 @@ fn ready(plan: &Plan, task: usize) -> State {
     }
     State {
         flags,
-        statuses: Statuses::all_waiting(plan),
+        ..State::fresh(plan)
     }
 }
 

@@ -1,20 +1,26 @@
 //! Cases of every call on given bytes of a plan.
 
 use super::lists::any_event;
-use super::states::{any_state, bytes, malformed, reached_state};
+use super::states::{any_state, bytes, malformed, reached_state, reordered_state};
 use super::{any_number, Case};
 use crate::model::calls::Call;
 use crate::model::events::Event;
 use crate::model::format::Plan;
 use crate::model::listing::LISTING_LEN;
-use crate::model::monitor::state_len;
+use crate::model::monitor::{places_begin, state_len};
 use crate::model::rules::accept;
 use crate::model::summary::summary_len;
 use crate::tools::random::Random;
 
 /// Lengths of lent memory below, at and above the length that a call needs.
-pub fn lengths_around(needed: usize) -> [usize; 6] {
+fn lengths_around(needed: usize) -> [usize; 6] {
     [0, 1, needed - 1, needed, needed + 1, needed + 40]
+}
+
+/// Lengths of a lent state around the one needed, and that of a state without places.
+fn state_lengths(plan: &Plan) -> impl Iterator<Item = usize> {
+    let around = lengths_around(state_len(plan)).into_iter();
+    around.chain([places_begin(plan)])
 }
 
 /// Cases of every call: on an accepted plan with lengths around the limits, all sorts of states
@@ -67,7 +73,7 @@ fn on_accepted(random: &mut Random, plan: &Plan) -> Vec<Lending> {
     for len in lengths_around(LISTING_LEN) {
         found.push((Call::Listing, random.bytes(len)));
     }
-    for len in lengths_around(state_len(plan)) {
+    for len in state_lengths(plan) {
         found.push((Call::Fresh, random.bytes(len)));
     }
     for state in states(random, plan) {
@@ -82,13 +88,14 @@ fn on_accepted(random: &mut Random, plan: &Plan) -> Vec<Lending> {
 /// States reachable and not, malformed, and of lengths around the limit.
 fn states(random: &mut Random, plan: &Plan) -> Vec<Vec<u8>> {
     let mut found = Vec::new();
-    for _ in 0..16 {
+    for _ in 0..12 {
         let extra = random.below(4);
-        for state in [any_state(random, plan), reached_state(random, plan)] {
+        for draw in [any_state, reached_state, reordered_state] {
+            let state = draw(random, plan);
             found.push(bytes(random, plan, &state, extra));
         }
     }
-    for len in lengths_around(state_len(plan)) {
+    for len in state_lengths(plan) {
         let state = reached_state(random, plan);
         let mut bytes = bytes(random, plan, &state, 40);
         bytes.truncate(len);
@@ -97,7 +104,7 @@ fn states(random: &mut Random, plan: &Plan) -> Vec<Vec<u8>> {
     let state = reached_state(random, plan);
     let mut wrong = malformed(random, plan, &state);
     random.shuffle(&mut wrong);
-    wrong.truncate(16);
+    wrong.truncate(32);
     found.extend(wrong);
     found
 }

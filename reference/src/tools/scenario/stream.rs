@@ -109,5 +109,5 @@ fn replay(tally: &mut Tally, random: &mut Random, plan: &Plan, answers: &Answers
     };
     let mut calls = vec![Call::Fresh];
     calls.extend(events.into_iter().map(Call::Event));
-    tally.replay(answers, &plan.bytes(), &calls, random.bytes(140));
+    tally.replay(answers, &plan.bytes(), &calls, random.bytes(400));
 }

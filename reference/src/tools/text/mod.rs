@@ -1,14 +1,17 @@
-//! A plan as lines of text; `samples/README.md` describes them.
+//! A plan, and a state of it, as lines of text; `samples/README.md` describes them.
 
 mod parse;
 mod print;
 mod source;
+mod state;
 #[cfg(test)]
 mod tests;
 
 use crate::model::format::Plan;
-use crate::model::rules::refusal;
+use crate::model::monitor::State;
+use crate::model::rules::{accept, refusal};
 pub use source::{Error, Source};
+use state::Shown;
 
 /// The bytes of a text, if their refusal is what the text says.
 pub fn make(text: &str) -> Result<Vec<u8>, Error> {
@@ -32,4 +35,11 @@ pub fn show(bytes: &[u8]) -> Result<String, Error> {
         .to_string()),
         number => Err(Error::Refused(number)),
     }
+}
+
+/// The text of a well-formed state of an accepted plan.
+pub fn show_state(plan: &[u8], state: &[u8]) -> Result<String, Error> {
+    let plan = accept(plan).map_err(Error::Refused)?;
+    let state = State::read(&plan, state).map_err(Error::Refused)?;
+    Ok(Shown { plan, state }.to_string())
 }

@@ -13,14 +13,7 @@ impl fmt::Display for Source {
     fn fmt(&self, f: &mut fmt::Formatter) -> fmt::Result {
         let plan = &self.plan;
         writeln!(f, "flags {}", plan.flags)?;
-        let set: Vec<usize> = (0..64).filter(|&flag| plan.starts_set(flag)).collect();
-        if !set.is_empty() {
-            write!(f, "start")?;
-            for flag in set {
-                write!(f, " {flag}")?;
-            }
-            writeln!(f)?;
-        }
+        set_flags(f, "start", |flag| plan.starts_set(flag))?;
         for number in 0..plan.nodes.len() {
             node(f, plan, number)?;
         }
@@ -37,10 +30,29 @@ impl fmt::Display for Source {
     }
 }
 
+/// A line of the word and the flags that are set; none where no flag is.
+pub fn set_flags(
+    f: &mut fmt::Formatter,
+    word: &str,
+    is_set: impl Fn(usize) -> bool,
+) -> fmt::Result {
+    let set = (0..64).filter(|&flag| is_set(flag));
+    let set: Vec<String> = set.map(|flag| flag.to_string()).collect();
+    if set.is_empty() {
+        return Ok(());
+    }
+    writeln!(f, "{word} {}", set.join(" "))
+}
+
+/// A node's number and name.
+pub fn called(plan: &Plan, number: usize) -> String {
+    let name = String::from_utf8_lossy(&plan.nodes[number].name);
+    format!("{number} {name}")
+}
+
 fn node(f: &mut fmt::Formatter, plan: &Plan, number: usize) -> fmt::Result {
     let node = &plan.nodes[number];
-    let name = String::from_utf8_lossy(&node.name);
-    write!(f, "{number} {name} ")?;
+    write!(f, "{} ", called(plan, number))?;
     match node.kind {
         TASK => write!(f, "task {}", node.minutes)?,
         ALL_OF => write!(f, "all-of")?,

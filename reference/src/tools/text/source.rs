@@ -18,7 +18,7 @@ pub struct Source {
 pub enum Error {
     /// The number of a line, from 1, that is no line of a plan, and what is wrong with it.
     Line(usize, String),
-    /// The plan is refused, and the text does not say so (or says another number).
+    /// The plan is refused, and the text does not say so (or says another number); or the state is.
     Refused(u32),
     /// The text says that the plan is refused, and it is not.
     Accepted,

@@ -98,3 +98,55 @@ fn bad_lines() {
         assert!(matches!(found, Err(Error::Line(3, _))), "{line}: {found:?}");
     }
 }
+
+const B: &[u8] = include_bytes!("../../../../samples/b.plan");
+
+/// B after start 1, finish 1, start 4.
+const STATE: [u8; 23] = [
+    2, 0, 0, 0, 0, 0, 0, 0, // flags
+    0, 2, 0, 0, 1, // statuses
+    0, 0, 1, 0, 0, 0, 0, 0, 2, 0, // places
+];
+
+#[test]
+fn state_of_b() {
+    let text = "\
+set 1
+0 MOOR unfinished
+1 CAST done
+2 COMS unfinished
+3 RADI waiting
+4 SATL running
+place 1 task 1 CAST
+place 2 task 4 SATL
+";
+    assert_eq!(show_state(B, &STATE), Ok(text.to_string()));
+    // Later bytes are no part of the state.
+    let longer = [&STATE[..], &[255; 9]].concat();
+    assert_eq!(show_state(B, &longer), Ok(text.to_string()));
+}
+
+#[test]
+fn states_at_first_and_at_last() {
+    let first = "0 MOOR unfinished\n1 CAST waiting\n2 COMS unfinished\n3 RADI waiting\n\
+         4 SATL waiting\n";
+    assert_eq!(show_state(B, &[0; 23]), Ok(first.to_string()));
+    // RADI began before CAST, which no run permits; the text goes by the places.
+    let last = "set 0 1\n0 MOOR complete\n1 CAST done\n2 COMS complete\n3 RADI done\n\
+         4 SATL waiting\nplace 1 task 3 RADI\nplace 2 task 1 CAST\n";
+    let state = [
+        3, 0, 0, 0, 0, 0, 0, 0, 0, 2, 0, 2, 0, 0, 0, 2, 0, 0, 0, 1, 0, 0, 0,
+    ];
+    assert_eq!(show_state(B, &state), Ok(last.to_string()));
+}
+
+#[test]
+fn refused_states() {
+    let refused = |number| Err(Error::Refused(number));
+    assert_eq!(show_state(&B[..81], &STATE), refused(3));
+    assert_eq!(show_state(B, &STATE[..22]), refused(15));
+    assert_eq!(show_state(B, &STATE[..13]), refused(15));
+    let mut gap = STATE;
+    gap[21] = 3;
+    assert_eq!(show_state(B, &gap), refused(16));
+}

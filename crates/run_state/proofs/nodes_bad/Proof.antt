@@ -1,4 +1,4 @@
--- `run_state::bytes_bad` meets its contract. Assumes nothing.
+-- `run_state::nodes_bad` meets its contract. Assumes nothing.
 use mathlib.Core.Path.{_≡_, sym, _∙_}
 use mathlib.Core.Bool.{false}
 use Prim.Native.Nat.{_≤_, _-_}
@@ -6,13 +6,13 @@ use denote.Ref.{now}
 use Rattle.plan_format.specs.Format.{nodeCount}
 use Rattle.runs.specs.Tests.{anyBelow}
 use Rattle.plan_rules.proofs.Laws.{some-yes, none-more, none-none}
-use Rattle.run_state.specs.State.{badByte}
+use Rattle.run_state.specs.State.{badNode}
 use native.Mathlib.Omega.{arith}
-use Rattle.run_state.proofs.bytes_bad.Statement.{statement}
-use Rattle.run_state.proofs.bytes_bad.Tie as tie
+use Rattle.run_state.proofs.nodes_bad.Statement.{statement}
+use Rattle.run_state.proofs.nodes_bad.Tie as tie
 
 abbrev Inv-loop : tie.InvT-loop
-Inv-loop plan state n i₀ i = (i ≤ n) × (anyBelow i (badByte plan state) ≡ false)
+Inv-loop plan state n i₀ i = (i ≤ n) × (anyBelow i (badNode plan state) ≡ false)
 
 abbrev μ-loop : tie.MeasureT-loop
 μ-loop plan state n i₀ i = n - i
@@ -20,21 +20,21 @@ abbrev μ-loop : tie.MeasureT-loop
 loop-holds : tie.Need-loop-holds Inv-loop μ-loop
 loop-holds c = (omega arith, none-none _)
 
-byte-bad-requires : tie.Need-byte-bad-requires Inv-loop μ-loop
-byte-bad-requires c κs = (omega arith, c .before .before .before .before .before .pre)
+node-bad-requires : tie.Need-node-bad-requires Inv-loop μ-loop
+node-bad-requires c κs = (omega arith, c .before .before .before .before .before .pre)
 
 returns : tie.Need-returns Inv-loop μ-loop
 returns c =
     let l = c .before .before .before in
     let a = l .before .before .before .before .args in
-    sym (some-yes (nodeCount (now (a .plan))) (badByte (now (a .plan)) (now (a .state))) (l .loop .i) (omega arith)
-    (sym (c .before .byte-bad .ensures) ∙ c .if1 .taken))
+    sym (some-yes (nodeCount (now (a .plan))) (badNode (now (a .plan)) (now (a .state))) (l .loop .i) (omega arith)
+    (sym (c .before .node-bad .ensures) ∙ c .if1 .taken))
 
 loop-again : tie.Need-loop-again Inv-loop μ-loop
 loop-again c = (
   omega arith,
   none-more _ _ (c .before .before .before .loop .inv .1)
-      (sym (c .before .byte-bad .ensures) ∙ c .if1 .left),
+      (sym (c .before .node-bad .ensures) ∙ c .if1 .left),
 )
 
 returns-2 : tie.Need-returns-2 Inv-loop μ-loop
@@ -43,15 +43,15 @@ returns-2 c =
     let e : l .loop .i ≡ nodeCount (now (l .before .before .before .before .args .plan)) = omega arith in
     sym (rw e at (l .loop .inv .1))
 
-pub bytes-bad-spec : {M : Type 1} → statement M
-bytes-bad-spec =
+pub nodes-bad-spec : {M : Type 1} → statement M
+nodes-bad-spec =
     tie.close
     (tie.spec
     Inv-loop
     μ-loop
-    (λ c κs. c .before .before .pre .0 .limits .long)
+    (λ c κs. c .before .before .pre .plan .limits .long)
     loop-holds
-    byte-bad-requires
+    node-bad-requires
     returns
     (λ c. omega arith)
     (λ c. omega arith)

@@ -1,0 +1,78 @@
+-- `write_move` meets its contract. Assumes nothing.
+use mathlib.Core.Path.{_≡_, _∙_}
+use Prim.Native.Nat.{_≤_}
+use lib.ListN.{length}
+use denote.Ref.{now}
+use native.Mathlib.Numerals.{add-one}
+use native.Mathlib.Omega.{arith}
+use borrow.Author.Needs.{needs}
+use Rattle.run_state.proofs.Refused.{fits}
+use Rattle.run_state.proofs.Passed.{has-room}
+use Rattle.run_state.proofs.Holders.{started-le}
+use Rattle.run_refusals.specs.declared.Move.the-variants.{Start, Finish}
+use Rattle.run_monitor.proofs.write_move.Statement.{statement}
+use Rattle.run_monitor.proofs.write_move.Tie as tie
+
+started-requires : tie.Need-started-requires
+started-requires c κs = fits _ _ (has-room _ _ (c .before .before .before .before .before .pre .passed))
+
+-- the ordinal is one of a node's
+small : (c : tie.After-started) → c .started .result ≤ 128
+small c =
+    let s = c .before .before .before .before .before .before in
+    omega (
+      arith,
+      c .started .ensures,
+      started-le (now (s .args .plan)) (now (s .args .state)),
+      has-room _ _ (s .pre .passed) .plan .fits .limits .nodes,
+    )
+
+add-k : tie.Need-add-k
+add-k c = omega (arith, small c)
+
+write-ordinal-requires : tie.Need-write-ordinal-requires
+write-ordinal-requires c κs =
+    let s = c .before .before .before .before .before .before .before .before .before .before .before in
+    let r = has-room _ _ (s .pre .passed) in
+    let z : length (c .before .before .before .write-event .last .1 .0) ≡ length (now (s .args .state)) = search needs in (
+      s .pre .node,
+      (
+        omega (arith, small (c .before .before .before .before .before)),
+        record { plan = r .plan .fits; room = omega (arith, z, r .room) },
+      ),
+    )
+
+returns : tie.Need-returns
+returns c =
+    let s = c .before .before .before .before .before .before .before .before .before .before .before .before .before
+    .before in
+    let m : s .args .m ≡ Start = cc in
+    rw m
+    (c .before .before .write-ordinal .ensures
+    ∙ rw (
+      c .before .before .before .before .before .before .write-event .ensures,
+      c .before .before .before .before .before .before .before .before .started .ensures,
+      add-one,
+    ))
+
+returns-2 : tie.Need-returns-2
+returns-2 c =
+    let s = c .before .before .before .before .before .before .before .before in
+    let m : s .args .m ≡ Finish = cc in
+    rw m (c .before .before .write-event2 .ensures)
+
+pub write-move-spec : {M : Type 1} → statement M
+write-move-spec =
+    tie.close
+    (tie.spec
+    (λ c. search needs)
+    started-requires
+    add-k
+    (λ c κs. search needs)
+    write-ordinal-requires
+    (λ c. search needs)
+    (λ c κs. search needs)
+    (λ c. search needs)
+    returns
+    (λ c. search needs)
+    returns-2)

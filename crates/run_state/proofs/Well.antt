@@ -1,0 +1,66 @@
+-- A state that is not malformed, part by part. Assumes nothing.
+use mathlib.Core.Path.{_≡_}
+use mathlib.Core.Logic.{⊎-elim}
+use mathlib.Core.Bool.{Bool, true, false, not, _&&_, _||_}
+use mathlib.Core.List.{List}
+use Prim.Native.Nat.{ℕ, suc, _<_, _≤_}
+use native.Mathlib.Omega.{arith}
+use lib.Dec.{eqb}
+use borrow.Author.Tests.{eqb-true, eq-eqb, not-false}
+use Rattle.base.proofs.Count.{count-le, each-once}
+use Rattle.plan_format.specs.Format.{nodeCount}
+use Rattle.runs.specs.Tests.{anyBelow}
+use Rattle.plan_rules.proofs.Laws.{or-none, none-at, none-all, either}
+use Rattle.run_state.specs.State.{badFlag, badByte, badNode, malformed, ordinalIn, startedIn, startedCount}
+use Rattle.run_state.specs.State.{holders, strayOrdinal, misnumbered}
+
+module _ (b s : List ℕ) where
+  pub record Well : Type 0 where
+    pub flags : (f : ℕ) → f < 64 → badFlag b s f ≡ false
+    pub bytes : (n : ℕ) → n < nodeCount b → badByte b s n ≡ false
+    pub strays : (n : ℕ) → n < nodeCount b → strayOrdinal b s n ≡ false
+    pub once : (k : ℕ) → k < startedCount b s → holders b s (suc k) ≡ 1
+
+  pub well : malformed b s ≡ false → Well
+  unfolding malformed badNode misnumbered
+  well e =
+      let v = or-none (anyBelow 64 (badFlag b s) || anyBelow (nodeCount b) (badNode b s)) (misnumbered b s) e in
+      let w = or-none (anyBelow 64 (badFlag b s)) (anyBelow (nodeCount b) (badNode b s)) (v .0) in
+      let node : (n : ℕ) → n < nodeCount b → (badByte b s n ≡ false) × (strayOrdinal b s n ≡ false) =
+      λ n l. or-none (badByte b s n) (strayOrdinal b s n) (none-at (nodeCount b) (badNode b s) (w .1) n l) in
+      record {
+        flags = none-at 64 (badFlag b s) (w .0);
+        bytes = λ n l. node n l .0;
+        strays = λ n l. node n l .1;
+        once = λ k l. eqb-true (holders b s (suc k)) 1
+            (not-false _ (none-at (startedCount b s) (λ j. not (eqb (holders b s (suc j)) 1)) (v .1) k l));
+      }
+
+  pub from-parts : Well → malformed b s ≡ false
+  unfolding malformed badNode misnumbered
+  from-parts w =
+      rw (
+        none-all 64 (badFlag b s) (w .flags),
+        none-all (nodeCount b) (badNode b s) (λ n l. rw (w .bytes n l, w .strays n l)),
+        none-all (startedCount b s) (λ k. not (eqb (holders b s (suc k)) 1))
+            (λ k l. rw (eq-eqb (holders b s (suc k)) 1 (w .once k l))),
+      )
+
+  -- the ordinal of a started task is one of 1 to their count
+  pub numbered : Well → (n : ℕ) → n < nodeCount b → startedIn b s n ≡ true
+      → (0 < ordinalIn b s n) × (ordinalIn b s n ≤ startedCount b s)
+  unfolding holders startedCount
+  numbered w n l y = each-once (nodeCount b) (startedIn b s) (ordinalIn b s) (w .once) n l y
+
+  -- and that of another node is 0
+  pub unnumbered : Well → (n : ℕ) → n < nodeCount b → startedIn b s n ≡ false → ordinalIn b s n ≡ 0
+  unfolding strayOrdinal
+  unnumbered w n l y = eqb-true (ordinalIn b s n) 0 (not-false _ (rw y at (w .strays n l)))
+
+  pub ordinal-small : Well → (n : ℕ) → n < nodeCount b → ordinalIn b s n ≤ nodeCount b
+  unfolding startedCount
+  ordinal-small w n l =
+      ⊎-elim
+      (λ (y : startedIn b s n ≡ true). omega (arith, numbered w n l y .1, count-le (nodeCount b) (startedIn b s)))
+      (λ (y : startedIn b s n ≡ false). omega (arith, unnumbered w n l y))
+      (either (startedIn b s n))

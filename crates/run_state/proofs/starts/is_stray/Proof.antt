@@ -1,0 +1,11 @@
+-- `is_stray` meets its contract. Assumes nothing.
+use Rattle.run_state.specs.State.{strayOrdinal}
+use Rattle.run_state.proofs.starts.is_stray.Statement.{statement}
+use Rattle.run_state.proofs.starts.is_stray.Tie as tie
+
+returns : tie.Need-returns
+unfolding strayOrdinal
+returns c = rw (c .before .is-started .ensures, c .ordinal .ensures)
+
+pub is-stray-spec : {M : Type 1} → statement M
+is-stray-spec = tie.close (tie.spec (λ c κs. c .before .before .pre) (λ c κs. c .before .before .before .pre) returns)

@@ -1,0 +1,58 @@
+-- Whether a state is refused, as one test that computes. Assumes nothing.
+use mathlib.Core.Path.{_≡_, sym, ap, _∙_}
+use mathlib.Core.Logic.{_≢_, inl, by-cases, ⊎-elim}
+use mathlib.Core.Bool.{Bool, true, false}
+use mathlib.Core.List.{List, [], _∷_}
+use Prim.Native.Nat.{ℕ}
+use native.Mathlib.Decide.{ℕ-discrete}
+use native.Mathlib.Omega.{arith}
+use lib.Dec.{T, eqb}
+use Rattle.base.proofs.First.{answer-some}
+use Rattle.plan_rules.proofs.Laws.{either}
+use Rattle.runs.specs.Tests.{both}
+use Rattle.runs.proofs.Reflect.{Reflects, r-both, r-T, r-eq}
+use Rattle.run_state.specs.State.{malformed, roomRefusal, stateRefusal}
+use Rattle.run_state.proofs.Refused.{state-room, state-bad, state-good}
+use Rattle.run_state.proofs.Left.{fresh-refused}
+use Rattle.run_monitor.specs.Status.{statusAnswer}
+use Rattle.run_monitor.proofs.Equations.{refused-16}
+use Rattle.run_trials.specs.Written.{bytesOf}
+use Rattle.run_trials.specs.Checked.{Checked, Refuses, AllChecked}
+
+-- 15 comes from the check of the room
+no-room : (b s : List ℕ) → stateRefusal b s ≡ 15 → roomRefusal b s ≡ 15
+no-room b s e =
+    by-cases (ℕ-discrete (roomRefusal b s) 0)
+    (λ (z : roomRefusal b s ≡ 0).
+    ⊎-elim
+    (λ (y : malformed b s ≡ true). absurd (omega (arith, state-bad b s z y, e)))
+    (λ (y : malformed b s ≡ false). absurd (omega (arith, state-good b s z y, e)))
+    (either (malformed b s)))
+    (λ z. state-room b s z ∙ e)
+
+refuses : (b s : List ℕ) (r : ℕ) → stateRefusal b s ≡ r → r ≢ 0 → Refuses b s r
+unfolding statusAnswer
+refuses b s r e n =
+    let k : stateRefusal b s ≡ 0 → ⊥ = λ z. n (sym e ∙ z) in
+    record {
+      status = λ p t. t .returns ∙ sym (answer-some (stateRefusal b s) _ k) ∙ ap inl e;
+      event = λ v m z c. let w = refused-16 b s v k in (c .returns ∙ sym (w .0) ∙ e, c .leaves ∙ sym (w .1));
+      room = λ q m z f. (
+        f .returns ∙ no-room b s (e ∙ q),
+        f .leaves ∙ sym (fresh-refused b s (λ y.
+            omega (arith, no-room b s (e ∙ q)))),
+      );
+    }
+
+unfoldable pub allCheckedB : List Checked → Bool
+allCheckedB [] = true
+allCheckedB (c ∷ l) = both (eqb (stateRefusal (bytesOf (c .plan)) (c .state)) (c .refusal)) (λ u. allCheckedB l)
+
+pub all-checked : (l : List Checked) → T (allCheckedB l) → AllChecked l
+unfolding allCheckedB
+all-checked [] x = tt
+all-checked (c ∷ l) x =
+    let r : Reflects (both (eqb (stateRefusal (bytesOf (c .plan)) (c .state)) (c .refusal)) (λ u. allCheckedB l))
+    ((stateRefusal (bytesOf (c .plan)) (c .state) ≡ c .refusal) × T (allCheckedB l)) = r-both _ _ (r-eq _ _) (r-T _) in
+    let (a, y) = r .to x in
+    ((a, refuses (bytesOf (c .plan)) (c .state) (c .refusal) a), all-checked l y)

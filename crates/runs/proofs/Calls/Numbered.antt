@@ -1,0 +1,115 @@
+-- The ordinals of starts: after any list of calls, a task's ordinal is the position of its start among the accepted
+-- starts of the list.
+use Rattle.runs.proofs.Base.{_≡_, refl, sym, ap, _∙_, _≢_, _↔_, Bool, false, List, [], _∷_, _++_, append-nil}
+use Rattle.runs.proofs.Base.{append-assoc, ℕ, suc, _<_, arith, ℕ-discrete, eqb, getD, length}
+use mathlib.Core.Logic.{by-cases}
+use native.Mathlib.Decide.{decLt}
+use lib.ListN.{length-append, List·getD-append}
+use lib.Seq.{getD-append-seam}
+use borrow.Author.Tests.{eq-eqb, ne-eqb}
+use Rattle.runs.specs.Plan.{Plan}
+use Rattle.runs.specs.Execution.{waiting, running, Status-discrete, start, finish}
+use Rattle.runs.specs.Calls.{Call, one, World, fresh, happen, Refusal, no-task, wrong-status, branch-begun}
+use Rattle.runs.specs.Calls.{order-open, pre-unmet, inc-broken, number, accepted, refused, Worked, no-calls}
+use Rattle.runs.specs.Calls.{next-call, acceptedStarts}
+use Rattle.runs.specs.Demand3.{Numbered}
+use Rattle.runs.proofs.Reflect.{clash}
+
+-- a fact that is not absent, and can be told
+found : {A : Type 0} → Dec A → ¬ ¬ A → A
+found (yes x) n = x
+found (no m) n = absurd (n m)
+
+-- a list with one element more at its end
+module _ (l : List ℕ) (t : ℕ) where
+  one-longer : length (l ++ (t ∷ [])) ≡ suc (length l)
+  one-longer = length-append l (t ∷ []) ∙ omega arith
+
+  at-end : (k : ℕ) → k ≡ length l → getD (l ++ (t ∷ [])) k 0 ≡ t
+  at-end k e = rw e (getD-append-seam l t [] 0)
+
+  -- the elements before the last are those of the list
+  before-end : (x k : ℕ) → t ≢ x → (k < length (l ++ (t ∷ []))) × (getD (l ++ (t ∷ [])) k 0 ≡ x)
+      → (k < length l) × (getD l k 0 ≡ x)
+  before-end x k n (m, e) =
+      by-cases (decLt k (length l))
+      (λ (j : k < length l). (j, sym (List·getD-append l (t ∷ []) 0 k j) ∙ e))
+      (λ j. absurd (n (sym (at-end k (omega (arith, one-longer))) ∙ e)))
+
+  still-there : (x k : ℕ) → (k < length l) × (getD l k 0 ≡ x)
+      → (k < length (l ++ (t ∷ []))) × (getD (l ++ (t ∷ [])) k 0 ≡ x)
+  still-there x k (m, e) = (omega (arith, one-longer), List·getD-append l (t ∷ []) 0 k m ∙ e)
+
+module _ (p : Plan) (l : List ℕ) (a : World) (h : Numbered l a) (t : ℕ) where
+  -- a start takes the next position
+  start-numbered : a .status t ≡ waiting → Numbered (l ++ (t ∷ [])) (happen p a (start t))
+  start-numbered s = record {
+    counts = ap suc (h .counts) ∙ sym (one-longer l t);
+    position = λ x k. by-cases (ℕ-discrete x t) (λ (e : x ≡ t). rw (e, eq-eqb t t refl) (own k))
+        (λ n. rw (ne-eqb x t n) (other x k n));
+    unstarted = λ x. by-cases (ℕ-discrete x t)
+        (λ (e : x ≡ t). rw (eq-eqb x t e) (λ z. absurd (omega arith), λ z. clash cc))
+        (λ n. rw (ne-eqb x t n) (h .unstarted x));
+  }
+    where
+      -- t was not in the list
+      new : (k : ℕ) → k < length l → getD l k 0 ≡ t → ⊥
+      new k m e = omega (arith, h .unstarted t .1 s, h .position t k .1 (m, e))
+
+      own : (k : ℕ) → (suc (a .starts) ≡ suc k) ↔ ((k < length (l ++ (t ∷ []))) × (getD (l ++ (t ∷ [])) k 0 ≡ t))
+      own k = (
+        λ e. (omega (arith, h .counts, one-longer l t), at-end l t k (omega (arith, h .counts))),
+        λ (m, e).
+            by-cases (decLt k (length l))
+            (λ (j : k < length l). absurd (new k j (sym (List·getD-append l (t ∷ []) 0 k j) ∙ e)))
+            (λ j. omega (arith, h .counts, one-longer l t)),
+      )
+
+      other : (x k : ℕ) → x ≢ t
+          → (a .ordinal x ≡ suc k) ↔ ((k < length (l ++ (t ∷ []))) × (getD (l ++ (t ∷ [])) k 0 ≡ x))
+      other x k n = (
+        λ e. still-there l t x k (h .position x k .0 e),
+        λ w. h .position x k .1 (before-end l t x k (λ z. n (sym z)) w),
+      )
+
+  -- a finish takes none
+  finish-numbered : a .status t ≡ running → Numbered l (happen p a (finish t))
+  finish-numbered s = record {
+    counts = h .counts;
+    position = h .position;
+    unstarted = λ x. by-cases (ℕ-discrete x t)
+        (λ (e : x ≡ t). rw (eq-eqb x t e) (
+          λ z. let q = sym s ∙ h .unstarted t .0 (rw e at z) in clash cc,
+          λ z. clash cc,
+        ))
+        (λ n. rw (ne-eqb x t n) (h .unstarted x));
+  }
+
+number-some : (r : Refusal) → eqb (number r) 0 ≡ false
+number-some no-task = refl
+number-some wrong-status = refl
+number-some branch-begun = refl
+number-some order-open = refl
+number-some pre-unmet = refl
+number-some inc-broken = refl
+
+module _ (p : Plan) where
+  -- calls after starts in the order of l
+  pub worked-numbered : {a z : World} {cs : List Call} {ns : List ℕ} (l : List ℕ) → Worked p a cs ns z → Numbered l a
+      → Numbered (l ++ acceptedStarts cs ns) z
+  unfolding acceptedStarts
+  worked-numbered l no-calls h = rw (append-nil l) h
+  worked-numbered l (next-call {a = a} {c = one (start t)} {cs = cs} {ns = ns} (accepted k) w) h =
+      rw (← append-assoc l (t ∷ []) (acceptedStarts cs ns))
+      (worked-numbered (l ++ (t ∷ [])) w (start-numbered p l a h t (found (Status-discrete _ _) (k .1 .0))))
+  worked-numbered l (next-call {a = a} {c = one (finish t)} (accepted k) w) h =
+      worked-numbered l w (finish-numbered p l a h t (found (Status-discrete _ _) (k .1 .0)))
+  worked-numbered l (next-call (refused r k) w) h = rw (number-some r) (worked-numbered l w h)
+
+  -- and after no start
+  pub fresh-numbered : (F : ℕ → Bool) → Numbered [] (fresh F)
+  fresh-numbered F = record {
+    counts = refl;
+    position = λ x k. (λ e. absurd (omega arith), λ w. absurd (omega (arith, w .0)));
+    unstarted = λ x. (λ e. refl, λ e. refl);
+  }
