@@ -1,5 +1,5 @@
--- What lists keep: a state's length, its bytes from 8 + 3N on, and that its flags are bytes; and the bytes of a state by
--- what it shows. Assumes nothing.
+-- What lists keep: a state's length, its bytes from 8 + 3N on, and that its flags are bytes; and the bytes of a state
+-- by what it shows. Assumes nothing.
 use mathlib.Core.Path.{_≡_, refl, sym, ap, _∙_}
 use mathlib.Core.Logic.{by-cases, ⊎-elim}
 use mathlib.Core.Bool.{true, false}

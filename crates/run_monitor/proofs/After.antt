@@ -28,7 +28,7 @@ use Rattle.run_state.proofs.Ordinals.{ordinal-length, ordinal-before, ordinal-p
 use Rattle.run_state.proofs.Numbering.{Numbering, start-numbering, finish-numbering}
 use Rattle.run_refusals.specs.Events.{eventPlace}
 use Rattle.run_monitor.specs.Events.{withEvent, withStart, afterEvent}
-use Rattle.run_monitor.proofs.Written.{next-length, byte-own, byte-other, byte-flags, byte-past, flag-next}
+use Rattle.run_monitor.proofs.Written.{next-length, byte-own, byte-other, byte-past, flag-next}
 use Rattle.run_monitor.proofs.Written.{no-sign}
 
 -- ---- an ordinal written if the event is a start

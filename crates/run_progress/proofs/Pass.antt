@@ -1,14 +1,12 @@
 -- The table of counts, turn by turn. Assumes nothing.
-use mathlib.Core.Path.{_≡_, sym, ap, _∙_}
+use mathlib.Core.Path.{_≡_, sym, _∙_}
 use mathlib.Core.Logic.{by-cases}
 use mathlib.Core.Bool.{Bool, true, false, not, _&&_, true≢false}
 use mathlib.Core.List.{List}
 use Prim.Native.Nat.{ℕ, _+_, _-_, _<_, _≤_}
 use native.Mathlib.Decide.{ℕ-discrete}
-use native.Mathlib.Numerals.{add-one}
 use native.Mathlib.Omega.{arith}
-use lib.ListN.{length, getD, set, length-set}
-use lib.Seq.{getD-set-same, getD-set-other}
+use lib.ListN.{length, getD, set}
 use Rattle.plan_format.specs.Format.{nodeCount, parentOf, isKind}
 use Rattle.plan_rules.specs.Rules.{isChild}
 use Rattle.plan_rules.proofs.Laws.{and-both, and-of, not-passed}
@@ -20,7 +18,7 @@ use Rattle.runs.specs.Tests.{sameB}
 use Rattle.runs.specs.Model.Monitor.{completeB, begunB}
 use Rattle.run_state.specs.State.{stateRefusal, statusIn}
 use Rattle.run_state.proofs.Passed.{has-room}
-use Rattle.base.specs.Count.{num, countBelow}
+use Rattle.base.specs.Count.{countBelow}
 use Rattle.base.specs.Zeros.{Zeros}
 use Rattle.run_progress.specs.Progress.{countedAt, countedChild, childrenCounted}
 use Rattle.run_progress.specs.declared.Tally.{Tally}

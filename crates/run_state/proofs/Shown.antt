@@ -1,12 +1,12 @@
 -- What the fresh state shows, and that it is well formed. Assumes nothing.
 use mathlib.Core.Path.{_≡_, refl, sym, _∙_, fun-ext}
 use mathlib.Core.Logic.{by-cases, ⊎-elim}
-use mathlib.Core.Bool.{Bool, true, false, cond, not, _&&_, and-false}
+use mathlib.Core.Bool.{Bool, true, false, cond, and-false}
 use mathlib.Core.List.{List}
 use Prim.Native.Nat.{ℕ, _+_, _*_, _/_, _<_, _≤_}
 use native.Mathlib.Decide.{decLt}
 use native.Mathlib.Omega.{arith}
-use lib.Dec.{eqb, ltb, leb}
+use lib.Dec.{leb}
 use borrow.Author.Tests.{eq-eqb, lt-ltb, le-ltb, lt-leb}
 use Rattle.base.specs.Answers.{overlay}
 use Rattle.base.proofs.Overlay.{length-overlay, at-overlay}
@@ -14,7 +14,7 @@ use Rattle.base.specs.Bits.{bit}
 use Rattle.base.proofs.Count.{count-none}
 use Rattle.run_flags.specs.Flags.{flagIn}
 use Rattle.plan_format.specs.Format.{u16At, nodeCount, flagCount, startFlag, isKind}
-use Rattle.plan_rules.proofs.Laws.{either, none-all, not-passed}
+use Rattle.plan_rules.proofs.Laws.{either, not-passed}
 use Rattle.plan_check.specs.Meaning.{startOf}
 use Rattle.plan_check.proofs.Accepted.{start-below}
 use Rattle.plan_check.proofs.Meaning.{kind-is}
@@ -34,7 +34,10 @@ module _ (b s : List ℕ) (r : Roomy b s) where
   fresh-flag : (f : ℕ) → f < 64 → flagIn written f ≡ startFlag b f
   unfolding written flagIn bit startFlag freshByte
   fresh-flag f l =
-      rw (at-overlay (freshByte b) s (8 + 3 * nodeCount b) (f / 8) (r .room) (omega arith), lt-ltb (f / 8) 8 (omega arith))
+      rw (
+        at-overlay (freshByte b) s (8 + 3 * nodeCount b) (f / 8) (r .room) (omega arith),
+        lt-ltb (f / 8) 8 (omega arith),
+      )
 
   fresh-node : (n : ℕ) → n < nodeCount b → nodeByte written n ≡ 0
   unfolding written nodeByte freshByte
@@ -127,10 +130,11 @@ unfolding freshState written
 fresh-started b s e =
     let r = roomy b s e in
     let w = overlay (freshByte b) (8 + 3 * nodeCount b) s in
+    let n = length-overlay (freshByte b) s (8 + 3 * nodeCount b) in
     rw (eq-eqb (roomRefusal b s) 0 e)
     (record {
       well-formed = sym (state-good b w
-          (sym (room-long b w (r .accepted) (omega (arith, r .room, length-overlay (freshByte b) s (8 + 3 * nodeCount b)))))
+          (sym (room-long b w (r .accepted) (omega (arith, r .room, n))))
           (well-formed b s r));
       at-first = shows b s r;
     })

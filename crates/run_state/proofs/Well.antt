@@ -1,16 +1,16 @@
 -- A state that is not malformed, part by part. Assumes nothing.
 use mathlib.Core.Path.{_≡_}
-use mathlib.Core.Logic.{⊎-elim}
-use mathlib.Core.Bool.{Bool, true, false, not, _&&_, _||_}
+use mathlib.Core.Logic.{_≢_, _↔_, _⊎_, inl, inr, ⊎-elim}
+use mathlib.Core.Bool.{true, false, not, _||_}
 use mathlib.Core.List.{List}
 use Prim.Native.Nat.{ℕ, suc, _<_, _≤_}
 use native.Mathlib.Omega.{arith}
 use lib.Dec.{eqb}
-use borrow.Author.Tests.{eqb-true, eq-eqb, not-false}
+use borrow.Author.Tests.{eqb-true, eqb-false, eq-eqb, ne-eqb, not-true, not-false}
 use Rattle.base.proofs.Count.{count-le, each-once}
 use Rattle.plan_format.specs.Format.{nodeCount}
 use Rattle.runs.specs.Tests.{anyBelow}
-use Rattle.plan_rules.proofs.Laws.{or-none, none-at, none-all, either}
+use Rattle.plan_rules.proofs.Laws.{or-none, some-yes, found-at, none-at, none-all, either}
 use Rattle.run_state.specs.State.{badFlag, badByte, badNode, malformed, ordinalIn, startedIn, startedCount}
 use Rattle.run_state.specs.State.{holders, strayOrdinal, misnumbered}
 
@@ -21,8 +21,13 @@ module _ (b s : List ℕ) where
     pub strays : (n : ℕ) → n < nodeCount b → strayOrdinal b s n ≡ false
     pub once : (k : ℕ) → k < startedCount b s → holders b s (suc k) ≡ 1
 
+  all-once : misnumbered b s ≡ false → (k : ℕ) → k < startedCount b s → holders b s (suc k) ≡ 1
+  unfolding misnumbered
+  all-once e k l = eqb-true (holders b s (suc k)) 1
+      (not-false _ (none-at (startedCount b s) (λ j. not (eqb (holders b s (suc j)) 1)) e k l))
+
   pub well : malformed b s ≡ false → Well
-  unfolding malformed badNode misnumbered
+  unfolding malformed badNode
   well e =
       let v = or-none (anyBelow 64 (badFlag b s) || anyBelow (nodeCount b) (badNode b s)) (misnumbered b s) e in
       let w = or-none (anyBelow 64 (badFlag b s)) (anyBelow (nodeCount b) (badNode b s)) (v .0) in
@@ -32,8 +37,7 @@ module _ (b s : List ℕ) where
         flags = none-at 64 (badFlag b s) (w .0);
         bytes = λ n l. node n l .0;
         strays = λ n l. node n l .1;
-        once = λ k l. eqb-true (holders b s (suc k)) 1
-            (not-false _ (none-at (startedCount b s) (λ j. not (eqb (holders b s (suc j)) 1)) (v .1) k l));
+        once = all-once (v .1);
       }
 
   pub from-parts : Well → malformed b s ≡ false
@@ -46,11 +50,43 @@ module _ (b s : List ℕ) where
             (λ k l. rw (eq-eqb (holders b s (suc k)) 1 (w .once k l))),
       )
 
+  -- a started task whose ordinal is none of 1 to their count; one of these that is not the ordinal of exactly one
+  abbrev pub Outside : Type 0
+  Outside = (n : ℕ) × (n < nodeCount b) × (startedIn b s n ≡ true)
+      × ((ordinalIn b s n ≡ 0) ⊎ (startedCount b s < ordinalIn b s n))
+
+  abbrev pub NotOnce : Type 0
+  NotOnce = (k : ℕ) × (k < startedCount b s) × (holders b s (suc k) ≢ 1)
+
   -- the ordinal of a started task is one of 1 to their count
+  in-range : ((k : ℕ) → k < startedCount b s → holders b s (suc k) ≡ 1) → (n : ℕ) → n < nodeCount b
+      → startedIn b s n ≡ true → (0 < ordinalIn b s n) × (ordinalIn b s n ≤ startedCount b s)
+  unfolding holders startedCount
+  in-range h n l y = each-once (nodeCount b) (startedIn b s) (ordinalIn b s) h n l y
+
   pub numbered : Well → (n : ℕ) → n < nodeCount b → startedIn b s n ≡ true
       → (0 < ordinalIn b s n) × (ordinalIn b s n ≤ startedCount b s)
-  unfolding holders startedCount
-  numbered w n l y = each-once (nodeCount b) (startedIn b s) (ordinalIn b s) (w .once) n l y
+  numbered w = in-range (w .once)
+
+  -- so the test may also ask for that: a started task's ordinal is 0 or above their count, or some k of 1 to the count
+  -- is not the ordinal of exactly one
+  pub misnumbered-is : (misnumbered b s ≡ true) ↔ (Outside ⊎ NotOnce)
+  unfolding misnumbered
+  misnumbered-is = (
+    λ e. let w = found-at (startedCount b s) (λ k. not (eqb (holders b s (suc k)) 1)) e in
+        inr (w .0, w .1, eqb-false (holders b s (suc (w .0))) 1 (not-true _ (w .2))),
+    from,
+  )
+    where
+      from : Outside ⊎ NotOnce → misnumbered b s ≡ true
+      from (inl (n, l, y, o)) =
+          ⊎-elim (λ (e : misnumbered b s ≡ true). e)
+          (λ (e : misnumbered b s ≡ false). let r = in-range (all-once e) n l y in
+          absurd (⊎-elim (λ (z : ordinalIn b s n ≡ 0). omega arith)
+          (λ (z : startedCount b s < ordinalIn b s n). omega arith) o))
+          (either (misnumbered b s))
+      from (inr (k, l, h)) = some-yes (startedCount b s) (λ j. not (eqb (holders b s (suc j)) 1)) k l
+          (rw (ne-eqb (holders b s (suc k)) 1 h))
 
   -- and that of another node is 0
   pub unnumbered : Well → (n : ℕ) → n < nodeCount b → startedIn b s n ≡ false → ordinalIn b s n ≡ 0

@@ -1,5 +1,5 @@
--- A state (01: record): eight bytes of flags, then a byte for each node of its plan, then a number of two bytes for each
--- node, the ordinal of its start (02: place). When it is refused, and what it shows.
+-- A state (01: record): eight bytes of flags, then a byte for each node of its plan, then for each node a number of two
+-- bytes, the ordinal of its start (02: place). When it is refused, and what it shows.
 use Prim.Native.Nat.{ℕ, suc, _+_, _*_, _/_, _%_, _<_, _≤_}
 use mathlib.Core.Path.{_≡_}
 use mathlib.Core.Bool.{Bool, false, cond, not, _&&_, _||_}
@@ -51,8 +51,8 @@ startedCount b s = countBelow (nodeCount b) (startedIn b s)
 unfoldable pub holders : List ℕ → List ℕ → ℕ → ℕ
 holders b s k = countBelow (nodeCount b) (λ n. startedIn b s n && eqb (ordinalIn b s n) k)
 
--- also 16: an ordinal at a node not started; ordinals of the started tasks that are not each of 1 to their count exactly
--- once
+-- 16 also covers an ordinal at a node not started, and ordinals of the started tasks that are not each of 1 to their
+-- count exactly once
 unfoldable pub strayOrdinal : List ℕ → List ℕ → ℕ → Bool
 strayOrdinal b s n = not (startedIn b s n) && not (eqb (ordinalIn b s n) 0)
 
@@ -64,11 +64,6 @@ badNode b s n = badByte b s n || strayOrdinal b s n
 
 unfoldable pub malformed : List ℕ → List ℕ → Bool
 malformed b s = anyBelow 64 (badFlag b s) || anyBelow (nodeCount b) (badNode b s) || misnumbered b s
-
--- what is asked where a state is read: the plan is whole, and there is room
-pub record Fits (b s : List ℕ) : Type 0 where
-  pub plan : Whole b
-  pub room : 8 + 3 * nodeCount b ≤ length s
 
 -- refusals 1 to 15
 unfoldable pub roomRefusal : List ℕ → List ℕ → ℕ
@@ -82,8 +77,8 @@ stateRefusal b s = first (roomRefusal b s) (cond (malformed b s) 16 0)
 unfoldable pub statusAt : ℕ → Status
 statusAt x = cond (eqb x 0) waiting (cond (eqb x 1) running done)
 
--- The states that a state's bytes show: a number that is no task of the plan waits, a flag from 64 on is clear, a number
--- past the nodes has the ordinal 0.
+-- The states that a state's bytes show: a number that is no task of the plan waits, a flag from 64 on is clear, and a
+-- number past the nodes has the ordinal 0.
 unfoldable pub statusIn : List ℕ → List ℕ → ℕ → Status
 statusIn b s n = cond (isKind b n 0) (statusAt (nodeByte s n)) waiting
 
@@ -100,6 +95,11 @@ worldOf b s = record {
   starts = startedCount b s;
   ordinal = ordinalShown b s;
 }
+
+-- what is asked where a state's bytes are read: the plan is whole, and there is room
+pub record Fits (b s : List ℕ) : Type 0 where
+  pub plan : Whole b
+  pub room : 8 + 3 * nodeCount b ≤ length s
 
 -- what is asked where an event of task t is judged or written: t is a node, and the state passes 1 to 16
 pub record AtEvent (b s : List ℕ) (t : ℕ) : Type 0 where

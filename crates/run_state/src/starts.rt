@@ -1,4 +1,5 @@
-// The order of starts: after the bytes of the nodes a state has a number for each, the ordinal of its start (02: place).
+// The order of starts: after the bytes of the nodes a state has a number for each node, the ordinal of its start (02:
+// place).
 use base::kinds::TASK;
 use base::no_starts;
 use base::statuses::WAITING;

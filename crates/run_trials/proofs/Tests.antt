@@ -115,10 +115,11 @@ module _ (b : List ℕ) (t : Trial) (x : T (holdsB b t)) where
         shows = shows-of b (w .accepted) (t .marks) (w .shows);
         called = λ s rs z l.
             let g = list-follows b (bytes-of b (T-true (areBytes b) (w .small))) s (t .calls) rs z l in
-            let (e, q) = worked-only (planOf b) (means-well-formed b (w .accepted)) (g .worked) in (
+            let (e, q) = worked-only (planOf b) (means-well-formed b (w .accepted)) (g .worked) in
+            let m = nodeCount b in (
               e ∙ w .returned,
-              g .shown .bytes ∙ ap (λ (a : World). overlay (shownByte (nodeCount b) a) (8 + 3 * nodeCount b) s) q
-                  ∙ overlay-same (shownByte (nodeCount b) p-after) (λ k. getD (t .left) k 0) (8 + 3 * nodeCount b) s (w .left),
+              g .shown .bytes ∙ ap (λ (a : World). overlay (shownByte m a) (8 + 3 * m) s) q
+                  ∙ overlay-same (shownByte m p-after) (λ k. getD (t .left) k 0) (8 + 3 * m) s (w .left),
             );
       }
 

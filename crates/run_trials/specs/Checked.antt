@@ -5,7 +5,7 @@ use mathlib.Core.Path.{_≡_}
 use mathlib.Core.Logic.{_≢_, inl}
 use mathlib.Core.List.{List, [], _∷_}
 use Rattle.runs.specs.Execution.{Event}
-use Rattle.run_state.specs.State.{roomRefusal, stateRefusal}
+use Rattle.run_state.specs.State.{stateRefusal}
 use Rattle.run_state.specs.Fresh.{Freshened}
 use Rattle.run_monitor.specs.declared.Progress.{Progress}
 use Rattle.run_monitor.specs.Status.{said, Told}

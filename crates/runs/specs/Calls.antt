@@ -20,8 +20,9 @@ pub data Call : Type 0 where
 abbrev pub events : Call → History
 events (one e) = e ∷ []
 
--- the states that 01 works out from the book and the calls: the status of each task, the value of each flag; and 02: how
--- many starts there were, and the ordinal of each node's start among them (02: place), from 1, 0 for a node not started
+-- the states that 01 works out from the book and the calls: the status of each task, the value of each flag; and 02's
+-- order of starts: how many there were, and the ordinal (02: place) of each node's start among them, from 1, or 0 for a
+-- node not started
 pub record World : Type 0 where
   pub status : State
   pub flag : ℕ → Bool

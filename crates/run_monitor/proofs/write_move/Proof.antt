@@ -34,7 +34,8 @@ write-ordinal-requires : tie.Need-write-ordinal-requires
 write-ordinal-requires c κs =
     let s = c .before .before .before .before .before .before .before .before .before .before .before in
     let r = has-room _ _ (s .pre .passed) in
-    let z : length (c .before .before .before .write-event .last .1 .0) ≡ length (now (s .args .state)) = search needs in (
+    let w = c .before .before .before .write-event in
+    let z : length (w .last .1 .0) ≡ length (now (s .args .state)) = search needs in (
       s .pre .node,
       (
         omega (arith, small (c .before .before .before .before .before)),

@@ -29,11 +29,13 @@ loop-again : tie.Need-loop-again Inv-loop μ-loop
 loop-again c =
     let o = c .before .before in
     let l = o .before .before in
-    let y = c .before .is-started .ensures in (
+    let x = c .before .is-started in (
       omega arith,
       ⊎-elim
-          (λ z. held-one _ _ (l .loop .i) _ (o .ordinal .ensures) (c .before .is-started .result) y (l .loop .table) (c .if1 .table) (l .loop .inv .1) (z .0 .taken) (z .1))
-          (λ z. held-none _ _ (l .loop .i) _ (o .ordinal .ensures) (c .before .is-started .result) y (l .loop .table) (c .if1 .table) (l .loop .inv .1) (z .0 .left) (z .1))
+          (λ z. held-one _ _ (l .loop .i) _ (o .ordinal .ensures) (x .result) (x .ensures) (l .loop .table)
+          (c .if1 .table) (l .loop .inv .1) (z .0 .taken) (z .1))
+          (λ z. held-none _ _ (l .loop .i) _ (o .ordinal .ensures) (x .result) (x .ensures) (l .loop .table)
+          (c .if1 .table) (l .loop .inv .1) (z .0 .left) (z .1))
           (c .if1 .came),
     )
 

@@ -1,7 +1,7 @@
 -- `ordinals_bad` meets its contract. Assumes nothing.
-use mathlib.Core.Path.{_≡_, sym, ap, _∙_}
-use mathlib.Core.Bool.{Bool, false, not}
-use Prim.Native.Nat.{ℕ, suc, _+_, _-_, _<_, _≤_}
+use mathlib.Core.Path.{_≡_, sym, _∙_}
+use mathlib.Core.Bool.{false, not}
+use Prim.Native.Nat.{suc, _+_, _-_, _<_, _≤_}
 use native.Mathlib.Numerals.{add-one}
 use native.Mathlib.Omega.{arith}
 use lib.ListN.{getD}
@@ -62,8 +62,9 @@ returns-2 : tie.Need-returns-2 Inv-loop μ-loop
 unfolding misnumbered
 returns-2 c =
     let l = c .before in
-    let e : l .loop .k ≡ startedCount (now (l .before .before .before .before .before .args .plan))
-    (now (l .before .before .before .before .before .args .state)) = omega (arith, l .before .before .started .ensures) in
+    let a = l .before .before .before .before .before .args in
+    let e : l .loop .k ≡ startedCount (now (a .plan)) (now (a .state)) =
+    omega (arith, l .before .before .started .ensures) in
     sym (rw e at (l .loop .inv .1))
 
 pub ordinals-bad-spec : {M : Type 1} → statement M
