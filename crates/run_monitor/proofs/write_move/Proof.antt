@@ -1,15 +1,15 @@
 -- `write_move` meets its contract. Assumes nothing.
-use mathlib.Core.Path.{_≡_, _∙_}
+use mathlib.Core.Path.{_≡_}
 use Prim.Native.Nat.{_≤_}
 use lib.ListN.{length}
 use denote.Ref.{now}
-use native.Mathlib.Numerals.{add-one}
 use native.Mathlib.Omega.{arith}
 use borrow.Author.Needs.{needs}
 use Rattle.run_state.proofs.Refused.{fits}
 use Rattle.run_state.proofs.Passed.{has-room}
 use Rattle.run_state.proofs.Holders.{started-le}
 use Rattle.run_refusals.specs.declared.Move.the-variants.{Start, Finish}
+use Rattle.run_monitor.proofs.Equations.{start-written}
 use Rattle.run_monitor.proofs.write_move.Statement.{statement}
 use Rattle.run_monitor.proofs.write_move.Tie as tie
 
@@ -48,13 +48,10 @@ returns c =
     let s = c .before .before .before .before .before .before .before .before .before .before .before .before .before
     .before in
     let m : s .args .m ≡ Start = cc in
+    let k = c .before .before .before .before .before .before .before .before .started .ensures in
     rw m
-    (c .before .before .write-ordinal .ensures
-    ∙ rw (
-      c .before .before .before .before .before .before .write-event .ensures,
-      c .before .before .before .before .before .before .before .before .started .ensures,
-      add-one,
-    ))
+    (start-written _ _ _ _ _ _ (c .before .before .before .before .before .before .write-event .ensures)
+    (omega (arith, k)) (c .before .before .write-ordinal .ensures))
 
 returns-2 : tie.Need-returns-2
 returns-2 c =
