@@ -23,11 +23,14 @@ uint32_t knowetop_verdict(const uint8_t *plan, size_t plan_len);
    sign; its bytes are 0 or 1: may need, must need, may leave, must leave, may hold, must hold, may clash, doom. Returns 0, or 1 to 14, 15 (out_len under 16 V) or 17 (no such node). */
 uint32_t knowetop_summary(const uint8_t *plan, size_t plan_len, size_t node, uint8_t *out, size_t out_len);
 
-/* A state is 8 bytes of flags and a byte for each node; later bytes are never changed. Writes the state of a run that has not begun. Returns 0, or 1 to 14 or 15 (state_len under 8 + N). */
+/* A state is 8 bytes of flags, then a byte for each node, then 2 bytes for each node, the low one first: the place of its start among the accepted starts, from 1, or 0 if it has not
+   been started. That is 8 + 3 N bytes, N the plan's number of nodes, and 392 at most; later bytes are never changed. Writes the state of a run that has not begun. Returns 0, or 1 to
+   14 or 15 (state_len under 8 + 3 N). */
 uint32_t knowetop_fresh(const uint8_t *plan, size_t plan_len, uint8_t *state, size_t state_len);
 
-/* Start and finish of a task. Returns 0, and the task's byte and its literals are written; or 1 to 15, 16 (malformed state), 17 (no task), 18 (start: not waiting; finish: not running),
-   for a start 19 (another branch of a choice above is taken), 20 (an order's earlier node is not complete), 21 (a need is unmet), and 22 (a hold of another running task would be broken). */
+/* Start and finish of a task. Returns 0, and the task's byte and its literals are written, for a start its place too; or 1 to 15, 16 (malformed state), 17 (no task), 18 (start: not
+   waiting; finish: not running), for a start 19 (another branch of a choice above is taken), 20 (an order's earlier node is not complete), 21 (a need is unmet), and 22 (a hold of
+   another running task would be broken). */
 uint32_t knowetop_start(const uint8_t *plan, size_t plan_len, uint8_t *state, size_t state_len, size_t task);
 uint32_t knowetop_finish(const uint8_t *plan, size_t plan_len, uint8_t *state, size_t state_len, size_t task);
 

@@ -5,6 +5,7 @@ use std::process::{Command, Stdio};
 
 const TEXT: &[u8] = include_bytes!("../../samples/b.txt");
 const PLAN: &[u8] = include_bytes!("../../samples/b.plan");
+const STATE: &[u8] = include_bytes!("../../samples/b.state");
 
 /// Whether it succeeds, what it prints, and what it says on standard error.
 fn run(arguments: &[&str], input: &[u8]) -> (bool, Vec<u8>, String) {
@@ -54,10 +55,13 @@ fn draws_what_it_shows() {
 #[test]
 fn shows_a_state() {
     let path = concat!(env!("CARGO_MANIFEST_DIR"), "/../samples/b.plan");
+    let shown = |text: &str| (true, text.as_bytes().to_vec(), String::new());
     let at_first = "0 MOOR unfinished\n1 CAST waiting\n2 COMS unfinished\n3 RADI waiting\n\
          4 SATL waiting\n";
-    let shown = (true, at_first.as_bytes().to_vec(), String::new());
-    assert_eq!(run(&["state", path], &[0; 23]), shown);
+    assert_eq!(run(&["state", path], &[0; 23]), shown(at_first));
+    let begun = "set 1\n0 MOOR unfinished\n1 CAST done\n2 COMS unfinished\n3 RADI waiting\n\
+         4 SATL running\nplace 1 task 1 CAST\nplace 2 task 4 SATL\n";
+    assert_eq!(run(&["state", path], STATE), shown(begun));
     let refused = |number| (false, Vec::new(), format!("REFUSED {number}\n"));
     assert_eq!(run(&["state", path], &[0; 22]), refused(15));
     assert_eq!(run(&["state", path], &[255; 23]), refused(16));

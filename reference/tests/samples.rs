@@ -6,6 +6,7 @@ use std::fs;
 use std::path::{Path, PathBuf};
 
 use reference::model::calls::Call;
+use reference::model::events::Event;
 use reference::model::rules::refusal;
 use reference::tools::archive;
 use reference::tools::text::{make, show, Error, Source};
@@ -69,6 +70,17 @@ fn lengths_and_refusals() {
         let found = archive::make(Call::Refusal, &mut plan, &mut []);
         assert_eq!(found, want, "{name}");
     }
+}
+
+/// B's state is that after start 1, finish 1 and start 4.
+#[test]
+fn state_of_calls() {
+    let (mut plan, mut state) = (plan_of("b"), [7; 23]);
+    let events = [Event::Start(1), Event::Finish(1), Event::Start(4)];
+    for call in [Call::Fresh].into_iter().chain(events.map(Call::Event)) {
+        assert_eq!(archive::make(call, &mut plan, &mut state), 0, "{call:?}");
+    }
+    assert_eq!(fs::read(folder().join("b.state")).unwrap(), state);
 }
 
 #[test]

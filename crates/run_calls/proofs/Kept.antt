@@ -24,7 +24,7 @@ use Rattle.run_state.proofs.Refused.{roomy}
 use Rattle.base.proofs.Overlay.{length-overlay, at-overlay, past-overlay}
 use Rattle.run_state.proofs.Left.{fresh-accepted}
 use Rattle.run_state.proofs.Passed.{status-back, has-room, is-well, byte-small}
-use Rattle.run_state.proofs.Well.{unnumbered, ordinal-small}
+use Rattle.run_state.proofs.Well.{unstarted-none, ordinal-small}
 use Rattle.run_refusals.specs.Events.{eventPlace, eventRefusal}
 use Rattle.run_refusals.proofs.Chain.{answer-task}
 use Rattle.run_monitor.specs.Events.{afterEvent, eventState}
@@ -94,7 +94,7 @@ module _ (b s z : List ℕ) (ok : stateRefusal b z ≡ 0) (h : Kept b s z) where
 
   pub group-none : (n : ℕ) → n < nodeCount b → isKind b n 0 ≡ false → (nodeByte z n ≡ 0) × (ordinalIn b z n ≡ 0)
   unfolding startedIn
-  group-none n l y = (group-byte n l y, unnumbered b z (is-well b z ok) n l (rw y))
+  group-none n l y = (group-byte n l y, unstarted-none b z (is-well b z ok) n l (rw y))
 
   status-byte : (n : ℕ) → n < nodeCount b → statusByte (statusIn b z n) ≡ nodeByte z n
   unfolding statusIn

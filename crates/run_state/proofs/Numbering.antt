@@ -13,7 +13,7 @@ use Rattle.base.proofs.Count.{count-same, count-none, count-one-more}
 use Rattle.plan_format.specs.Format.{nodeCount}
 use Rattle.plan_rules.proofs.Laws.{and-both, not-passed}
 use Rattle.run_state.specs.State.{ordinalIn, startedIn, startedCount, holders, strayOrdinal}
-use Rattle.run_state.proofs.Well.{Well, numbered}
+use Rattle.run_state.proofs.Well.{Well, started-in-range}
 
 -- the ordinals of z are well formed, and m tasks are started
 pub record Numbering (b z : List ℕ) (m : ℕ) : Type 0 where
@@ -59,7 +59,7 @@ module _ (b s z : List ℕ) (w : Well b s) (t : ℕ) (l : t < nodeCount b) (on :
         not-mine i j e y =
             let v = and-both (startedIn b z i) (eqb (ordinalIn b z i) (suc (startedCount b s))) y in
             let o = eqb-true (ordinalIn b z i) (suc (startedCount b s)) (v .1) in
-            omega (arith, others i j e, numbered b s w i j (sym (kept i j e) ∙ v .0) .1)
+            omega (arith, others i j e, started-in-range b s w i j (sym (kept i j e) ∙ v .0) .1)
 
     pub start-numbering : Numbering b z (suc (startedCount b s))
     start-numbering = record {

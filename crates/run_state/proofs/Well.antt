@@ -64,9 +64,9 @@ module _ (b s : List ℕ) where
   unfolding holders startedCount
   in-range h n l y = each-once (nodeCount b) (startedIn b s) (ordinalIn b s) h n l y
 
-  pub numbered : Well → (n : ℕ) → n < nodeCount b → startedIn b s n ≡ true
+  pub started-in-range : Well → (n : ℕ) → n < nodeCount b → startedIn b s n ≡ true
       → (0 < ordinalIn b s n) × (ordinalIn b s n ≤ startedCount b s)
-  numbered w = in-range (w .once)
+  started-in-range w = in-range (w .once)
 
   -- so the test may also ask for that: a started task's ordinal is 0 or above their count, or some k of 1 to the count
   -- is not the ordinal of exactly one
@@ -88,15 +88,16 @@ module _ (b s : List ℕ) where
       from (inr (k, l, h)) = some-yes (startedCount b s) (λ j. not (eqb (holders b s (suc j)) 1)) k l
           (rw (ne-eqb (holders b s (suc k)) 1 h))
 
-  -- and that of another node is 0
-  pub unnumbered : Well → (n : ℕ) → n < nodeCount b → startedIn b s n ≡ false → ordinalIn b s n ≡ 0
+  -- the ordinal of a node that has not been started is 0
+  pub unstarted-none : Well → (n : ℕ) → n < nodeCount b → startedIn b s n ≡ false → ordinalIn b s n ≡ 0
   unfolding strayOrdinal
-  unnumbered w n l y = eqb-true (ordinalIn b s n) 0 (not-false _ (rw y at (w .strays n l)))
+  unstarted-none w n l y = eqb-true (ordinalIn b s n) 0 (not-false _ (rw y at (w .strays n l)))
 
   pub ordinal-small : Well → (n : ℕ) → n < nodeCount b → ordinalIn b s n ≤ nodeCount b
   unfolding startedCount
   ordinal-small w n l =
       ⊎-elim
-      (λ (y : startedIn b s n ≡ true). omega (arith, numbered w n l y .1, count-le (nodeCount b) (startedIn b s)))
-      (λ (y : startedIn b s n ≡ false). omega (arith, unnumbered w n l y))
+      (λ (y : startedIn b s n ≡ true).
+      omega (arith, started-in-range w n l y .1, count-le (nodeCount b) (startedIn b s)))
+      (λ (y : startedIn b s n ≡ false). omega (arith, unstarted-none w n l y))
       (either (startedIn b s n))
