@@ -1,19 +1,26 @@
--- What a start leaves, and the two equations of a call, by its answer. Assumes nothing.
+-- What a move leaves, and the two equations of a call, by its answer. Assumes nothing.
 use mathlib.Core.Path.{_≡_, _∙_}
 use mathlib.Core.List.{List}
 use Prim.Native.Nat.{ℕ, suc}
 use borrow.Author.Tests.{ne-eqb}
-use Rattle.runs.specs.Execution.{Event, start}
+use Rattle.runs.specs.Plan.{placeNumber}
+use Rattle.runs.specs.Execution.{Event}
 use Rattle.base.specs.Answers.{first}
 use Rattle.base.proofs.First.{first-some}
 use Rattle.run_state.specs.State.{withOrdinal, startedCount, stateRefusal}
-use Rattle.run_refusals.specs.Events.{eventRefusal}
+use Rattle.run_refusals.specs.declared.Move.{Move}
+use Rattle.run_refusals.specs.declared.Move.the-variants.{Start, Finish}
+use Rattle.run_refusals.specs.Events.{eventOf, eventPlace, eventRefusal}
 use Rattle.run_monitor.specs.Events.{withEvent, eventReturn, afterEvent, eventState}
 
--- a start that was written in two parts
-pub start-written : (b s : List ℕ) (t k : ℕ) (next z : List ℕ) → next ≡ withEvent b 1 t 1 s → k ≡ suc (startedCount b s)
-    → z ≡ withOrdinal b t k next → z ≡ afterEvent b s (start t)
-start-written b s t k next z e q h = h ∙ rw (e, q)
+-- a move that was written part by part
+module _ (b s : List ℕ) (m : Move) (t q : ℕ) (place : q ≡ placeNumber (eventPlace (eventOf m 0))) where
+  pub start-written : m ≡ Start → (k : ℕ) (next z : List ℕ) → next ≡ withEvent b q t 1 s → k ≡ suc (startedCount b s)
+      → z ≡ withOrdinal b t k next → z ≡ afterEvent b s (eventOf m t)
+  start-written e k next z n o h = h ∙ rw (n, o, place, e)
+
+  pub finish-written : m ≡ Finish → (z : List ℕ) → z ≡ withEvent b q t 2 s → z ≡ afterEvent b s (eventOf m t)
+  finish-written e z h = h ∙ rw (place, e)
 
 module _ (b s : List ℕ) (e : Event) where
   pub refused-16 : (stateRefusal b s ≡ 0 → ⊥) → (stateRefusal b s ≡ eventReturn b s e) × (s ≡ eventState b s e)

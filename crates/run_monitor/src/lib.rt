@@ -1,6 +1,4 @@
 // The monitor (01: keeper): whether the root is complete, the start and the finish of a task.
-use base::places::INC;
-use base::places::POST;
 use base::statuses::DONE;
 use base::statuses::RUNNING;
 use run_conditions::with_literals;
@@ -10,6 +8,7 @@ use run_progress::Tally;
 use run_progress::children;
 use run_progress::is_complete;
 use run_refusals::Move;
+use run_refusals::place_of;
 use run_refusals::refused;
 use run_state::check_state;
 use run_state::starts::started;
@@ -60,11 +59,11 @@ fn write_move(plan: &[u8], state: &mut [u8], m: Move, task: usize)
     match m {
         Move::Start => {
             let k = started(plan, state) + 1;
-            write_event(plan, state, INC, task, RUNNING);
+            write_event(plan, state, place_of(m), task, RUNNING);
             write_ordinal(plan, state, task, k);
         }
         Move::Finish => {
-            write_event(plan, state, POST, task, DONE);
+            write_event(plan, state, place_of(m), task, DONE);
         }
     }
 }

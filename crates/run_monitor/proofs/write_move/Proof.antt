@@ -9,7 +9,7 @@ use Rattle.run_state.proofs.Refused.{fits}
 use Rattle.run_state.proofs.Passed.{has-room}
 use Rattle.run_state.proofs.Holders.{started-le}
 use Rattle.run_refusals.specs.declared.Move.the-variants.{Start, Finish}
-use Rattle.run_monitor.proofs.Equations.{start-written}
+use Rattle.run_monitor.proofs.Equations.{start-written, finish-written}
 use Rattle.run_monitor.proofs.write_move.Statement.{statement}
 use Rattle.run_monitor.proofs.write_move.Tie as tie
 
@@ -32,32 +32,33 @@ add-k c = omega (arith, small c)
 
 write-ordinal-requires : tie.Need-write-ordinal-requires
 write-ordinal-requires c κs =
-    let s = c .before .before .before .before .before .before .before .before .before .before .before in
+    let s = c .before .before .before .before .before .before .before .before .before .before .before .before in
     let r = has-room _ _ (s .pre .passed) in
     let w = c .before .before .before .write-event in
     let z : length (w .last .1 .0) ≡ length (now (s .args .state)) = search needs in (
       s .pre .node,
       (
-        omega (arith, small (c .before .before .before .before .before)),
+        omega (arith, small (c .before .before .before .before .before .before)),
         record { plan = r .plan .fits; room = omega (arith, z, r .room) },
       ),
     )
 
 returns : tie.Need-returns
 returns c =
-    let s = c .before .before .before .before .before .before .before .before .before .before .before .before .before
-    .before in
-    let m : s .args .m ≡ Start = cc in
-    let k = c .before .before .before .before .before .before .before .before .started .ensures in
-    rw m
-    (start-written _ _ _ _ _ _ (c .before .before .before .before .before .before .write-event .ensures)
-    (omega (arith, k)) (c .before .before .write-ordinal .ensures))
+    let p = c .before .before .before .before .before .before .before in
+    let k = p .before .before .started .ensures in
+    let s = p .before .before .before .before .before .before .before .before in
+    let e : s .args .m ≡ Start = cc in
+    start-written _ _ _ _ _ (p .place-of .ensures) e _ _ _
+    (c .before .before .before .before .before .before .write-event .ensures) (omega (arith, k))
+    (c .before .before .write-ordinal .ensures)
 
 returns-2 : tie.Need-returns-2
 returns-2 c =
-    let s = c .before .before .before .before .before .before .before .before in
-    let m : s .args .m ≡ Finish = cc in
-    rw m (c .before .before .write-event2 .ensures)
+    let p = c .before .before .before in
+    let s = p .before .before .before .before .before .before in
+    let e : s .args .m ≡ Finish = cc in
+    finish-written _ _ _ _ _ (p .place-of2 .ensures) e _ (c .before .before .write-event2 .ensures)
 
 pub write-move-spec : {M : Type 1} → statement M
 write-move-spec =
@@ -66,9 +67,11 @@ write-move-spec =
     (λ c. search needs)
     started-requires
     add-k
+    (λ c κs. tt)
     (λ c κs. search needs)
     write-ordinal-requires
     (λ c. search needs)
+    (λ c κs. tt)
     (λ c κs. search needs)
     (λ c. search needs)
     returns
