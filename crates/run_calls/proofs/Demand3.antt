@@ -20,7 +20,8 @@ use Rattle.verdict.proofs.Judging.{assessed}
 use Rattle.runs.specs.Calls.{Call, World, acceptedStarts}
 use Rattle.runs.specs.Demand3 as plans
 use Rattle.runs.proofs.Calls.Demand3 as proved
-use Rattle.run_state.specs.State.{ordinalIn, ordinalShown, worldOf}
+use Rattle.run_starts.specs.Starts.{ordinalIn}
+use Rattle.run_state.specs.State.{ordinalShown, worldOf}
 use Rattle.run_calls.specs.Lists.{Listed}
 use Rattle.run_calls.specs.Demand3.{Bytes, Demand3Of, Demand3}
 use Rattle.run_calls.proofs.Followed.{list-follows, list-made, list-each}

@@ -16,15 +16,15 @@ use Rattle.runs.specs.Plan.{placeNumber}
 use Rattle.plan_check.proofs.Meaning.{kind-is}
 use Rattle.runs.specs.Execution.{Event, nodeOf, statusOf}
 use Rattle.runs.specs.Calls.{statusByte}
-use Rattle.run_state.specs.State.{nodeByte, ordinalAt, ordinalIn, badByte, startedIn, roomRefusal, stateRefusal}
-use Rattle.run_state.specs.State.{statusIn, ordinalShown, worldOf}
+use Rattle.run_starts.specs.Starts.{nodeByte, ordinalAt, ordinalIn, startedIn}
+use Rattle.run_state.specs.State.{badByte, roomRefusal, stateRefusal, statusIn, ordinalShown, worldOf}
 use Rattle.run_state.specs.Fresh.{freshByte, freshState}
 use Rattle.base.specs.Answers.{overlay}
 use Rattle.run_state.proofs.Refused.{roomy}
 use Rattle.base.proofs.Overlay.{length-overlay, at-overlay, past-overlay}
 use Rattle.run_state.proofs.Left.{fresh-accepted}
 use Rattle.run_state.proofs.Passed.{status-back, has-room, is-well, byte-small}
-use Rattle.run_state.proofs.Well.{unstarted-none, ordinal-small}
+use Rattle.run_starts.proofs.Numbers.{unstarted-none, ordinal-small}
 use Rattle.run_refusals.specs.Events.{eventPlace, eventRefusal}
 use Rattle.run_refusals.proofs.Chain.{answer-task}
 use Rattle.run_monitor.specs.Events.{afterEvent, eventState}
@@ -94,7 +94,7 @@ module _ (b s z : List ℕ) (ok : stateRefusal b z ≡ 0) (h : Kept b s z) where
 
   pub group-none : (n : ℕ) → n < nodeCount b → isKind b n 0 ≡ false → (nodeByte z n ≡ 0) × (ordinalIn b z n ≡ 0)
   unfolding startedIn
-  group-none n l y = (group-byte n l y, unstarted-none b z (is-well b z ok) n l (rw y))
+  group-none n l y = (group-byte n l y, unstarted-none b z (is-well b z ok .numbers) n l (rw y))
 
   status-byte : (n : ℕ) → n < nodeCount b → statusByte (statusIn b z n) ≡ nodeByte z n
   unfolding statusIn
@@ -112,7 +112,7 @@ module _ (b s z : List ℕ) (ok : stateRefusal b z ≡ 0) (h : Kept b s z) where
       let n = (k - (8 + nodeCount b)) / 2 in
       let i : n < nodeCount b = omega arith in
       let small : ordinalIn b z n ≤ 128 =
-      omega (arith, ordinal-small b z (is-well b z ok) n i, has-room b z ok .plan .fits .limits .nodes) in
+      omega (arith, ordinal-small b z (is-well b z ok .numbers) n i, has-room b z ok .plan .fits .limits .nodes) in
       by-cases (ℕ-discrete ((k - (8 + nodeCount b)) % 2) 0)
       (λ (e : (k - (8 + nodeCount b)) % 2 ≡ 0).
       let q : 8 + nodeCount b + 2 * n ≡ k = omega arith in

@@ -14,7 +14,8 @@ use Rattle.plan_check.specs.Meaning.{planOf, startOf}
 use Rattle.runs.specs.Execution.{Complete}
 use Rattle.runs.specs.Verdict.{Verdict, CLEAR, DOOMED, Judged}
 use Rattle.runs.specs.Calls.{Call, World, fresh, Answered, Worked, acceptedStarts}
-use Rattle.run_state.specs.State.{nodeByte, ordinalIn, stateRefusal, worldOf}
+use Rattle.run_starts.specs.Starts.{nodeByte, ordinalIn}
+use Rattle.run_state.specs.State.{stateRefusal, worldOf}
 use Rattle.base.specs.Answers.{overlay}
 use Rattle.run_monitor.specs.declared.Progress.{Progress}
 use Rattle.run_monitor.specs.Status as status

@@ -24,7 +24,7 @@ use Rattle.plan_check.proofs.Meaning.{is, has, sign-is, sign-has, kind-is}
 use Rattle.runs.specs.Plan.{Place, placeNumber, signNumber}
 use Rattle.runs.specs.Tests.{sameB}
 use Rattle.runs.proofs.Reflect.{clash}
-use Rattle.run_state.specs.State.{nodeByte}
+use Rattle.run_starts.specs.Starts.{nodeByte}
 use Rattle.run_state.specs.Made.{isOf, setAt, literals, made}
 use Rattle.run_conditions.specs.Conditions.{brokenAt}
 

@@ -22,7 +22,8 @@ use Rattle.runs.specs.Tests.{anyBelow, sameB}
 use Rattle.runs.specs.Model.Monitor.{preUnmetB, incBrokenB}
 use Rattle.runs.proofs.Calls.Reflect.{r-pre-unmet, r-inc-broken}
 use Rattle.runs.proofs.Reflect.{true-T, T-true, same-test}
-use Rattle.run_state.specs.State.{nodeByte, flagShown, statusIn, stateRefusal}
+use Rattle.run_starts.specs.Starts.{nodeByte}
+use Rattle.run_state.specs.State.{flagShown, statusIn, stateRefusal}
 use Rattle.run_state.proofs.Passed.{has-room, well-formed, byte-is}
 use Rattle.run_state.specs.Made.{isOf, setAt, made}
 use Rattle.run_conditions.specs.Conditions.{unmetAt, brokenAt}

@@ -7,7 +7,7 @@ use Rattle.plan_codes.specs.Values.{flagOf}
 use Rattle.run_flags.specs.Flags.{flagIn}
 use Rattle.plan_format.specs.Format.{condNode, condValue}
 use Rattle.runs.specs.Tests.{sameB}
-use Rattle.run_state.specs.State.{nodeByte}
+use Rattle.run_starts.specs.Starts.{nodeByte}
 use Rattle.run_state.specs.Made.{isOf, setAt}
 
 -- condition i is a precondition of t that the flags do not meet

@@ -19,13 +19,13 @@ use Rattle.plan_check.proofs.Meaning.{kind-is}
 use Rattle.runs.specs.Plan.{placeNumber}
 use Rattle.runs.specs.Execution.{Status, waiting, running, done, Event, start, finish, nodeOf, statusOf, moved}
 use Rattle.runs.specs.Calls.{statusByte, asks, counted, numbered}
-use Rattle.run_state.specs.State.{nodeByte, badFlag, badByte, stateRefusal, statusAt, statusIn, flagShown, ordinalAt}
-use Rattle.run_state.specs.State.{ordinalIn, ordinalShown, startedIn, startedCount}
+use Rattle.run_starts.specs.Starts.{nodeByte, ordinalAt, ordinalIn, startedIn, startedCount}
+use Rattle.run_state.specs.State.{badFlag, badByte, stateRefusal, statusAt, statusIn, flagShown, ordinalShown}
 use Rattle.run_state.proofs.Refused.{room-long, state-good}
 use Rattle.run_state.proofs.Passed.{has-room, is-well}
 use Rattle.run_state.proofs.Well.{from-parts}
-use Rattle.run_state.proofs.Ordinals.{ordinal-length, ordinal-before, ordinal-past, ordinal-other, ordinal-own}
-use Rattle.run_state.proofs.Numbering.{Numbering, start-numbering, finish-numbering}
+use Rattle.run_starts.proofs.Ordinals.{ordinal-length, ordinal-before, ordinal-past, ordinal-other, ordinal-own}
+use Rattle.run_starts.proofs.Numbering.{Numbering, start-numbering, finish-numbering}
 use Rattle.run_refusals.specs.Events.{eventPlace}
 use Rattle.run_monitor.specs.Events.{withEvent, withStart, afterEvent}
 use Rattle.run_monitor.proofs.Written.{next-length, byte-own, byte-other, byte-past, flag-next}
@@ -206,8 +206,7 @@ module _ (b s : List ℕ) (ok : stateRefusal b s ≡ 0) (e : Event) (task : isKi
       (from-parts b after (record {
         flags = after-good-flag;
         bytes = after-good-byte;
-        strays = h .strays;
-        once = h .once;
+        numbers = h .well;
       })))
 
 -- the task of an accepted event had the byte that the event asks for
@@ -221,10 +220,12 @@ module _ (b s : List ℕ) (ok : stateRefusal b s ≡ 0) where
   numbers (start t) y q =
       let e = start t in
       let l = inside b s ok e y in
-      start-numbering b s (afterEvent b s e) (is-well b s ok) t l (after-started b s ok e y) (after-kept b s ok e y)
+      let w = is-well b s ok .numbers in
+      start-numbering b s (afterEvent b s e) w t l (after-started b s ok e y) (after-kept b s ok e y)
       (after-numbers b s ok e y) (asked-started t 0 y q) (after-ordinal b s ok e y t l ∙ rw (eq-eqb t t refl))
   numbers (finish t) y q =
       let e = finish t in
       let l = inside b s ok e y in
-      finish-numbering b s (afterEvent b s e) (is-well b s ok) t l (after-started b s ok e y) (after-kept b s ok e y)
+      let w = is-well b s ok .numbers in
+      finish-numbering b s (afterEvent b s e) w t l (after-started b s ok e y) (after-kept b s ok e y)
       (after-numbers b s ok e y) (asked-started t 1 y q) (after-ordinal b s ok e y t l)

@@ -7,7 +7,8 @@ use Rattle.runs.specs.Plan.{placeNumber}
 use Rattle.runs.specs.Execution.{Event}
 use Rattle.base.specs.Answers.{first}
 use Rattle.base.proofs.First.{first-some}
-use Rattle.run_state.specs.State.{withOrdinal, startedCount, stateRefusal}
+use Rattle.run_starts.specs.Starts.{withOrdinal, startedCount}
+use Rattle.run_state.specs.State.{stateRefusal}
 use Rattle.run_refusals.specs.declared.Move.{Move}
 use Rattle.run_refusals.specs.declared.Move.the-variants.{Start, Finish}
 use Rattle.run_refusals.specs.Events.{eventOf, eventPlace, eventRefusal}

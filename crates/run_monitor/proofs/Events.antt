@@ -13,8 +13,9 @@ use Rattle.runs.specs.Execution.{Event, nodeOf, moved, asserts}
 use Rattle.runs.specs.Calls.{one, no-task, wrong-status, branch-begun, order-open, pre-unmet, inc-broken, counted}
 use Rattle.runs.specs.Calls.{numbered, Refusal, World}
 use Rattle.runs.specs.Model.Monitor.{returned, refusalOf, step, code, settle}
-use Rattle.run_state.specs.State.{startedCount, stateRefusal, statusIn, flagShown, ordinalShown, worldOf}
-use Rattle.run_state.proofs.Numbering.{Numbering}
+use Rattle.run_starts.specs.Starts.{startedCount}
+use Rattle.run_state.specs.State.{stateRefusal, statusIn, flagShown, ordinalShown, worldOf}
+use Rattle.run_starts.proofs.Numbering.{Numbering}
 use Rattle.run_refusals.specs.Events.{eventRefusal}
 use Rattle.run_refusals.proofs.Chain.{answer-task, answer-asked, event-does}
 use Rattle.run_monitor.specs.Events.{afterEvent, eventState}

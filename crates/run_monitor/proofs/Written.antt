@@ -13,7 +13,8 @@ use Rattle.plan_format.specs.Format.{nodeCount, flagCount, isKind}
 use Rattle.plan_check.specs.Meaning.{planOf, signIn}
 use Rattle.plan_check.proofs.Meaning.{kind-is, means}
 use Rattle.runs.specs.Plan.{Place, placeNumber}
-use Rattle.run_state.specs.State.{nodeByte, stateRefusal}
+use Rattle.run_starts.specs.Starts.{nodeByte}
+use Rattle.run_state.specs.State.{stateRefusal}
 use Rattle.run_state.proofs.Passed.{has-room}
 use Rattle.run_state.specs.Made.{made}
 use Rattle.run_conditions.proofs.Laws.{length-literals, made-flag}

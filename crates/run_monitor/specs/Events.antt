@@ -10,7 +10,8 @@ use Rattle.plan_check.specs.Meaning.{planOf}
 use Rattle.runs.specs.Execution.{Event, start, finish, nodeOf, statusOf}
 use Rattle.runs.specs.Calls.{one, statusByte, Answered}
 use Rattle.base.specs.Answers.{first}
-use Rattle.run_state.specs.State.{withOrdinal, startedCount, stateRefusal, worldOf}
+use Rattle.run_starts.specs.Starts.{withOrdinal, startedCount}
+use Rattle.run_state.specs.State.{stateRefusal, worldOf}
 use Rattle.run_state.specs.Made.{made}
 use Rattle.run_refusals.specs.Events.{eventPlace, eventRefusal}
 

@@ -23,7 +23,8 @@ use Rattle.runs.proofs.Execution.Completeness.{complete-pick}
 use Rattle.runs.proofs.Execution.Final.{under-task}
 use Rattle.runs.proofs.Reflect.{Reflects, r-map, r-eq, r-negate, true-T, T-true, same-test}
 use Rattle.runs.proofs.Calls.Reflect.{r-complete, r-begun}
-use Rattle.run_state.specs.State.{nodeByte, stateRefusal, statusIn}
+use Rattle.run_starts.specs.Starts.{nodeByte}
+use Rattle.run_state.specs.State.{stateRefusal, statusIn}
 use Rattle.run_state.proofs.Passed.{has-room, well-formed, byte-is}
 use Rattle.run_progress.specs.Progress.{countedAt, countedChild, childrenCounted}
 use Rattle.run_progress.specs.declared.Tally.{Tally}

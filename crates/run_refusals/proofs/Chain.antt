@@ -26,7 +26,8 @@ use Rattle.runs.proofs.Reflect.{r-eq, r-map, clash, true-T, T-true, same-test}
 use Rattle.runs.proofs.Calls.Reflect.{r-task, r-status}
 use Rattle.base.specs.Answers.{first}
 use Rattle.base.proofs.First.{first-none, first-some}
-use Rattle.run_state.specs.State.{nodeByte, stateRefusal, statusIn, flagShown, worldOf}
+use Rattle.run_starts.specs.Starts.{nodeByte}
+use Rattle.run_state.specs.State.{stateRefusal, statusIn, flagShown, worldOf}
 use Rattle.run_state.proofs.Passed.{has-room, well-formed, byte-is}
 use Rattle.run_state.specs.Made.{made}
 use Rattle.run_conditions.specs.Conditions.{brokenAt}

@@ -13,7 +13,8 @@ use Rattle.plan_check.proofs.Meaning.{means-well-formed, kind-of}
 use Rattle.runs.specs.Plan.{WellFormed}
 use Rattle.runs.specs.Execution.{Status, waiting, running, done}
 use Rattle.runs.specs.Calls.{statusByte}
-use Rattle.run_state.specs.State.{nodeByte, badByte, stateRefusal, statusAt, statusIn}
+use Rattle.run_starts.specs.Starts.{nodeByte}
+use Rattle.run_state.specs.State.{badByte, stateRefusal, statusAt, statusIn}
 use Rattle.run_state.proofs.Refused.{Roomy, roomy, state-well}
 use Rattle.run_state.proofs.Well.{Well, well}
 

@@ -13,8 +13,8 @@ use Rattle.plan_format.specs.Format.{nodeCount, flagCount}
 use Rattle.plan_rules.specs.Rules.{refusal}
 use Rattle.runs.specs.Tests.{anyBelow}
 use Rattle.plan_check.proofs.Accepted.{Clean, clean}
-use Rattle.run_state.specs.State.{Fits, tooShort, badFlag, badNode, misnumbered, malformed, roomRefusal}
-use Rattle.run_state.specs.State.{stateRefusal}
+use Rattle.run_starts.specs.Starts.{Fits, misnumbered}
+use Rattle.run_state.specs.State.{tooShort, badFlag, badNode, malformed, roomRefusal, stateRefusal}
 
 module _ (b s : List ℕ) where
   pub room-plan : (refusal b ≡ 0 → ⊥) → refusal b ≡ roomRefusal b s

@@ -20,9 +20,11 @@ use Rattle.plan_check.proofs.Accepted.{start-below}
 use Rattle.plan_check.proofs.Meaning.{kind-is}
 use Rattle.runs.specs.Execution.{waiting}
 use Rattle.runs.specs.Calls as calls
-use Rattle.run_state.specs.State.{nodeByte, badFlag, badByte, malformed, roomRefusal, stateRefusal, statusAt}
-use Rattle.run_state.specs.State.{statusIn, flagShown, ordinalShown, worldOf, ordinalAt, ordinalIn, startedIn}
-use Rattle.run_state.specs.State.{startedCount, strayOrdinal}
+use Rattle.run_starts.specs.Starts.{nodeByte}
+use Rattle.run_state.specs.State.{badFlag, badByte, malformed, roomRefusal, stateRefusal, statusAt}
+use Rattle.run_starts.specs.Starts.{ordinalAt, ordinalIn, startedIn}
+use Rattle.run_state.specs.State.{statusIn, flagShown, ordinalShown, worldOf}
+use Rattle.run_starts.specs.Starts.{startedCount, strayOrdinal}
 use Rattle.run_state.specs.Fresh.{freshByte, freshState}
 use Rattle.run_state.proofs.Refused.{Roomy, roomy, room-long, state-good}
 use Rattle.run_state.proofs.Well.{from-parts}
@@ -71,8 +73,7 @@ module _ (b s : List ℕ) (r : Roomy b s) where
     flags = λ f l. by-cases (decLt f (flagCount b)) (λ (h : f < flagCount b). past f h)
         (λ h. at-start f l (omega arith));
     bytes = small;
-    strays = λ n l. stray n l;
-    once = λ k l. absurd (omega (arith, no-starts));
+    numbers = record { strays = stray; once = λ k l. absurd (omega (arith, no-starts)) };
   })
     where
       past : (f : ℕ) → f < flagCount b → badFlag b written f ≡ false

@@ -1,63 +1,31 @@
 -- A state (01: record): eight bytes of flags, then a byte for each node of its plan, then for each node a number of two
 -- bytes, the ordinal of its start (02: place). When it is refused, and what it shows.
-use Prim.Native.Nat.{ℕ, suc, _+_, _*_, _/_, _%_, _<_, _≤_}
+use Prim.Native.Nat.{ℕ, _+_, _*_, _<_}
 use mathlib.Core.Path.{_≡_}
 use mathlib.Core.Bool.{Bool, false, cond, not, _&&_, _||_}
 use mathlib.Core.List.{List}
-use lib.ListN.{getD, length, set}
+use lib.ListN.{length}
 use lib.Dec.{eqb, ltb, leb}
 use Rattle.base.specs.Answers.{first}
-use Rattle.base.specs.Count.{countBelow}
 use Rattle.run_flags.specs.Flags.{flagIn}
-use Rattle.plan_format.specs.Format.{Whole, u16At, nodeCount, flagCount, isKind}
+use Rattle.run_starts.specs.Starts.{nodeByte, ordinalIn, startedCount, strayOrdinal, misnumbered}
+use Rattle.plan_format.specs.Format.{nodeCount, flagCount, isKind}
 use Rattle.plan_rules.specs.Rules.{refusal}
 use Rattle.runs.specs.Tests.{anyBelow}
 use Rattle.runs.specs.Execution.{Status, waiting, running, done}
 use Rattle.runs.specs.Calls.{World}
 
--- the byte of node n
-unfoldable pub nodeByte : List ℕ → ℕ → ℕ
-nodeByte s n = getD s (8 + n) 0
-
--- where the ordinal of node n stands, and what it is
-unfoldable pub ordinalAt : List ℕ → ℕ → ℕ
-ordinalAt b n = 8 + nodeCount b + 2 * n
-
-unfoldable pub ordinalIn : List ℕ → List ℕ → ℕ → ℕ
-ordinalIn b s n = u16At s (ordinalAt b n)
-
--- the state with the ordinal k at node n
-unfoldable pub withOrdinal : List ℕ → ℕ → ℕ → List ℕ → List ℕ
-withOrdinal b n k s = set (set s (ordinalAt b n) (k % 256)) (ordinalAt b n + 1) (k / 256)
-
 -- 15: under 8 + 3N bytes
 unfoldable pub tooShort : List ℕ → List ℕ → Bool
 tooShort b s = ltb (length s) (8 + 3 * nodeCount b)
 
--- 16: a bit for flag V or higher, a group byte not 0, a task byte over 2
+-- 16: a bit for flag V or higher, a group byte not 0, a task byte over 2; and of the ordinals `strayOrdinal` and
+-- `misnumbered`
 unfoldable pub badFlag : List ℕ → List ℕ → ℕ → Bool
 badFlag b s f = leb (flagCount b) f && flagIn s f
 
 unfoldable pub badByte : List ℕ → List ℕ → ℕ → Bool
 badByte b s n = cond (isKind b n 0) (ltb 2 (nodeByte s n)) (not (eqb (nodeByte s n) 0))
-
--- node n is a started task; how many there are, and how many of them have the ordinal k
-unfoldable pub startedIn : List ℕ → List ℕ → ℕ → Bool
-startedIn b s n = isKind b n 0 && not (eqb (nodeByte s n) 0)
-
-unfoldable pub startedCount : List ℕ → List ℕ → ℕ
-startedCount b s = countBelow (nodeCount b) (startedIn b s)
-
-unfoldable pub holders : List ℕ → List ℕ → ℕ → ℕ
-holders b s k = countBelow (nodeCount b) (λ n. startedIn b s n && eqb (ordinalIn b s n) k)
-
--- 16 also covers an ordinal at a node not started, and ordinals of the started tasks that are not each of 1 to their
--- count exactly once
-unfoldable pub strayOrdinal : List ℕ → List ℕ → ℕ → Bool
-strayOrdinal b s n = not (startedIn b s n) && not (eqb (ordinalIn b s n) 0)
-
-unfoldable pub misnumbered : List ℕ → List ℕ → Bool
-misnumbered b s = anyBelow (startedCount b s) (λ k. not (eqb (holders b s (suc k)) 1))
 
 unfoldable pub badNode : List ℕ → List ℕ → ℕ → Bool
 badNode b s n = badByte b s n || strayOrdinal b s n
@@ -95,11 +63,6 @@ worldOf b s = record {
   starts = startedCount b s;
   ordinal = ordinalShown b s;
 }
-
--- what is asked where a state's bytes are read: the plan is whole, and there is room
-pub record Fits (b s : List ℕ) : Type 0 where
-  pub plan : Whole b
-  pub room : 8 + 3 * nodeCount b ≤ length s
 
 -- what is asked where an event of task t is judged or written: t is a node, and the state passes 1 to 16
 pub record AtEvent (b s : List ℕ) (t : ℕ) : Type 0 where

@@ -1,21 +1,20 @@
 // The bytes of a state (01: record): the checks that every call makes first, and the fresh state.
-use crate::starts::is_stray;
-use crate::starts::ordinals_bad;
 use base::kinds::TASK;
 use plan_check::check;
 use plan_format::fields::flags;
 use plan_format::fields::is_kind;
 use plan_format::fields::nodes;
 use run_flags::load;
+use run_starts::is_stray;
+use run_starts::ordinals_bad;
 ghost use mathlib.Core.Path.{_≡_};
 ghost use Prim.Native.Nat.{_+_, _<_, _≤_};
 ghost use lib.ListN.{length};
 ghost use Rattle.plan_format.specs.Format.{nodeCount};
 ghost use Rattle.runs.specs.Tests.{anyBelow};
-ghost use Rattle.run_state.specs.State.{Fits, badFlag, badByte, badNode, roomRefusal, stateRefusal};
+ghost use Rattle.run_starts.specs.Starts.{Fits};
+ghost use Rattle.run_state.specs.State.{badFlag, badByte, badNode, roomRefusal, stateRefusal};
 ghost use Rattle.run_state.specs.Fresh.{freshByte, Freshened};
-
-pub mod starts;
 
 // A bit for a flag of number v or higher.
 fn flags_bad(plan: &[u8], state: &[u8]) -> bool

@@ -13,8 +13,9 @@ use Rattle.runs.specs.Model.Computing.{computing}
 use Rattle.base.specs.Bits.{bit}
 use Rattle.base.specs.Count.{countBelow}
 use Rattle.run_flags.specs.Flags.{flagIn}
-use Rattle.run_state.specs.State.{nodeByte, ordinalAt, ordinalIn, tooShort, badFlag, badByte, startedIn, startedCount}
-use Rattle.run_state.specs.State.{holders, strayOrdinal, misnumbered, badNode, malformed, roomRefusal, stateRefusal}
+use Rattle.run_starts.specs.Starts.{nodeByte, ordinalAt, ordinalIn, startedIn, startedCount, holders, strayOrdinal}
+use Rattle.run_starts.specs.Starts.{misnumbered}
+use Rattle.run_state.specs.State.{tooShort, badFlag, badByte, badNode, malformed, roomRefusal, stateRefusal}
 use Rattle.run_calls.specs.Shown.{flagByte, numberByte, shownByte}
 use Rattle.run_trials.specs.Written.{two, twos, eight, names, nodes, conditionNodes, conditionValues}
 use Rattle.run_trials.specs.Written.{earlierNodes, laterNodes, bytesOf}

@@ -7,7 +7,7 @@ use native.Mathlib.Omega.{arith}
 use borrow.Author.Needs.{needs}
 use Rattle.run_state.proofs.Refused.{fits}
 use Rattle.run_state.proofs.Passed.{has-room}
-use Rattle.run_state.proofs.Holders.{started-le}
+use Rattle.run_starts.proofs.Counts.{started-le}
 use Rattle.run_refusals.specs.declared.Move.the-variants.{Start, Finish}
 use Rattle.run_monitor.proofs.Equations.{start-written, finish-written}
 use Rattle.run_monitor.proofs.write_move.Statement.{statement}

@@ -11,7 +11,8 @@ use Rattle.runs.specs.Calls.{asks, statusByte}
 use Rattle.runs.specs.Plan.{Place, placeNumber}
 use Rattle.runs.specs.Execution.{Status}
 use Rattle.runs.specs.Model.Monitor.{incBrokenB}
-use Rattle.run_state.specs.State.{nodeByte, statusIn}
+use Rattle.run_starts.specs.Starts.{nodeByte}
+use Rattle.run_state.specs.State.{statusIn}
 use Rattle.run_state.proofs.Passed.{has-room}
 use Rattle.run_refusals.specs.Events.{eventOf}
 use Rattle.run_refusals.specs.Parts.{beginRefusal}

@@ -1,6 +1,7 @@
 -- `run_state::byte_bad` meets its contract. Assumes nothing.
 use mathlib.Core.Path.{sym, _∙_}
-use Rattle.run_state.specs.State.{nodeByte, badByte}
+use Rattle.run_starts.specs.Starts.{nodeByte}
+use Rattle.run_state.specs.State.{badByte}
 use borrow.Author.Needs.{needs}
 use Rattle.run_state.proofs.byte_bad.Statement.{statement}
 use Rattle.run_state.proofs.byte_bad.Tie as tie

@@ -1,9 +1,9 @@
 -- `ordinal` meets its contract. Assumes nothing.
 use native.Mathlib.Omega.{arith}
 use borrow.Author.Needs.{needs}
-use Rattle.run_state.specs.State.{ordinalAt, ordinalIn}
-use Rattle.run_state.proofs.starts.ordinal.Statement.{statement}
-use Rattle.run_state.proofs.starts.ordinal.Tie as tie
+use Rattle.run_starts.specs.Starts.{ordinalAt, ordinalIn}
+use Rattle.run_starts.proofs.ordinal.Statement.{statement}
+use Rattle.run_starts.proofs.ordinal.Tie as tie
 
 u16-at-requires : tie.Need-u16-at-requires
 unfolding ordinalAt

@@ -11,10 +11,10 @@ use Rattle.plan_format.specs.Format.{nodeCount}
 use Rattle.base.proofs.Count.{count-le}
 use Rattle.plan_rules.proofs.Laws.{and-both}
 use Rattle.base.proofs.Tally.{tally-start}
-use Rattle.run_state.specs.State.{holders}
-use Rattle.run_state.proofs.Holders.{holds, HeldTo, held-one, held-none}
-use Rattle.run_state.proofs.starts.holders.Statement.{statement}
-use Rattle.run_state.proofs.starts.holders.Tie as tie
+use Rattle.run_starts.specs.Starts.{holders}
+use Rattle.run_starts.proofs.Counts.{holds, HeldTo, held-one, held-none}
+use Rattle.run_starts.proofs.holders.Statement.{statement}
+use Rattle.run_starts.proofs.holders.Tie as tie
 
 abbrev Inv-loop : tie.InvT-loop
 Inv-loop plan state n table₀ i₀ table i = (i ≤ n) × HeldTo plan state i table

@@ -1,8 +1,8 @@
 -- `ordinal_at` meets its contract. Assumes nothing.
 use native.Mathlib.Omega.{arith}
-use Rattle.run_state.specs.State.{ordinalAt}
-use Rattle.run_state.proofs.starts.ordinal_at.Statement.{statement}
-use Rattle.run_state.proofs.starts.ordinal_at.Tie as tie
+use Rattle.run_starts.specs.Starts.{ordinalAt}
+use Rattle.run_starts.proofs.ordinal_at.Statement.{statement}
+use Rattle.run_starts.proofs.ordinal_at.Tie as tie
 
 returns : tie.Need-returns
 unfolding ordinalAt

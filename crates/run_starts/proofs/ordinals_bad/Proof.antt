@@ -10,10 +10,10 @@ use borrow.Author.Tests.{eq-eqb, ne-eqb}
 use denote.Ref.{now}
 use Rattle.runs.specs.Tests.{anyBelow}
 use Rattle.plan_rules.proofs.Laws.{some-yes, none-more, none-none}
-use Rattle.run_state.specs.State.{startedCount, holders, misnumbered}
-use Rattle.run_state.proofs.Holders.{started-le}
-use Rattle.run_state.proofs.starts.ordinals_bad.Statement.{statement}
-use Rattle.run_state.proofs.starts.ordinals_bad.Tie as tie
+use Rattle.run_starts.specs.Starts.{startedCount, holders, misnumbered}
+use Rattle.run_starts.proofs.Counts.{started-le}
+use Rattle.run_starts.proofs.ordinals_bad.Statement.{statement}
+use Rattle.run_starts.proofs.ordinals_bad.Tie as tie
 
 abbrev Inv-loop : tie.InvT-loop
 Inv-loop plan state m table k₀ k = (k ≤ m) × (anyBelow k (λ j. not (eqb (holders plan state (suc j)) 1)) ≡ false)

@@ -7,9 +7,9 @@ use denote.Ref.{now}
 use Rattle.base.specs.Count.{num, countBelow}
 use Rattle.base.proofs.Count.{count-more}
 use Rattle.plan_format.specs.Format.{nodeCount}
-use Rattle.run_state.specs.State.{startedIn, startedCount}
-use Rattle.run_state.proofs.starts.started.Statement.{statement}
-use Rattle.run_state.proofs.starts.started.Tie as tie
+use Rattle.run_starts.specs.Starts.{startedIn, startedCount}
+use Rattle.run_starts.proofs.started.Statement.{statement}
+use Rattle.run_starts.proofs.started.Tie as tie
 
 abbrev Inv-loop : tie.InvT-loop
 Inv-loop plan state n m₀ i₀ m i = (i ≤ n) × ((m ≤ i) × (m ≡ countBelow i (startedIn plan state)))

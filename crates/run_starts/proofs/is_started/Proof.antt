@@ -1,8 +1,8 @@
 -- `is_started` meets its contract. Assumes nothing.
 use native.Mathlib.Omega.{arith}
-use Rattle.run_state.specs.State.{nodeByte, startedIn}
-use Rattle.run_state.proofs.starts.is_started.Statement.{statement}
-use Rattle.run_state.proofs.starts.is_started.Tie as tie
+use Rattle.run_starts.specs.Starts.{nodeByte, startedIn}
+use Rattle.run_starts.proofs.is_started.Statement.{statement}
+use Rattle.run_starts.proofs.is_started.Tie as tie
 
 returns : tie.Need-returns
 unfolding startedIn nodeByte

@@ -2,9 +2,9 @@
 use native.Mathlib.Omega.{arith}
 use borrow.Author.Needs.{needs}
 use lib.ListN.{length-set}
-use Rattle.run_state.specs.State.{ordinalAt, withOrdinal}
-use Rattle.run_state.proofs.starts.write_ordinal.Statement.{statement}
-use Rattle.run_state.proofs.starts.write_ordinal.Tie as tie
+use Rattle.run_starts.specs.Starts.{ordinalAt, withOrdinal}
+use Rattle.run_starts.proofs.write_ordinal.Statement.{statement}
+use Rattle.run_starts.proofs.write_ordinal.Tie as tie
 
 slice-write-state : tie.Need-slice-write-state
 unfolding ordinalAt

@@ -11,7 +11,7 @@ use Rattle.base.proofs.Count.{count-le}
 use Rattle.plan_format.specs.Format.{nodeCount}
 use Rattle.base.proofs.Tally.{Tallied, tally-one, tally-none}
 use Rattle.plan_rules.proofs.Laws.{and-both, and-of, not-passed}
-use Rattle.run_state.specs.State.{ordinalIn, startedIn, startedCount}
+use Rattle.run_starts.specs.Starts.{ordinalIn, startedIn, startedCount}
 
 module _ (b s : List ℕ) where
   pub started-le : startedCount b s ≤ nodeCount b

@@ -12,17 +12,16 @@ use borrow.Author.Tests.{eq-eqb, ne-eqb, eqb-true}
 use Rattle.base.proofs.Count.{count-same, count-none, count-one-more}
 use Rattle.plan_format.specs.Format.{nodeCount}
 use Rattle.plan_rules.proofs.Laws.{and-both, not-passed}
-use Rattle.run_state.specs.State.{ordinalIn, startedIn, startedCount, holders, strayOrdinal}
-use Rattle.run_state.proofs.Well.{Well, started-in-range}
+use Rattle.run_starts.specs.Starts.{ordinalIn, startedIn, startedCount, holders, strayOrdinal}
+use Rattle.run_starts.proofs.Numbers.{WellNumbered, started-in-range}
 
 -- the ordinals of z are well formed, and m tasks are started
 pub record Numbering (b z : List ℕ) (m : ℕ) : Type 0 where
   pub count : startedCount b z ≡ m
-  pub strays : (n : ℕ) → n < nodeCount b → strayOrdinal b z n ≡ false
-  pub once : (k : ℕ) → k < startedCount b z → holders b z (suc k) ≡ 1
+  pub well : WellNumbered b z
 
 -- in the state z, after s, task t is started; what is started and numbered elsewhere is so as before
-module _ (b s z : List ℕ) (w : Well b s) (t : ℕ) (l : t < nodeCount b) (on : startedIn b z t ≡ true)
+module _ (b s z : List ℕ) (w : WellNumbered b s) (t : ℕ) (l : t < nodeCount b) (on : startedIn b z t ≡ true)
     (kept : (n : ℕ) → n < nodeCount b → (n ≡ t → ⊥) → startedIn b z n ≡ startedIn b s n)
     (others : (n : ℕ) → n < nodeCount b → (n ≡ t → ⊥) → ordinalIn b z n ≡ ordinalIn b s n) where
   no-stray : (n : ℕ) → n < nodeCount b → strayOrdinal b z n ≡ false
@@ -64,9 +63,11 @@ module _ (b s z : List ℕ) (w : Well b s) (t : ℕ) (l : t < nodeCount b) (on :
     pub start-numbering : Numbering b z (suc (startedCount b s))
     start-numbering = record {
       count = one-more;
-      strays = no-stray;
-      once = λ k j. by-cases (ℕ-discrete k (startedCount b s)) (λ (e : k ≡ startedCount b s). rw e own-once)
-          (λ e. as-before (suc k) (λ q. e (omega arith)) ∙ w .once k (omega (arith, one-more)));
+      well = record {
+        strays = no-stray;
+        once = λ k j. by-cases (ℕ-discrete k (startedCount b s)) (λ (e : k ≡ startedCount b s). rw e own-once)
+            (λ e. as-before (suc k) (λ q. e (omega arith)) ∙ w .once k (omega (arith, one-more)));
+      };
     }
 
   -- a finish: t was started, and keeps its ordinal
@@ -89,6 +90,5 @@ module _ (b s z : List ℕ) (w : Well b s) (t : ℕ) (l : t < nodeCount b) (on :
     pub finish-numbering : Numbering b z (startedCount b s)
     finish-numbering = record {
       count = same-count;
-      strays = no-stray;
-      once = λ k j. same-holders (suc k) ∙ w .once k (omega (arith, same-count));
+      well = record { strays = no-stray; once = λ k j. same-holders (suc k) ∙ w .once k (omega (arith, same-count)) };
     }

@@ -1,7 +1,7 @@
 -- `is_stray` meets its contract. Assumes nothing.
-use Rattle.run_state.specs.State.{strayOrdinal}
-use Rattle.run_state.proofs.starts.is_stray.Statement.{statement}
-use Rattle.run_state.proofs.starts.is_stray.Tie as tie
+use Rattle.run_starts.specs.Starts.{strayOrdinal}
+use Rattle.run_starts.proofs.is_stray.Statement.{statement}
+use Rattle.run_starts.proofs.is_stray.Tie as tie
 
 returns : tie.Need-returns
 unfolding strayOrdinal

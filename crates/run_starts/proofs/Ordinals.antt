@@ -6,7 +6,7 @@ use native.Mathlib.Omega.{arith}
 use lib.ListN.{length, getD, set, length-set}
 use lib.Seq.{getD-set-same, getD-set-other}
 use Rattle.plan_format.specs.Format.{u16At, nodeCount}
-use Rattle.run_state.specs.State.{ordinalAt, ordinalIn, withOrdinal}
+use Rattle.run_starts.specs.Starts.{ordinalAt, ordinalIn, withOrdinal}
 
 module _ (b s : List ℕ) (n k : ℕ) where
   abbrev z : List ℕ

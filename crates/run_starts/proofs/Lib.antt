@@ -1,0 +1,4 @@
+pub mod Counts
+pub mod Ordinals
+pub mod Numbers
+pub mod Numbering
