@@ -6,13 +6,12 @@ use mathlib.Core.List.{List}
 use mathlib.Core.Option.{Option, some, none, Option·getD}
 use Prim.Native.Nat.{ℕ}
 use native.Mathlib.Decide.{ℕ-discrete}
-use native.Mathlib.Omega.{arith}
 use Rattle.plan_format.specs.Format.{isKind}
 use Rattle.plan_check.specs.Meaning.{planOf}
 use Rattle.runs.specs.Execution.{Event, nodeOf, moved, asserts}
-use Rattle.runs.specs.Calls.{one, no-task, wrong-status, branch-begun, order-open, pre-unmet, inc-broken, counted}
-use Rattle.runs.specs.Calls.{numbered, Refusal, World}
+use Rattle.runs.specs.Calls.{one, counted, numbered, Refusal, World}
 use Rattle.runs.specs.Model.Monitor.{returned, refusalOf, step, code, settle}
+use Rattle.runs.proofs.Calls.First.{code-inj}
 use Rattle.run_starts.specs.Starts.{startedCount}
 use Rattle.run_state.specs.State.{stateRefusal, statusIn, flagShown, ordinalShown, worldOf}
 use Rattle.run_starts.proofs.Numbering.{Numbering}
@@ -21,15 +20,6 @@ use Rattle.run_refusals.proofs.Chain.{answer-task, answer-asked, event-does}
 use Rattle.run_monitor.specs.Events.{afterEvent, eventState}
 use Rattle.run_monitor.proofs.Equations.{refused-22, accepted}
 use Rattle.run_monitor.proofs.After.{shows-status, shows-flag, shows-ordinal, still-well, numbers}
-
-code-none : (o : Option Refusal) → code o ≡ 0 → o ≡ none
-code-none none e = refl
-code-none (some no-task) e = absurd (omega arith)
-code-none (some wrong-status) e = absurd (omega arith)
-code-none (some branch-begun) e = absurd (omega arith)
-code-none (some order-open) e = absurd (omega arith)
-code-none (some pre-unmet) e = absurd (omega arith)
-code-none (some inc-broken) e = absurd (omega arith)
 
 settled : (o : Option Refusal) (old new : World) → (code o ≡ 0 → ⊥) → settle o old new ≡ old
 settled none old new h = absurd (h refl)
@@ -59,7 +49,7 @@ module _ (b s : List ℕ) (ok : stateRefusal b s ≡ 0) (e : Event) where
         let fo : ordinalShown b (afterEvent b s e) ≡ numbered (startedCount b s) (ordinalShown b s) e =
         fun-ext (shows-ordinal b s ok e task) in
         let n : refusalOf (planOf b) (worldOf b s) (one e) ≡ none =
-        code-none (refusalOf (planOf b) (worldOf b s) (one e)) z in
+        code-inj {x = none} z in
         rw n (cc (fs, ff, ordinals .count, fo))
 
     moves : Stepped b s e

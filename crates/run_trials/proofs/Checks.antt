@@ -3,21 +3,23 @@ use mathlib.Core.Path.{_≡_, sym, ap, _∙_}
 use mathlib.Core.Logic.{_≢_, inl, by-cases, ⊎-elim}
 use mathlib.Core.Bool.{Bool, true, false}
 use mathlib.Core.List.{List, [], _∷_}
-use Prim.Native.Nat.{ℕ}
+use Prim.Native.Nat.{ℕ, zero, suc}
 use native.Mathlib.Decide.{ℕ-discrete}
 use native.Mathlib.Omega.{arith}
 use lib.Dec.{T, eqb}
 use Rattle.base.proofs.First.{answer-some}
 use Rattle.plan_rules.proofs.Laws.{either}
+use Rattle.plan_check.specs.Meaning.{planOf}
 use Rattle.runs.specs.Tests.{both}
+use Rattle.runs.specs.Model.Monitor.{completeB}
 use Rattle.runs.proofs.Reflect.{Reflects, r-both, r-T, r-eq}
-use Rattle.run_state.specs.State.{malformed, roomRefusal, stateRefusal}
+use Rattle.run_state.specs.State.{malformed, roomRefusal, stateRefusal, statusIn}
 use Rattle.run_state.proofs.Refused.{state-room, state-bad, state-good}
 use Rattle.run_state.proofs.Left.{fresh-refused}
-use Rattle.run_monitor.specs.Status.{statusAnswer}
+use Rattle.run_monitor.specs.Status.{wordFor, statusAnswer}
 use Rattle.run_monitor.proofs.Equations.{refused-16}
 use Rattle.run_trials.specs.Written.{bytesOf}
-use Rattle.run_trials.specs.Checked.{Checked, Refuses, AllChecked}
+use Rattle.run_trials.specs.Checked.{Checked, Refuses, Passes, CheckOf, AllChecked}
 
 -- 15 comes from the check of the room
 no-room : (b s : List ℕ) → stateRefusal b s ≡ 15 → roomRefusal b s ≡ 15
@@ -44,6 +46,17 @@ refuses b s r e n =
       );
     }
 
+passes : (b s : List ℕ) → stateRefusal b s ≡ 0 → Passes b s
+unfolding statusAnswer
+passes b s e = record {
+  status = λ p t. (wordFor (completeB (planOf b) (statusIn b s) 0), t .returns ∙ rw e);
+  event = λ v n z c. c .answered e;
+}
+
+check-of : (b s : List ℕ) (r : ℕ) → stateRefusal b s ≡ r → CheckOf b s r
+check-of b s zero e = passes b s e
+check-of b s (suc r) e = refuses b s (suc r) e (λ q. omega arith)
+
 unfoldable pub allCheckedB : List Checked → Bool
 allCheckedB [] = true
 allCheckedB (c ∷ l) = both (eqb (stateRefusal (bytesOf (c .plan)) (c .state)) (c .refusal)) (λ u. allCheckedB l)
@@ -55,4 +68,4 @@ all-checked (c ∷ l) x =
     let r : Reflects (both (eqb (stateRefusal (bytesOf (c .plan)) (c .state)) (c .refusal)) (λ u. allCheckedB l))
     ((stateRefusal (bytesOf (c .plan)) (c .state) ≡ c .refusal) × T (allCheckedB l)) = r-both _ _ (r-eq _ _) (r-T _) in
     let (a, y) = r .to x in
-    ((a, refuses (bytesOf (c .plan)) (c .state) (c .refusal) a), all-checked l y)
+    (check-of (bytesOf (c .plan)) (c .state) (c .refusal) a, all-checked l y)

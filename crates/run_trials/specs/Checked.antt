@@ -1,14 +1,16 @@
--- What the calls say to a plan's bytes and a state's bytes: refused by all of them with one number, or by none of them
--- before 17. Definitions only.
-use Prim.Native.Nat.{ℕ}
+-- What the calls say to a plan's bytes and a state's bytes, by the relations that they promise: all refuse with one
+-- number of 1 to 16, or none does. Definitions only.
+use Prim.Native.Nat.{ℕ, zero, suc}
 use mathlib.Core.Path.{_≡_}
-use mathlib.Core.Logic.{_≢_, inl}
+use mathlib.Core.Logic.{inl, inr}
 use mathlib.Core.List.{List, [], _∷_}
+use Rattle.plan_check.specs.Meaning.{planOf}
 use Rattle.runs.specs.Execution.{Event}
-use Rattle.run_state.specs.State.{stateRefusal}
+use Rattle.runs.specs.Calls.{one, Answered}
+use Rattle.run_state.specs.State.{worldOf}
 use Rattle.run_state.specs.Fresh.{Freshened}
 use Rattle.run_monitor.specs.declared.Progress.{Progress}
-use Rattle.run_monitor.specs.Status.{said, Told}
+use Rattle.run_monitor.specs.Status.{Word, said, Told}
 use Rattle.run_monitor.specs.Events.{Called}
 use Rattle.run_trials.specs.Written.{Written, bytesOf}
 
@@ -24,7 +26,16 @@ pub record Refuses (b s : List ℕ) (r : ℕ) : Type 0 where
   pub event : (e : Event) (n : ℕ) (z : List ℕ) → Called b s e n z → (n ≡ r) × (z ≡ s)
   pub room : r ≡ 15 → (n : ℕ) (z : List ℕ) → Freshened b s n z → (n ≡ 15) × (z ≡ s)
 
+-- `status` says a word, and `start` and `finish` answer as 01 says of the states that the bytes show
+pub record Passes (b s : List ℕ) : Type 0 where
+  pub status : (p : Progress) → Told b s p → (w : Word) × (said p ≡ inr w)
+  pub event : (e : Event) (n : ℕ) (z : List ℕ) → Called b s e n z
+      → Answered (planOf b) (worldOf b s) (one e) n (worldOf b z)
+
+abbrev pub CheckOf : List ℕ → List ℕ → ℕ → Type 0
+CheckOf b s zero = Passes b s
+CheckOf b s (suc r) = Refuses b s (suc r)
+
 abbrev pub AllChecked : List Checked → Type 0
 AllChecked [] = Unit {0}
-AllChecked (c ∷ l) = ((stateRefusal (bytesOf (c .plan)) (c .state) ≡ c .refusal)
-    × (c .refusal ≢ 0 → Refuses (bytesOf (c .plan)) (c .state) (c .refusal))) × AllChecked l
+AllChecked (c ∷ l) = CheckOf (bytesOf (c .plan)) (c .state) (c .refusal) × AllChecked l

@@ -1,6 +1,6 @@
 -- The ordinals of starts: after any list of calls, a task's ordinal is the position of its start among the accepted
 -- starts of the list.
-use Rattle.runs.proofs.Base.{_≡_, refl, sym, ap, _∙_, _≢_, _↔_, Bool, false, List, [], _∷_, _++_, append-nil}
+use Rattle.runs.proofs.Base.{_≡_, refl, sym, ap, _∙_, _≢_, _↔_, Bool, false, none, some, List, [], _∷_, _++_, append-nil}
 use Rattle.runs.proofs.Base.{append-assoc, ℕ, suc, _<_, arith, ℕ-discrete, eqb, getD, length}
 use mathlib.Core.Logic.{by-cases}
 use native.Mathlib.Decide.{decLt}
@@ -9,11 +9,11 @@ use lib.Seq.{getD-append-seam}
 use borrow.Author.Tests.{eq-eqb, ne-eqb}
 use Rattle.runs.specs.Plan.{Plan}
 use Rattle.runs.specs.Execution.{waiting, running, Status-discrete, start, finish}
-use Rattle.runs.specs.Calls.{Call, one, World, fresh, happen, Refusal, no-task, wrong-status, branch-begun}
-use Rattle.runs.specs.Calls.{order-open, pre-unmet, inc-broken, number, accepted, refused, Worked, no-calls}
-use Rattle.runs.specs.Calls.{next-call, acceptedStarts}
+use Rattle.runs.specs.Calls.{Call, one, World, fresh, happen, Refusal, number, accepted, refused, Worked}
+use Rattle.runs.specs.Calls.{no-calls, next-call, acceptedStarts}
 use Rattle.runs.specs.Demand3.{Numbered}
 use Rattle.runs.proofs.Reflect.{clash}
+use Rattle.runs.proofs.Calls.First.{code-inj}
 
 -- a fact that is not absent, and can be told
 found : {A : Type 0} → Dec A → ¬ ¬ A → A
@@ -85,13 +85,9 @@ module _ (p : Plan) (l : List ℕ) (a : World) (h : Numbered l a) (t : ℕ) wher
         (λ n. rw (ne-eqb x t n) (h .unstarted x));
   }
 
+-- no refusal has the number 0
 number-some : (r : Refusal) → eqb (number r) 0 ≡ false
-number-some no-task = refl
-number-some wrong-status = refl
-number-some branch-begun = refl
-number-some order-open = refl
-number-some pre-unmet = refl
-number-some inc-broken = refl
+number-some r = ne-eqb (number r) 0 (λ q. let e = code-inj {o = some r} {x = none} q in clash cc)
 
 module _ (p : Plan) where
   -- calls after starts in the order of l
