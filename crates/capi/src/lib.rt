@@ -54,6 +54,13 @@ pub extern "C" fn knowetop_finish(plan: &[u8], state: &mut [u8], task: usize) ->
 }
 
 #[no_mangle]
+pub extern "C" fn knowetop_skip(plan: &[u8], state: &mut [u8], group: usize) -> u32
+    ensures { λ r. ⌜ Called (now (plan .entry)) (now (state .entry)) (execution.skip group) r (now (state .exit)) ⌝ }
+{
+    run_monitor::skip(plan, state, group)
+}
+
+#[no_mangle]
 pub extern "C" fn knowetop_status(plan: &[u8], state: &[u8]) -> u32
     ensures { λ r. ⌜ StatusNumber (now (plan .entry)) (now (state .entry)) r ⌝ }
 {

@@ -8,16 +8,21 @@ use native.Mathlib.Omega.{arith}
 use lib.ListN.{length, getD, set, length-set}
 use lib.Seq.{getD-set-same, getD-set-other}
 use Rattle.base.specs.Bits.{ones, Says}
-use Rattle.base.proofs.Says.{says-map, says-and, says-all}
-use Rattle.runs.specs.Plan.{all-of, any-of, Plan}
+use Rattle.base.proofs.Says.{says-map, says-eq, says-and, says-all, says-none}
+use Rattle.runs.specs.Plan.{Kind, task, all-of, any-of, optional, Picks, Plan, kindNumber}
 use Rattle.marks_row.specs.declared.Segment.{Segment}
 use Rattle.marks_row.specs.Segments.{Position}
-use Rattle.marks_row.specs.Columns.{Column, avoid, covered, must-inc, indexOf, firstOf, Fact, wordAt, Right, Row}
+use Rattle.marks_row.specs.Columns.{Column, avoid, quiet, covered, may-pre, may-post, may-inc, requires, asserts}
+use Rattle.marks_row.specs.Columns.{may-clobber, must-inc, must-clobber}
+use Rattle.marks_row.specs.Columns.{indexOf, firstOf, Fact, wordAt, Right, Row, RowIs}
 use Rattle.marks_siblings.specs.Group.{Group}
 use Rattle.marks_group.specs.Groups.{Others, WithinRow, Merged, Unmerged, Joined}
-use Rattle.marks_group.proofs.Any.{some-branch, every-branch}
+use Rattle.marks_group.specs.Empty.{withEmpty}
+use Rattle.marks_group.proofs.Any.{some-branch, every-branch, empty-avoids, empty-quiet, optional-branch}
+use Rattle.marks_group.proofs.Any.{optional-musts}
 use Rattle.marks_group.proofs.All.{every-part, some-part}
 use Rattle.marks_row.proofs.Rows.{index-small}
+use Rattle.runs.proofs.Plan.Numbers.{sign-small}
 use Rattle.marks_row.proofs.Segments.{listed, every-more, some-more, every-none, some-none, every-child, some-child}
 
 -- an array of zeros
@@ -103,6 +108,30 @@ module _ {kids : List ℕ} {segment : Segment} {rows : List ℕ} {p : Plan} {n :
         (j .every k s (index-small k) f l));
   }
 
+  -- the words of an optional group: those of its children, and of the branch without tasks
+  pub optional-row : p .tree .kind n ≡ optional → {a r : List ℕ} → AnyWords (segment .end) a → RowIs (withEmpty a) r
+      → Row p n r
+  optional-row kn {a} j e = record { says = λ k f l. says-eq (e .is k) (at k f l) }
+    where
+      branch : (k : Column) → firstOf covered ≤ indexOf k → indexOf k < firstOf must-inc → (f : ℕ) → f < 64
+          → Says (getD a (indexOf k) 0) f (Fact p n f k)
+      branch k m s f l = says-map (Iff·trans (some-child (g .listed) (λ c hc. (λ x. x .0, λ x. (x, tt))))
+          (Iff·symm (optional-branch p (g .well-formed) kn f k m s)))
+          (j .some k (inl s) f l)
+
+      at : (k : Column) (f : ℕ) → f < 64 → Says (withEmpty a k) f (Fact p n f k)
+      at avoid f l = says-all l refl (empty-avoids p (g .well-formed) kn f)
+      at (quiet v) f l = says-all l refl (empty-quiet p (g .well-formed) kn f v)
+      at (covered v) f l = branch (covered v) (omega arith) (omega (arith, sign-small v)) f l
+      at (may-pre v) f l = branch (may-pre v) (omega arith) (omega (arith, sign-small v)) f l
+      at (may-post v) f l = branch (may-post v) (omega arith) (omega (arith, sign-small v)) f l
+      at (may-inc v) f l = branch (may-inc v) (omega arith) (omega (arith, sign-small v)) f l
+      at (requires v) f l = branch (requires v) (omega arith) (omega (arith, sign-small v)) f l
+      at (asserts v) f l = branch (asserts v) (omega arith) (omega (arith, sign-small v)) f l
+      at (may-clobber v) f l = branch (may-clobber v) (omega arith) (omega (arith, sign-small v)) f l
+      at (must-inc v) f l = says-none refl (optional-musts p (g .well-formed) kn f v .0)
+      at (must-clobber v) f l = says-none refl (optional-musts p (g .well-formed) kn f v .1)
+
   -- the words of an all-of group, over all its children
   abbrev pub AllWords : ℕ → List ℕ → Type 0
   AllWords i r = Joined (indexOf avoid) (firstOf covered) kids (segment .start) i (λ k f c. Fact p c f k)
@@ -119,3 +148,16 @@ module _ {kids : List ℕ} {segment : Segment} {rows : List ℕ} {p : Plan} {n :
         (Iff·symm (some-part p (g .well-formed) (g .node) kn f k s)))
         (j .some k (inr s) f l));
   }
+
+-- a group of which one branch is taken, by the number of its kind
+pub is-optional : (k : Kind) → 3 ≡ kindNumber k → k ≡ optional
+is-optional task e = absurd (omega arith)
+is-optional all-of e = absurd (omega arith)
+is-optional any-of e = absurd (omega arith)
+is-optional optional e = refl
+
+pub is-any : (k : Kind) → Picks k → ¬ (3 ≡ kindNumber k) → k ≡ any-of
+is-any task m n = absurd m
+is-any all-of m n = absurd m
+is-any any-of m n = refl
+is-any optional m n = absurd (n refl)

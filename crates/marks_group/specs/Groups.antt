@@ -6,7 +6,7 @@ use Prim.Native.Nat.{ℕ, _≤_, _<_}
 use lib.Bits.{bitAnd, bitOr}
 use lib.ListN.{getD}
 use Rattle.base.specs.Bits.{ones, Says}
-use Rattle.runs.specs.Plan.{all-of, any-of, Plan, Child, Before, Unordered}
+use Rattle.runs.specs.Plan.{all-of, Picks, Plan, Child, Before, Unordered, kindNumber}
 use Rattle.runs.specs.Summary.{MayClobber, Silent, MustClobber}
 use Rattle.marks_row.specs.declared.Segment.{Segment}
 use Rattle.marks_row.specs.Tables.{RepresentsOrder}
@@ -49,10 +49,11 @@ Within p n f (must-clobber v) = (c : ℕ) × Child p n c × (MustClobber p f v c
 pub record WithinRow (p : Plan) (n : ℕ) (w : List ℕ) : Type 0 where
   pub says : (k : Column) (f : ℕ) → f < 64 → Says (getD w (indexOf k) 0) f (Within p n f k)
 
--- for every plan and node n of which the segment has the children: the words of the any-of group n; of the all-of group
--- n, by its children one by one
-abbrev pub AnyRow : List ℕ → Segment → List ℕ → List ℕ → Type 0
-AnyRow kids segment rows r = (p : Plan) (n : ℕ) → Group kids segment rows p n → p .tree .kind n ≡ any-of → Row p n r
+-- for every plan and node n of which the segment has the children: the words of n, if one branch of it is taken (an
+-- any-of or optional group) and its kind has the number k; of the all-of group n, by its children one by one
+abbrev pub AnyRow : ℕ → List ℕ → Segment → List ℕ → List ℕ → Type 0
+AnyRow k kids segment rows r = (p : Plan) (n : ℕ) → Group kids segment rows p n → Picks (p .tree .kind n)
+    → k ≡ kindNumber (p .tree .kind n) → Row p n r
 
 abbrev pub AllRow : List ℕ → Segment → List ℕ → List ℕ → List ℕ → Type 0
 AllRow kids segment order rows r = (p : Plan) (n : ℕ) → Group kids segment rows p n → RepresentsOrder order p

@@ -1,11 +1,13 @@
-// The row of an any-of group from the rows of its children; that of an all-of group but for the pairs of children that
-// clobber.
+// The row of an any-of or optional group from the rows of its children; that of an all-of group but for the pairs of
+// children that clobber.
 ghost use Prim.Native.Nat.{_≤_, _<_};
 ghost use Rattle.marks_row.specs.Columns.{RowIs};
 ghost use Rattle.marks_row.specs.Segments.{AtSegment};
 ghost use Rattle.marks_group.specs.Groups.{AnyRow, AllRow, JoinedWord, Merged, Unmerged};
 ghost use Rattle.marks_group.specs.Masks.{maskOf};
+ghost use Rattle.marks_group.specs.Empty.{withEmpty};
 use base::ALL;
+use base::kinds::OPTIONAL;
 use base::wide;
 use marks_row::Segment;
 use marks_row::columns::AVOID;
@@ -94,10 +96,39 @@ fn merged(
     out
 }
 
-// The row of an any-of group, from the rows of its children.
-pub fn any_words(kids: &[u8; 128], segment: Segment, rows: &[u64; 2688]) -> [u64; 21]
+// The words of one branch more, which has no tasks: it asserts nothing and asks for nothing, and has no must.
+fn with_empty(words: [u64; 21]) -> [u64; 21]
+    ensures { λ r. ⌜ RowIs (withEmpty words) r ⌝ }
+{
+    [
+        ALL,
+        ALL,
+        ALL,
+        words[3],
+        words[4],
+        words[5],
+        words[6],
+        words[7],
+        words[8],
+        words[9],
+        words[10],
+        words[11],
+        words[12],
+        words[13],
+        words[14],
+        words[15],
+        words[16],
+        0,
+        0,
+        0,
+        0,
+    ]
+}
+
+// The row of an any-of or optional group, from the rows of its children.
+pub fn any_words(kind: u8, kids: &[u8; 128], segment: Segment, rows: &[u64; 2688]) -> [u64; 21]
     requires { ⌜ AtSegment (now kids) segment ⌝ }
-    ensures { λ r. ⌜ AnyRow (now (kids .entry)) segment (now (rows .entry)) r ⌝ }
+    ensures { λ r. ⌜ AnyRow kind (now (kids .entry)) segment (now (rows .entry)) r ⌝ }
 {
     let mask = start_words(AVOID, END);
     let mut words = start_words(MUST_INC, END);
@@ -106,6 +137,9 @@ pub fn any_words(kids: &[u8; 128], segment: Segment, rows: &[u64; 2688]) -> [u64
         let next = merged(MUST_INC, END, words, rows, wide(kids[i]), mask);
         words = next;
         i += 1;
+    }
+    if kind == OPTIONAL {
+        return with_empty(words);
     }
     words
 }

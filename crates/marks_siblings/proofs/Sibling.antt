@@ -13,7 +13,7 @@ use Rattle.base.specs.Bits.{bit, ones, Says}
 use Rattle.base.proofs.Tests.{unequal}
 use Rattle.base.proofs.Says.{says-map, says-eq, says-self, says-and, says-neither}
 use Rattle.runs.specs.Plan.{task, inc, post, Plan, Child, Before, Under, Unordered}
-use Rattle.runs.specs.Execution.{Event, start, finish, nodeOf, asserts as signOf}
+use Rattle.runs.specs.Execution.{Event, start, finish, skip, nodeOf, asserts as signOf}
 use Rattle.runs.specs.Summary.{TaskWith, Silent}
 use Rattle.runs.proofs.Reflect.{clash}
 use Rattle.marks_siblings.specs.declared.Siblings.{Siblings}
@@ -86,6 +86,7 @@ silent-is p f b = (λ k e t u. quiet k e t u (signOf p e f) refl, λ s x. loud s
         → TaskWith p inc post f v b
     task-with v (start t) k u q = record { who = t; is-task = k; beneath = u; has = inl q }
     task-with v (finish t) k u q = record { who = t; is-task = k; beneath = u; has = inr q }
+    task-with v (skip g) k u q = clash cc
 
     quiet : (¬ (TaskWith p inc post f false b ⊎ TaskWith p inc post f true b)) → (e : Event)
         → p .tree .kind (nodeOf e) ≡ task → Under p b (nodeOf e)

@@ -7,7 +7,7 @@ use native.Mathlib.Decide.{ℕ-discrete}
 use native.Mathlib.Omega.{arith}
 use lib.ListN.{length, getD}
 use Rattle.base.proofs.Says.{says-eq}
-use Rattle.runs.specs.Plan.{Kind, task, all-of, any-of, Plan, Node, itself, WellFormed, kindNumber}
+use Rattle.runs.specs.Plan.{Kind, task, all-of, any-of, optional, Picks, Plan, Node, itself, WellFormed, kindNumber}
 use Rattle.runs.proofs.Plan.Trees.{under-root}
 use Rattle.runs.proofs.Execution.Final.{under-task}
 use Rattle.marks_row.specs.declared.Segment.{Segment}
@@ -23,39 +23,42 @@ use Rattle.marks_group.specs.Groups.{AnyRow}
 use Rattle.marks_tree.specs.Clobbers.{AllOfRow}
 use Rattle.marks_tree.specs.Filled.{Given, Filled, TasksFilled, AllFilled}
 
--- in every plan that the table of kinds represents, c is of kind k
-abbrev pub OfKind : List ℕ → ℕ → Kind → Type 0
-OfKind kind c k = (p : Plan) → RepresentsKinds kind p → Node p c → p .tree .kind c ≡ k
+-- in every plan that the table of kinds represents, the kind of c is in K
+abbrev pub OfKind : List ℕ → ℕ → (Kind → Type 0) → Type 0
+OfKind kind c K = (p : Plan) → RepresentsKinds kind p → Node p c → K (p .tree .kind c)
 
 -- a kind by its code
-module _ {kind : List ℕ} {c : ℕ} where
-  pub is-all : getD kind c 0 ≡ 1 → OfKind kind c all-of
+module _ (kind : List ℕ) (c : ℕ) where
+  pub is-all : getD kind c 0 ≡ 1 → OfKind kind c (λ k. k ≡ all-of)
   is-all e p r l = at _ (sym (r .is c l) ∙ e)
     where
       at : (k : Kind) → kindNumber k ≡ 1 → k ≡ all-of
       at task e = absurd (omega arith)
       at all-of e = refl
       at any-of e = absurd (omega arith)
+      at optional e = absurd (omega arith)
 
-  pub is-any : getD kind c 0 ≡ 2 → OfKind kind c any-of
-  is-any e p r l = at _ (sym (r .is c l) ∙ e)
+  pub is-choice : getD kind c 0 ≢ 1 → getD kind c 0 ≢ 0 → OfKind kind c Picks
+  is-choice a b p r l = at (p .tree .kind c) (λ e. a (r .is c l ∙ e)) (λ e. b (r .is c l ∙ e))
     where
-      at : (k : Kind) → kindNumber k ≡ 2 → k ≡ any-of
-      at task e = absurd (omega arith)
-      at all-of e = absurd (omega arith)
-      at any-of e = refl
-
-  pub is-task : getD kind c 0 ≢ 1 → getD kind c 0 ≢ 2 → OfKind kind c task
-  is-task a b p r l = at _ (λ e. a (r .is c l ∙ e)) (λ e. b (r .is c l ∙ e))
-    where
-      at : (k : Kind) → kindNumber k ≢ 1 → kindNumber k ≢ 2 → k ≡ task
-      at task a b = refl
+      at : (k : Kind) → kindNumber k ≢ 1 → kindNumber k ≢ 0 → Picks k
+      at task a b = absurd (b refl)
       at all-of a b = absurd (a refl)
-      at any-of a b = absurd (b refl)
+      at any-of a b = tt
+      at optional a b = tt
+
+  pub is-task : getD kind c 0 ≡ 0 → OfKind kind c (λ k. k ≡ task)
+  is-task e p r l = at _ (sym (r .is c l) ∙ e)
+    where
+      at : (k : Kind) → kindNumber k ≡ 0 → k ≡ task
+      at task e = refl
+      at all-of e = absurd (omega arith)
+      at any-of e = absurd (omega arith)
+      at optional e = absurd (omega arith)
 
 -- a task, whose row stands
 pub task-filled : {kind from kids order rows : List ℕ} {n node : ℕ} → length rows ≡ 2688
-    → Filled task kind from kids order rows rows n node
+    → Filled (λ k. k ≡ task) kind from kids order rows rows n node
 task-filled {node = node} e = record {
   long = e;
   under = λ p g k. record {
@@ -75,10 +78,10 @@ module _ (kind from kids order : List ℕ) (n node : ℕ) (segment : Segment) wh
   children-none rows e = record { long = e; walked = λ p g. right-none refl }
 
   -- one child more
-  pub child-more : {rows₀ rows rows′ rows″ : List ℕ} {i c : ℕ} {k : Kind} → segment ≡ segmentOf from node
+  pub child-more : {rows₀ rows rows′ rows″ : List ℕ} {i c : ℕ} {K : Kind → Type 0} → segment ≡ segmentOf from node
       → c ≡ getD kids i 0 → Position segment i → ChildrenTo rows₀ rows i → rows″ ≡ rows′
-      → OfKind kind c k → Filled k kind from kids order rows rows′ n c → ChildrenTo rows₀ rows″ (i + 1)
-  child-more {rows₀} {rows} {c = c} {k = k} z e at h q is x = rw q (record {
+      → OfKind kind c K → Filled K kind from kids order rows rows′ n c → ChildrenTo rows₀ rows″ (i + 1)
+  child-more {rows₀} {rows} {c = c} {K = K} z e at h q is x = rw q (record {
     long = x .long;
     walked = λ p g. right-more (at .low) e (h .walked p g) (x .under p (given p g) (kn p g));
   })
@@ -93,7 +96,7 @@ module _ (kind from kids order : List ℕ) (n node : ℕ) (segment : Segment) wh
         tasks = λ t l k. h .walked p g .kept t (g .tasks t l k);
       }
 
-      kn : (p : Plan) → Given kind from kids order rows₀ n node p → p .tree .kind c ≡ k
+      kn : (p : Plan) → Given kind from kids order rows₀ n node p → K (p .tree .kind c)
       kn p g = is p (g .kinds) (given p g .is-node)
 
   module _ {rows₀ rows rows′ words : List ℕ} (z : segment ≡ segmentOf from node)
@@ -108,22 +111,22 @@ module _ (kind from kids order : List ℕ) (n node : ℕ) (segment : Segment) wh
           (h .walked p g .right) c hc c itself;
     }
 
-    filled : (k : Kind) → ((p : Plan) → Given kind from kids order rows₀ n node p → p .tree .kind node ≡ k
+    filled : (K : Kind → Type 0) → ((p : Plan) → Given kind from kids order rows₀ n node p → K (p .tree .kind node)
         → Row p node words)
-        → Filled k kind from kids order rows₀ rows′ n node
-    filled k r = record {
+        → Filled K kind from kids order rows₀ rows′ n node
+    filled K r = record {
       long = x .long;
       under = λ p g q. right-all (has-children (g .tree) (g .is-node) z) (h .walked p g) (written-keeps x (r p g q))
           (written-right x (r p g q));
     }
 
     pub all-filled : AllOfRow kids segment order rows words
-        → Filled all-of kind from kids order rows₀ rows′ n node
-    all-filled r = filled all-of (λ p g. r p node (record { group = group p g; orders = g .orders }))
+        → Filled (λ k. k ≡ all-of) kind from kids order rows₀ rows′ n node
+    all-filled r = filled (λ k. k ≡ all-of) (λ p g. r p node (record { group = group p g; orders = g .orders }))
 
-    pub any-filled : AnyRow kids segment rows words
-        → Filled any-of kind from kids order rows₀ rows′ n node
-    any-filled r = filled any-of (λ p g. r p node (group p g))
+    pub any-filled : {k : ℕ} → k ≡ getD kind node 0 → AnyRow k kids segment rows words
+        → Filled Picks kind from kids order rows₀ rows′ n node
+    any-filled e r = filled Picks (λ p g m. r p node (group p g) m (e ∙ g .kinds .is node (g .is-node)))
 
 -- the tasks below i
 module _ {kind conds rows : List ℕ} where
@@ -157,9 +160,9 @@ module _ {kind conds rows : List ℕ} where
       at p w k c t l n q (no ne) = h .right p w k c t (omega arith) n q
 
 -- all nodes, once the root is worked out
-pub all-nodes : {kind from kids order conds rows rows′ : List ℕ} {n : ℕ} {k : Kind} → TasksFilled kind conds rows n
-    → OfKind kind 0 k
-    → Filled k kind from kids order rows rows′ n 0 → AllFilled kind from kids order conds rows′ n
+pub all-nodes : {kind from kids order conds rows rows′ : List ℕ} {n : ℕ} {K : Kind → Type 0} → TasksFilled kind conds rows n
+    → OfKind kind 0 K
+    → Filled K kind from kids order rows rows′ n 0 → AllFilled kind from kids order conds rows′ n
 all-nodes {kind} {from} {kids} {order} {conds} {rows} {n = n} t is x = record {
   long = x .long;
   right = λ p w r m l. x .under p (given p w r) (is p (r .kinds) (w .root-node)) .right m (under-root p w m l);

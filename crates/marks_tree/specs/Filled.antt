@@ -21,11 +21,11 @@ pub record Given (kind from kids order rows : List ℕ) (n node : ℕ) (p : Plan
   pub is-node : Node p node
   pub tasks : TasksRight p rows
 
--- for every such plan in which the node is of kind k: what was right is right, and so is the row of each node under
--- this one
-pub record Filled (k : Kind) (kind from kids order rows rows′ : List ℕ) (n node : ℕ) : Type 0 where
+-- for every such plan in which the node is of a kind in K: what was right is right, and so is the row of each node
+-- under this one
+pub record Filled (K : Kind → Type 0) (kind from kids order rows rows′ : List ℕ) (n node : ℕ) : Type 0 where
   pub long : length rows′ ≡ 2688
-  pub under : (p : Plan) → Given kind from kids order rows n node p → p .tree .kind node ≡ k
+  pub under : (p : Plan) → Given kind from kids order rows n node p → K (p .tree .kind node)
       → RightUnder p (Right p rows) (Right p rows′) node
 
 -- for every plan that the tables represent, the rows of the tasks

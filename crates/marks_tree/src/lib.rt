@@ -1,8 +1,8 @@
-// The rows of a plan's nodes, by functions for all-of and any-of groups that call each other.
+// The rows of a plan's nodes, by functions that call each other: for all-of groups, and for any-of and optional groups.
 ghost use mathlib.Core.Path.{_≡_};
 ghost use Prim.Native.Nat.{_≤_, _<_};
 ghost use lib.ListN.{length};
-ghost use Rattle.runs.specs.Plan.{all-of, any-of};
+ghost use Rattle.runs.specs.Plan.{all-of, Picks};
 ghost use Rattle.marks_row.specs.Columns.{RowIs};
 ghost use Rattle.marks_row.specs.Segments.{AtSegment};
 ghost use Rattle.marks_row.specs.Tables.{AtGroup};
@@ -10,7 +10,6 @@ ghost use Rattle.marks_tree.specs.Clobbers.{AllOfRow, clobberOf, Ored};
 ghost use Rattle.marks_tree.specs.Filled.{Filled, TasksFilled, AllFilled};
 use base::ALL;
 use base::kinds::ALL_OF;
-use base::kinds::ANY_OF;
 use base::kinds::TASK;
 use base::wide;
 use marks_group::all_words;
@@ -98,7 +97,7 @@ fn all_of(
     node: usize,
 )
     requires { ⌜ AtGroup (now from) (now kids) n node × (length (now rows) ≡ 2688) ⌝ }
-    ensures { λ r. ⌜ Filled all-of (now (kind .entry)) (now (from .entry)) (now (kids .entry)) (now (order .entry))
+    ensures { λ r. ⌜ Filled (λ k. k ≡ all-of) (now (kind .entry)) (now (from .entry)) (now (kids .entry)) (now (order .entry))
         (now (rows .entry)) (now (rows .exit)) n node ⌝ }
 {
     let segment = children(from, node);
@@ -108,7 +107,7 @@ fn all_of(
         let k = kind[child];
         if k == ALL_OF {
             all_of(kind, from, kids, order, rows, n, child);
-        } else if k == ANY_OF {
+        } else if k != TASK {
             any_of(kind, from, kids, order, rows, n, child);
         }
         i += 1;
@@ -117,7 +116,8 @@ fn all_of(
     write_row(rows, node, words);
 }
 
-// Works out the rows of a node and of all under it, those of the tasks excepted, if the node is an any-of group.
+// Works out the rows of a node and of all under it, those of the tasks excepted, if one branch of the node is
+// taken: an any-of or optional group.
 fn any_of(
     kind: &[u8; 128],
     from: &[u8; 129],
@@ -128,7 +128,7 @@ fn any_of(
     node: usize,
 )
     requires { ⌜ AtGroup (now from) (now kids) n node × (length (now rows) ≡ 2688) ⌝ }
-    ensures { λ r. ⌜ Filled any-of (now (kind .entry)) (now (from .entry)) (now (kids .entry)) (now (order .entry))
+    ensures { λ r. ⌜ Filled Picks (now (kind .entry)) (now (from .entry)) (now (kids .entry)) (now (order .entry))
         (now (rows .entry)) (now (rows .exit)) n node ⌝ }
 {
     let segment = children(from, node);
@@ -138,12 +138,12 @@ fn any_of(
         let k = kind[child];
         if k == ALL_OF {
             all_of(kind, from, kids, order, rows, n, child);
-        } else if k == ANY_OF {
+        } else if k != TASK {
             any_of(kind, from, kids, order, rows, n, child);
         }
         i += 1;
     }
-    let words = any_words(kids, segment, rows);
+    let words = any_words(kind[node], kids, segment, rows);
     write_row(rows, node, words);
 }
 
@@ -180,7 +180,7 @@ pub fn node_rows(
     let root = kind[0];
     if root == ALL_OF {
         all_of(kind, from, kids, order, rows, n, 0);
-    } else if root == ANY_OF {
+    } else if root != TASK {
         any_of(kind, from, kids, order, rows, n, 0);
     }
 }

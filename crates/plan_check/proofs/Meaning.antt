@@ -9,7 +9,7 @@ use Prim.Native.Nat.{ℕ, zero, suc, _<_, _≤_}
 use native.Mathlib.Decide.{ℕ-discrete}
 use native.Mathlib.Omega.{arith}
 use lib.Dec.{T, eqb, ltb, leb, ltb→lt, lt→ltb}
-use borrow.Author.Tests.{lt-ltb, eq-eqb, eqb-true, ltb-true, ltb-false, leb-false, not-false}
+use borrow.Author.Tests.{lt-ltb, eq-eqb, ne-eqb, eqb-true, ltb-true, ltb-false, leb-false, not-false}
 use Rattle.plan_codes.proofs.Values.{value-parts}
 use Rattle.plan_codes.specs.Values.{valueOf, flagOf, signOf, placeOf, valueBad}
 use Rattle.plan_format.specs.Format.{nodeCount, condCount, orderCount, flagCount, parentOf, kindOf, minutesOf, condNode}
@@ -19,8 +19,9 @@ use Rattle.plan_rules.specs.Rules.{cause12, isChild, badPair, badOrder, cause13
 use Rattle.runs.specs.Tests.{anyBelow}
 use Rattle.plan_rules.proofs.Laws.{or-none, or-split, and-both, and-three, and-of, none-at, found-at, some-yes}
 use Rattle.plan_rules.proofs.Laws.{not-passed}
-use Rattle.runs.specs.Plan.{task, all-of, Place, inc, post, Accepted, WellFormed, kindNumber, placeNumber, signNumber}
-use Rattle.runs.proofs.Reflect.{true-T, T-true}
+use Rattle.runs.specs.Plan.{task, all-of, any-of, optional, Place, inc, post, Accepted, WellFormed, kindNumber}
+use Rattle.runs.specs.Plan.{placeNumber, signNumber}
+use Rattle.runs.proofs.Reflect.{clash, true-T, T-true}
 use Rattle.runs.proofs.Plan.Accepted.{accepted-well-formed, accepted-rank}
 use Rattle.plan_check.specs.Meaning.{kindAt, conditionIs, hasCondition, signIn, orderIs, hasOrder, planOf}
 use Rattle.plan_check.specs.Meaning.{ConditionPair, OrderPair, Means}
@@ -151,10 +152,14 @@ module _ (b : List ℕ) (x y : ℕ) where
       (simp (eq-eqb _ _ (r .earlier), eq-eqb _ _ (r .later))))
 
 -- ---- nodes
-pub kind-group : (k : ℕ) → (k ≡ 1) ⊎ (k ≡ 2) → kindAt k ≢ task
+pub kind-group : (k : ℕ) → k ≢ 0 → kindAt k ≢ task
 unfolding kindAt
-kind-group k (inl e) q = let z : _≡_ {A = ℕ} 0 1 = cc in omega arith
-kind-group k (inr e) q = let z : _≡_ {A = ℕ} 0 1 = cc in omega arith
+kind-group k n q = apart (eqb k 1) (eqb k 2) (rw (ne-eqb k 0 n) at q)
+  where
+    apart : (x y : Bool) → cond x all-of (cond y any-of optional) ≡ task → ⊥
+    apart true y q = clash cc
+    apart false true q = clash cc
+    apart false false q = clash cc
 
 pub kind-task : (k : ℕ) → k ≡ 0 → kindAt k ≡ task
 unfolding kindAt
@@ -164,12 +169,13 @@ pub kind-all-of : (k : ℕ) → k ≡ 1 → kindAt k ≡ all-of
 unfolding kindAt
 kind-all-of k e = rw e
 
-kind-number : (k : ℕ) → k ≤ 2 → kindNumber (kindAt k) ≡ k
+pub kind-number : (k : ℕ) → k ≤ 3 → kindNumber (kindAt k) ≡ k
 unfolding kindAt
 kind-number zero l = refl
 kind-number (suc zero) l = refl
 kind-number (suc (suc zero)) l = refl
-kind-number (suc (suc (suc k))) l = absurd (omega arith)
+kind-number (suc (suc (suc zero))) l = refl
+kind-number (suc (suc (suc (suc k)))) l = absurd (omega arith)
 
 pub kind-is : (b : List ℕ) (n k : ℕ) → isKind b n k ≡ true → (n < nodeCount b) × (kindOf b n ≡ k)
 unfolding isKind
@@ -180,10 +186,14 @@ pub kind-of : (b : List ℕ) (n k : ℕ) → n < nodeCount b → kindOf b n ≡ 
 unfolding isKind
 kind-of b n k l e = and-of (ltb n (nodeCount b)) (eqb (kindOf b n) k) (lt-ltb _ _ l) (eq-eqb _ _ e)
 
-pub group-is : (b : List ℕ) (n : ℕ) → isGroup b n ≡ true → (kindOf b n ≡ 1) ⊎ (kindOf b n ≡ 2)
+pub group-is : (b : List ℕ) (n : ℕ) → isGroup b n ≡ true → kindOf b n ≢ 0
 unfolding isGroup
-group-is b n h = ⊎-elim (λ x. inl (kind-is b n 1 x .1)) (λ x. inr (kind-is b n 2 x .1))
-    (or-split (isKind b n 1) (isKind b n 2) h)
+group-is b n h z =
+    ⊎-elim
+    (λ x. ⊎-elim (λ y. omega (arith, kind-is b n 1 y .1)) (λ y. omega (arith, kind-is b n 2 y .1))
+    (or-split (isKind b n 1) (isKind b n 2) x))
+    (λ x. omega (arith, kind-is b n 3 x .1))
+    (or-split (isKind b n 1 || isKind b n 2) (isKind b n 3) h)
 
 pub child-is : (b : List ℕ) (g n : ℕ) → isChild b g n ≡ true → (0 < n) × (n < nodeCount b) × (parentOf b n ≡ g)
 unfolding isChild
@@ -194,20 +204,22 @@ child-is b g n h =
 -- ---- accepted bytes
 module _ (b : List ℕ) (c : Clean b) where
   -- 6
-  pub kind-limit : (n : ℕ) → n < nodeCount b → kindOf b n ≤ 2
+  pub kind-limit : (n : ℕ) → n < nodeCount b → kindOf b n ≤ 3
   unfolding cause6 badEntry
   kind-limit n l =
-      let w = or-none (ltb 2 (kindOf b n) || (isGroup b n && ltb 0 (minutesOf b n)))
+      let w = or-none (ltb 3 (kindOf b n) || (isGroup b n && ltb 0 (minutesOf b n)))
       (isKind b n 0 && ltb 10080 (minutesOf b n)) (none-at (nodeCount b) (badEntry b) (c .entries) n l) in
-      ltb-false 2 (kindOf b n) (or-none (ltb 2 (kindOf b n)) (isGroup b n && ltb 0 (minutesOf b n)) (w .0) .0)
+      ltb-false 3 (kindOf b n) (or-none (ltb 3 (kindOf b n)) (isGroup b n && ltb 0 (minutesOf b n)) (w .0) .0)
 
   pub group-of : (n : ℕ) → n < nodeCount b → kindAt (kindOf b n) ≢ task → isGroup b n ≡ true
   unfolding isGroup
   group-of n l h =
       by-cases (ℕ-discrete (kindOf b n) 1) (λ (e : kindOf b n ≡ 1). rw (kind-of b n 1 l e))
-      (λ e.
+      (λ e. by-cases (ℕ-discrete (kindOf b n) 2)
+      (λ (q : kindOf b n ≡ 2). rw (kind-of b n 2 l q, or-true (isKind b n 1)))
+      (λ q.
       let o : kindOf b n ≡ 0 → ⊥ = λ z. h (kind-task (kindOf b n) z) in
-      rw (kind-of b n 2 l (omega (arith, kind-limit n l))) (or-true (isKind b n 1)))
+      rw (kind-of b n 3 l (omega (arith, kind-limit n l))) (or-true (isKind b n 1 || isKind b n 2))))
 
   -- 8
   pub child-of : (g : ℕ) → g < nodeCount b → isGroup b g ≡ true

@@ -10,11 +10,12 @@ use Rattle.plan_codes.specs.Values.{valueOf, flagOf, signOf, placeOf}
 use Rattle.plan_format.specs.Format.{nodeCount, condCount, orderCount, flagCount, parentOf, kindOf, condNode, condValue}
 use Rattle.plan_format.specs.Format.{earlierOf, laterOf, startFlag}
 use Rattle.runs.specs.Tests.{anyBelow}
-use Rattle.runs.specs.Plan.{Kind, task, all-of, any-of, Place, Plan, Accepted, kindNumber, placeNumber, signNumber}
+use Rattle.runs.specs.Plan.{Kind, task, all-of, any-of, optional, Place, Plan, Accepted, kindNumber, placeNumber}
+use Rattle.runs.specs.Plan.{signNumber}
 
 -- the kind of a number
 unfoldable pub kindAt : ℕ → Kind
-kindAt k = cond (eqb k 0) task (cond (eqb k 1) all-of any-of)
+kindAt k = cond (eqb k 0) task (cond (eqb k 1) all-of (cond (eqb k 2) any-of optional))
 
 -- condition i is of task t, at place p, on flag f, with sign s
 unfoldable pub conditionIs : List ℕ → ℕ → ℕ → ℕ → ℕ → ℕ → Bool

@@ -1,4 +1,5 @@
--- Refusals of small plans (01: trial books), computed. Most rows change single bytes of book B. Assumes nothing.
+-- Refusals of small plans (01: trial books), computed. Most rows change single bytes of book B; in some its choice is an
+-- optional group, of kind 3 (02). Assumes nothing.
 use mathlib.Core.Path.{_≡_, refl}
 use mathlib.Core.Bool.{Bool, true, _&&_}
 use mathlib.Core.List.{List, [], _∷_, _++_}
@@ -51,11 +52,13 @@ rows =
     ∷ row (bare 97 39) 6
     ∷ row (set planB 8 4) 4
     ∷ row (set planB 16 97) 5
-    ∷ row (set planB 45 3) 6
+    ∷ row (set planB 45 3) 0
+    ∷ row (set planB 45 4) 6
     ∷ row (set planB 46 1) 6
     ∷ row (set planB 36 0) 7
     ∷ row (set planB 48 1) 7
     ∷ row (set (set planB 48 0) 52 0) 8
+    ∷ row (set (set (set planB 45 3) 48 0) 52 0) 8
     ∷ row (set planB 56 0) 9
     ∷ row (set planB 69 2) 9
     ∷ row (set planB 64 192) 10
@@ -64,6 +67,7 @@ rows =
     ∷ row (set planB 80 0) 13
     ∷ row (set planB 81 3) 13
     ∷ row (set planB 81 5) 13
+    ∷ row (set (set (set planB 45 3) 80 3) 81 4) 13
     ∷ row (set (set planB 4 2) 81 1 ++ (2 ∷ 2 ∷ [])) 14
     ∷ []
 

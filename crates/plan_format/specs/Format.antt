@@ -45,7 +45,7 @@ entryAt b n = 16 + 4 * nodeCount b + 4 * n
 unfoldable pub parentOf : List ℕ → ℕ → ℕ
 parentOf b n = getD b (entryAt b n) 0
 
--- 0 task, 1 all-of, 2 any-of
+-- 0 task, 1 all-of, 2 any-of; 02: 3 optional (02's perhaps group)
 unfoldable pub kindOf : List ℕ → ℕ → ℕ
 kindOf b n = getD b (entryAt b n + 1) 0
 
@@ -71,7 +71,11 @@ unfoldable pub isKind : List ℕ → ℕ → ℕ → Bool
 isKind b n k = ltb n (nodeCount b) && eqb (kindOf b n) k
 
 unfoldable pub isGroup : List ℕ → ℕ → Bool
-isGroup b n = isKind b n 1 || isKind b n 2
+isGroup b n = isKind b n 1 || isKind b n 2 || isKind b n 3
+
+-- a group of which one branch is taken
+unfoldable pub isChoice : List ℕ → ℕ → Bool
+isChoice b n = isKind b n 2 || isKind b n 3
 
 -- the sizes are within their limits
 pub record Limits (b : List ℕ) : Type 0 where

@@ -1,6 +1,7 @@
 // The fields of a plan by position.
 use base::kinds::ALL_OF;
 use base::kinds::ANY_OF;
+use base::kinds::OPTIONAL;
 ghost use mathlib.Core.Path.{_≡_};
 ghost use Prim.Native.Nat.{_+_, _*_, _<_, _≤_};
 ghost use lib.ListN.{length};
@@ -144,5 +145,9 @@ pub fn is_group(plan: &[u8], n: usize) -> bool
     requires { ⌜ Whole (now plan) ⌝ }
     ensures { λ r. ⌜ r ≡ isGroup (now (plan .entry)) n ⌝ }
 {
-    is_kind(plan, n, ALL_OF) | is_kind(plan, n, ANY_OF)
+    if n < nodes(plan) {
+        let k = kind(plan, n);
+        return (k == ALL_OF) | (k == ANY_OF) | (k == OPTIONAL);
+    }
+    false
 }

@@ -39,9 +39,9 @@ badChar b k = not (nameAllowed (nameChar b k))
 unfoldable pub cause5 : List ℕ → Bool
 cause5 b = anyBelow (4 * nodeCount b) (badChar b)
 
--- kind over 2; group with minutes; task over 10,080 minutes
+-- kind over 3 (01: over 2; 02 lets kind 3 pass); group with minutes; task over 10,080 minutes
 unfoldable pub badEntry : List ℕ → ℕ → Bool
-badEntry b n = (ltb 2 (kindOf b n) || (isGroup b n && ltb 0 (minutesOf b n))) ||
+badEntry b n = (ltb 3 (kindOf b n) || (isGroup b n && ltb 0 (minutesOf b n))) ||
     (isKind b n 0 && ltb 10080 (minutesOf b n))
 
 unfoldable pub cause6 : List ℕ → Bool

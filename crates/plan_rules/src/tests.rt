@@ -1,6 +1,6 @@
 // The tests of single flags, characters, nodes, conditions and orders.
 use base::kinds::ALL_OF;
-use base::kinds::ANY_OF;
+use base::kinds::OPTIONAL;
 use base::kinds::TASK;
 use base::wide;
 use plan_codes::names::allowed;
@@ -44,7 +44,7 @@ pub fn bad_entry(plan: &[u8], n: usize) -> bool
     ensures { λ r. ⌜ r ≡ badEntry (now (plan .entry)) n ⌝ }
 {
     let m = minutes(plan, n);
-    ((ANY_OF < kind(plan, n)) | (is_group(plan, n) & (0 < m)))
+    ((OPTIONAL < kind(plan, n)) | (is_group(plan, n) & (0 < m)))
         | (is_kind(plan, n, TASK) & (10080 < m))
 }
 

@@ -1,7 +1,7 @@
 -- What lists keep: a state's length, its bytes from 8 + 3N on, and that its flags are bytes; and the bytes of a state
 -- by what it shows. Assumes nothing.
-use mathlib.Core.Path.{_≡_, refl, sym, ap, _∙_}
-use mathlib.Core.Logic.{by-cases, ⊎-elim}
+use mathlib.Core.Path.{_≡_, sym, ap, _∙_}
+use mathlib.Core.Logic.{by-cases, inl, inr, ⊎-elim}
 use mathlib.Core.Bool.{true, false}
 use mathlib.Core.List.{List}
 use Prim.Native.Nat.{ℕ, _+_, _-_, _*_, _/_, _%_, _<_, _≤_}
@@ -9,30 +9,29 @@ use native.Mathlib.Decide.{ℕ-discrete, decLt}
 use native.Mathlib.Omega.{arith}
 use lib.ListN.{length, getD, take, List·getD-eq-default}
 use lib.Seq.{ext-getD, getD-take, length-take-le}
-use borrow.Author.Tests.{eq-eqb, ne-eqb, eqb-true, not-false, lt-ltb, le-ltb}
+use borrow.Author.Tests.{eq-eqb, ne-eqb, lt-ltb, le-ltb}
 use Rattle.plan_format.specs.Format.{u16At, nodeCount, isKind}
 use Rattle.plan_rules.proofs.Laws.{either}
 use Rattle.runs.specs.Plan.{placeNumber}
-use Rattle.plan_check.proofs.Meaning.{kind-is}
 use Rattle.runs.specs.Execution.{Event, nodeOf, statusOf}
 use Rattle.runs.specs.Calls.{statusByte}
 use Rattle.run_starts.specs.Starts.{nodeByte, ordinalAt, ordinalIn, startedIn}
-use Rattle.run_state.specs.State.{badByte, roomRefusal, stateRefusal, statusIn, ordinalShown, worldOf}
+use Rattle.run_state.specs.State.{roomRefusal, stateRefusal, moves, ordinalShown, worldOf}
 use Rattle.run_state.specs.Fresh.{freshByte, freshState}
 use Rattle.base.specs.Answers.{overlay}
 use Rattle.run_state.proofs.Refused.{roomy}
 use Rattle.base.proofs.Overlay.{length-overlay, at-overlay, past-overlay}
 use Rattle.run_state.proofs.Left.{fresh-accepted}
-use Rattle.run_state.proofs.Passed.{status-back, has-room, is-well, byte-small}
+use Rattle.run_state.proofs.Passed.{has-room, is-well, byte-rests, byte-optional, byte-shown}
 use Rattle.run_starts.proofs.Numbers.{unstarted-none, ordinal-small}
 use Rattle.run_refusals.specs.Events.{eventPlace, eventRefusal}
-use Rattle.run_refusals.proofs.Chain.{answer-task}
-use Rattle.run_monitor.specs.Events.{afterEvent, eventState}
+use Rattle.run_refusals.proofs.Chain.{accepted-kind}
+use Rattle.run_monitor.specs.Events.{eventState}
 use Rattle.run_monitor.proofs.Equations.{refused-22, accepted}
 use Rattle.run_monitor.proofs.Written.{byte-flags}
-use Rattle.run_monitor.proofs.After.{after-length, after-past, after-flags}
+use Rattle.run_monitor.proofs.After.{Fit, after, inside, after-length, after-past, after-flags, event-written}
 use Rattle.run_calls.specs.Shown.{numberByte, shownByte}
-use Rattle.run_calls.specs.Demand3.{Bytes}
+use Rattle.run_calls.specs.Demand3.{Bytes, GroupByte}
 use Rattle.run_calls.proofs.Bytes.{flag-byte, made-small}
 
 pub record Kept (b s z : List ℕ) : Type 0 where
@@ -63,7 +62,7 @@ module _ (b s z : List ℕ) (ok : stateRefusal b z ≡ 0) (h : Kept b s z) (e : 
       (λ (l : i < 8). rw (getD-take 8 z i 0 l) (h .small i l))
       (λ l. rw (List·getD-eq-default (take 8 z) 0 {n = i} (omega (arith, eight-long))) (omega arith))
 
-  written-kept : isKind b (nodeOf e) 0 ≡ true → Kept b s (afterEvent b z e)
+  written-kept : (y : Fit b e) → Kept b s (after b z ok e y)
   written-kept y =
       let k = eventPlace e in
       record {
@@ -71,7 +70,7 @@ module _ (b s z : List ℕ) (ok : stateRefusal b z ≡ 0) (h : Kept b s z) (e : 
         later = λ j m. after-past b z ok e y j m ∙ h .later j m;
         small = λ j m. rw (
           after-flags b z ok e y j m,
-          byte-flags b z ok k (nodeOf e) (statusByte (statusOf e)) y j m,
+          byte-flags b z ok k (nodeOf e) (statusByte (statusOf e)) (inside b z ok e y) j m,
         )
             (made-small b (placeNumber k) (nodeOf e) (take 8 z) (omega (arith, eight-long)) first-small j);
       }
@@ -79,7 +78,8 @@ module _ (b s z : List ℕ) (ok : stateRefusal b z ≡ 0) (h : Kept b s z) (e : 
   pub event-kept : Kept b s (eventState b z e)
   event-kept =
       by-cases (ℕ-discrete (eventRefusal b z e) 0)
-      (λ w. rw (sym (accepted b z e ok w .1)) (written-kept (answer-task b z ok (nodeOf e) e refl w)))
+      (λ w. let y = accepted-kind b z ok e w in
+      rw (sym (accepted b z e ok w .1) ∙ event-written b z ok e y) (written-kept y))
       (λ n. rw (sym (refused-22 b z e ok n .1)) h)
 
 -- ---- the bytes of a state are those of what it shows
@@ -88,21 +88,17 @@ low-byte : (x y : ℕ) → x + 256 * y ≤ 128 → ((x + 256 * y) % 256 ≡ x) �
 low-byte x y l = (omega arith, omega arith)
 
 module _ (b s z : List ℕ) (ok : stateRefusal b z ≡ 0) (h : Kept b s z) where
-  group-byte : (n : ℕ) → n < nodeCount b → isKind b n 0 ≡ false → nodeByte z n ≡ 0
-  unfolding badByte
-  group-byte n l y = eqb-true (nodeByte z n) 0 (not-false _ (rw y at (is-well b z ok .bytes n l)))
+  group-byte : (n : ℕ) → n < nodeCount b → isKind b n 0 ≡ false → GroupByte b z n
+  unfolding moves
+  group-byte n l y =
+      ⊎-elim
+      (λ (o : isKind b n 3 ≡ true). ⊎-elim (λ q. inl q) (λ q. inr (o, q)) (byte-optional b z ok n l o))
+      (λ (o : isKind b n 3 ≡ false). inl (byte-rests b z ok n l (rw (y, o))))
+      (either (isKind b n 3))
 
-  pub group-none : (n : ℕ) → n < nodeCount b → isKind b n 0 ≡ false → (nodeByte z n ≡ 0) × (ordinalIn b z n ≡ 0)
+  pub group-none : (n : ℕ) → n < nodeCount b → isKind b n 0 ≡ false → GroupByte b z n × (ordinalIn b z n ≡ 0)
   unfolding startedIn
   group-none n l y = (group-byte n l y, unstarted-none b z (is-well b z ok .numbers) n l (rw y))
-
-  status-byte : (n : ℕ) → n < nodeCount b → statusByte (statusIn b z n) ≡ nodeByte z n
-  unfolding statusIn
-  status-byte n l =
-      ⊎-elim
-      (λ (y : isKind b n 0 ≡ true). rw y (status-back (nodeByte z n) (byte-small b z ok n l (kind-is b n 0 y .1))))
-      (λ (y : isKind b n 0 ≡ false). rw (y, group-byte n l y))
-      (either (isKind b n 0))
 
   -- the two bytes of an ordinal
   number-byte : (k : ℕ) → 8 + nodeCount b ≤ k → k < 8 + 3 * nodeCount b
@@ -131,7 +127,7 @@ module _ (b s z : List ℕ) (ok : stateRefusal b z ≡ 0) (h : Kept b s z) where
       (λ m. rw (le-ltb k 8 (omega arith))
       (by-cases (decLt k (8 + nodeCount b))
       (λ (j : k < 8 + nodeCount b). let q : 8 + (k - 8) ≡ k = omega arith in
-      rw (lt-ltb k (8 + nodeCount b) j) (rw q at (status-byte (k - 8) (omega arith))))
+      rw (lt-ltb k (8 + nodeCount b) j) (rw q at (byte-shown b z ok (k - 8) (omega arith))))
       (λ j. rw (le-ltb k (8 + nodeCount b) (omega arith)) (number-byte k (omega arith) l))))
 
   pub shown-is : z ≡ overlay (shownByte (nodeCount b) (worldOf b z)) (8 + 3 * nodeCount b) s

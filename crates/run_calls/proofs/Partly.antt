@@ -1,6 +1,5 @@
 -- The laws of `replay`: a list is made call by call, and the claim about lists holds of what was made. Assumes nothing.
 use mathlib.Core.Path.{_≡_, refl, sym, ap, _∙_}
-use mathlib.Core.Bool.{Bool, false, cond}
 use mathlib.Core.List.{List, [], _∷_, _++_, append-assoc}
 use Prim.Native.Nat.{ℕ, zero, suc, _+_, _*_, _<_, _≤_, min}
 use native.Mathlib.Numerals.{add-one}
@@ -12,7 +11,7 @@ use borrow.Author.Tests.{ne-eqb}
 use Rattle.base.specs.Answers.{overlay}
 use Rattle.plan_format.specs.Format.{nodeCount}
 use Rattle.plan_check.specs.Meaning.{planOf}
-use Rattle.runs.specs.Execution.{Event, start, finish}
+use Rattle.runs.specs.Execution.{Event, start}
 use Rattle.runs.specs.Calls.{Call, one, World}
 use Rattle.runs.specs.Model.Monitor.{returns}
 use Rattle.runs.proofs.Calls.First.{worked-only}
@@ -23,11 +22,11 @@ use Rattle.run_monitor.specs.Events.{Called}
 use Rattle.run_calls.specs.Shown.{shownByte}
 use Rattle.run_calls.specs.Lists.{Calls, no-calls, next-call, Listed}
 use Rattle.run_calls.specs.Demand3.{Bytes}
-use Rattle.run_calls.specs.Replay.{callsOf, listReturns, listState, Ran}
+use Rattle.run_calls.specs.Replay.{eventFor, callsOf, listReturns, listState, Ran}
 use Rattle.run_calls.proofs.Followed.{calls-append, list-follows}
 
 -- ---- the calls of the slices
-pub calls-length : (ks : List Bool) (ts out : List ℕ)
+pub calls-length : (ks ts out : List ℕ)
     → length (callsOf ks ts out) ≡ min (length ks) (min (length ts) (length out))
 unfolding callsOf
 calls-length [] ts out = omega arith
@@ -35,9 +34,8 @@ calls-length (k ∷ ks) [] out = omega arith
 calls-length (k ∷ ks) (t ∷ ts) [] = omega arith
 calls-length (k ∷ ks) (t ∷ ts) (x ∷ out) = omega (arith, calls-length ks ts out)
 
-pub calls-at : (ks : List Bool) (ts out : List ℕ) (i : ℕ) → i < length (callsOf ks ts out)
-    → getD (callsOf ks ts out) i (one (start 0))
-    ≡ one (cond (getD ks i false) (finish (getD ts i 0)) (start (getD ts i 0)))
+pub calls-at : (ks ts out : List ℕ) (i : ℕ) → i < length (callsOf ks ts out)
+    → getD (callsOf ks ts out) i (one (start 0)) ≡ one (eventFor (getD ks i 0) (getD ts i 0))
 unfolding callsOf
 calls-at [] ts out i l = absurd (not-suc-le-zero l)
 calls-at (k ∷ ks) [] out i l = absurd (not-suc-le-zero l)

@@ -1,11 +1,11 @@
 -- Demand 3 over bytes: one claim over every accepted plan and over whole lists of calls with any numbers, refused calls
 -- anywhere among them, on any bytes that have room for a state.
--- Its hypotheses are the relations that `fresh`, `start`, `finish`, `assess` and `status` promise; what it says comes
--- from the plan and the calls alone.
+-- Its hypotheses are the relations that `fresh`, `start`, `finish`, `skip`, `assess` and `status` promise; what it says
+-- comes from the plan and the calls alone.
 use Prim.Native.Nat.{ℕ, suc, _+_, _*_, _≤_, _<_}
 use mathlib.Core.Path.{_≡_}
-use mathlib.Core.Logic.{_≢_, _↔_, inr}
-use mathlib.Core.Bool.{false}
+use mathlib.Core.Logic.{_≢_, _⊎_, _↔_, inr}
+use mathlib.Core.Bool.{true, false}
 use mathlib.Core.List.{List, [], _∷_, _++_, List·Memᴰ as Among}
 use lib.ListN.{length, getD}
 use Rattle.plan_format.specs.Format.{nodeCount, isKind}
@@ -29,13 +29,17 @@ use Rattle.run_calls.specs.Lists.{Calls, Listed}
 abbrev pub Bytes : List ℕ → Type 0
 Bytes b = (i : ℕ) → getD b i 0 < 256
 
--- the bytes z show the states a: they pass all checks, the first 8 + 3N are those of a, with 0 at each group, and each
--- later byte is as it was in s, before fresh
+-- the byte of the group g is 0, or, once an optional group is skipped, 2
+abbrev pub GroupByte : List ℕ → List ℕ → ℕ → Type 0
+GroupByte b z g = (nodeByte z g ≡ 0) ⊎ ((isKind b g 3 ≡ true) × (nodeByte z g ≡ 2))
+
+-- the bytes z show the states a: they pass all checks, the first 8 + 3N are those of a, with 0 at each group that is not
+-- skipped, and each later byte is as it was in s, before fresh
 pub record Shows (b s : List ℕ) (a : World) (z : List ℕ) : Type 0 where
   pub well-formed : stateRefusal b z ≡ 0
   pub states : worldOf b z ≡ a
   pub bytes : z ≡ overlay (shownByte (nodeCount b) a) (8 + 3 * nodeCount b) s
-  pub groups : (g : ℕ) → g < nodeCount b → isKind b g 0 ≡ false → (nodeByte z g ≡ 0) × (ordinalIn b z g ≡ 0)
+  pub groups : (g : ℕ) → g < nodeCount b → isKind b g 0 ≡ false → GroupByte b z g × (ordinalIn b z g ≡ 0)
 
 -- a list of calls returned what 01 works out from the plan and the calls, and the bytes after it show the states worked
 -- out

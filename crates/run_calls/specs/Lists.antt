@@ -1,4 +1,4 @@
--- A list of start and finish calls on one plan, by the relations that the calls promise.
+-- A list of start, finish and skip calls on one plan, by the relations that the calls promise.
 use Prim.Native.Nat.{ℕ}
 use mathlib.Core.List.{List, [], _∷_}
 use Rattle.runs.specs.Execution.{Event}

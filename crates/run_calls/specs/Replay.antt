@@ -1,14 +1,14 @@
 -- What `replay` returns and leaves: it makes fresh and then a list of calls.
 use Prim.Native.Nat.{ℕ, _+_, _*_}
 use mathlib.Core.Path.{_≡_}
-use mathlib.Core.Bool.{Bool, cond}
+use mathlib.Core.Bool.{cond}
 use mathlib.Core.List.{List, [], _∷_, _++_}
 use lib.ListN.{length, drop}
 use lib.Dec.{eqb}
 use Rattle.base.specs.Answers.{overlay}
 use Rattle.plan_format.specs.Format.{nodeCount}
 use Rattle.plan_check.specs.Meaning.{planOf, startOf}
-use Rattle.runs.specs.Execution.{start, finish}
+use Rattle.runs.specs.Execution.{Event, start, finish, skip}
 use Rattle.runs.specs.Calls.{Call, one, fresh}
 use Rattle.runs.specs.Model.Monitor.{returns, states}
 use Rattle.run_state.specs.State.{roomRefusal}
@@ -16,12 +16,16 @@ use Rattle.run_calls.specs.Shown.{shownByte}
 use Rattle.run_calls.specs.Lists.{Listed}
 use Rattle.run_calls.specs.Demand3.{Follows}
 
--- the calls that the slices give, as many as all three have: whether it finishes, its task, room for its return
-unfoldable pub callsOf : List Bool → List ℕ → List ℕ → List Call
-callsOf [] ts out = []
+-- the event of a code: 0 start, 1 finish, another number skip
+unfoldable pub eventFor : ℕ → ℕ → Event
+eventFor k n = cond (eqb k 0) (start n) (cond (eqb k 1) (finish n) (skip n))
+
+-- the calls that the slices give, as many as all three have: a code, a node, room for the return
+unfoldable pub callsOf : List ℕ → List ℕ → List ℕ → List Call
+callsOf [] ns out = []
 callsOf (k ∷ ks) [] out = []
-callsOf (k ∷ ks) (t ∷ ts) [] = []
-callsOf (k ∷ ks) (t ∷ ts) (x ∷ out) = one (cond k (finish t) (start t)) ∷ callsOf ks ts out
+callsOf (k ∷ ks) (n ∷ ns) [] = []
+callsOf (k ∷ ks) (n ∷ ns) (x ∷ out) = one (eventFor k n) ∷ callsOf ks ns out
 
 -- from the plan and the calls alone: what the calls return, and the state after them in the bytes s
 unfoldable pub listReturns : List ℕ → List Call → List ℕ
@@ -40,5 +44,5 @@ pub record Ran (b s out : List ℕ) (cs : List Call) (r : ℕ) (s′ out′ : Li
   pub listed : r ≡ 0 → Listed b s cs (listReturns b cs) s′
   pub follows : r ≡ 0 → Follows b s cs (listReturns b cs) s′
 
-abbrev pub Replayed : List ℕ → List Bool → List ℕ → List ℕ → List ℕ → ℕ → List ℕ → List ℕ → Type 0
-Replayed b ks ts s out r s′ out′ = Ran b s out (callsOf ks ts out) r s′ out′
+abbrev pub Replayed : List ℕ → List ℕ → List ℕ → List ℕ → List ℕ → ℕ → List ℕ → List ℕ → Type 0
+Replayed b ks ns s out r s′ out′ = Ran b s out (callsOf ks ns out) r s′ out′

@@ -1,5 +1,5 @@
--- The bytes of a state that shows given states: eight bytes of flags, then 0 waiting, 1 running or 2 done for each
--- node, then for each node the ordinal of its start in two bytes, the low one first.
+-- The bytes of a state that shows given states: eight bytes of flags, then 0 waiting, 1 running or 2 done (an optional
+-- group: skipped) for each node, then for each node the ordinal of its start in two bytes, the low one first.
 use Prim.Native.Nat.{ℕ, _+_, _-_, _*_, _/_, _%_}
 use mathlib.Core.Bool.{Bool, cond}
 use lib.Dec.{eqb, ltb}

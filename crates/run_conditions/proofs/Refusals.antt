@@ -123,7 +123,7 @@ module _ (b s : List ℕ) (ok : stateRefusal b s ≡ 0) (t : ℕ) where
           on = f;
           sign = v;
           another = λ z. eqb-false (condNode b i) t (not-true _ (x1 .1)) (sym z ∙ of);
-          runs = byte-is b s ok (condNode b i) (n .0) (n .1) running .0 (eqb-true _ _ (x2 .1));
+          runs = byte-is b s ok (condNode b i) (n .0) running .0 (eqb-true _ _ (x2 .1));
           holds = sign-at b accepted inc (condNode b i) i (w .1) (x1 .0);
           breaks = turned v (asserts (planOf b) e f)
               (sym (after-flag v f (flag-small (condValue b i)))
@@ -147,7 +147,7 @@ module _ (b s : List ℕ) (ok : stateRefusal b s ≡ 0) (t : ℕ) where
         (and-of (isOf b 1 (condNode b i) i) (not (eqb (condNode b i) t)) (is-of b 1 (condNode b i) i refl (d .1))
         (rw (ne-eqb (condNode b i) t (λ z. x .another (of ∙ sym z ∙ d .0)))))
         (eq-eqb (nodeByte s (condNode b i)) 1
-        (byte-is b s ok (condNode b i) (n .0) (n .1) running .1 (ap (statusIn b s) (d .0) ∙ x .runs))))
+        (byte-is b s ok (condNode b i) (n .0) running .1 (ap (statusIn b s) (d .0) ∙ x .runs))))
         (differs v (flagIn (cond v (after true) (after false)) f)
         (after-flag v f (flag-small (condValue b i)) ∙ ap (λ (z : ℕ). Option·getD (asserts (planOf b) e z) v) (w .flag)
         ∙ ap (λ (o : Option Bool). Option·getD o v) (x .breaks) ∙ ap not (sym (w .sign))))))

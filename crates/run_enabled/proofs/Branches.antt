@@ -1,28 +1,32 @@
 -- Refusal 19 by the numbers of begun branches along the way up. Assumes nothing.
-use mathlib.Core.Path.{_≡_, refl, sym, ap, _∙_}
-use mathlib.Core.Logic.{⊎-elim}
-use mathlib.Core.Bool.{Bool, true, false, not, _&&_, true≢false}
+use mathlib.Core.Path.{_≡_, sym, ap, _∙_}
+use mathlib.Core.Logic.{_⊎_, inl, inr, ⊎-elim}
+use mathlib.Core.Bool.{Bool, true, false, not, _&&_, _||_, true≢false, or-true}
 use mathlib.Core.List.{List}
-use Prim.Native.Nat.{ℕ, zero, suc, _+_, _<_, _≤_}
+use Prim.Native.Nat.{ℕ, _+_, _<_}
 use native.Mathlib.Omega.{arith}
 use lib.Dec.{eqb, ltb}
-use borrow.Author.Tests.{eqb-false, ne-eqb, lt-ltb, ltb-true, not-true}
+use borrow.Author.Tests.{eqb-true, eqb-false, eq-eqb, ne-eqb, lt-ltb, ltb-true, not-true}
 use Rattle.plan_format.specs.Format.{nodeCount, parentOf, kindOf, isKind}
 use Rattle.plan_rules.specs.Rules.{isChild}
-use Rattle.plan_rules.proofs.Laws.{and-both, and-of, not-passed}
-use Rattle.plan_check.specs.Meaning.{planOf, kindAt}
-use Rattle.plan_check.proofs.Meaning.{kind-is, kind-of, kind-limit}
-use Rattle.plan_check.proofs.Nodes.{kind-any-of, is-child, child-test, is-node, node-is, plan-kind}
+use Rattle.plan_rules.proofs.Laws.{and-both, and-of, not-passed, or-split}
+use Rattle.plan_rules.proofs.Causes.{parent-group}
+use Rattle.plan_check.specs.Meaning.{planOf}
+use Rattle.plan_check.proofs.Accepted.{Clean}
+use Rattle.plan_check.proofs.Meaning.{kind-is, group-is}
+use Rattle.plan_check.proofs.Nodes.{is-child, child-test, is-node, node-is, plan-kind, other-kind, kind-choice}
+use Rattle.plan_check.proofs.Nodes.{choice-kind}
 use Rattle.runs.specs.Plan.{Picks, Child, Under}
-use Rattle.runs.specs.Execution.{start, Begun, Rival, by-branch}
+use Rattle.runs.specs.Execution.{done, start, Begun, Rival, by-branch, by-skip}
 use Rattle.runs.specs.Calls.{one, branch-begun, BranchBegun}
 use Rattle.runs.specs.Model.Monitor.{begunB, branchBegunB, appliesB}
 use Rattle.runs.proofs.Reflect.{Reflects, true-T, T-true}
 use Rattle.runs.proofs.Plan.Trees.{under-le, child-lt}
-use Rattle.runs.proofs.Execution.Completeness.{picks-any}
+use Rattle.runs.proofs.Execution.Completeness.{picks-moves, done-moved}
 use Rattle.runs.proofs.Calls.Reflect.{r-begun, r-applies}
+use Rattle.run_starts.specs.Starts.{nodeByte}
 use Rattle.run_state.specs.State.{stateRefusal, statusIn, worldOf}
-use Rattle.run_state.proofs.Passed.{has-room, well-formed}
+use Rattle.run_state.proofs.Passed.{has-room, well-formed, byte-is, shown-moves}
 use Rattle.base.specs.Count.{num, countBelow}
 use Rattle.run_progress.specs.Progress.{countedAt, countedChild, childrenCounted}
 use Rattle.run_progress.specs.declared.Tally.the-variants as tallies
@@ -30,26 +34,19 @@ use Rattle.base.proofs.Count.{some-counted, counted-some, count-others}
 use Rattle.run_enabled.specs.Enabling.{rivalAt}
 use Rattle.run_enabled.proofs.Marks.{up-or-here}
 
-two : (k : ℕ) → k ≤ 2 → Picks (kindAt k) → k ≡ 2
-unfolding kindAt
-two zero l x = absurd x
-two (suc zero) l x = absurd x
-two (suc (suc zero)) l x = refl
-two (suc (suc (suc k))) l x = absurd (omega arith)
-
 -- the test, by what the function has at hand
 module _ (b s : List ℕ) (g n : ℕ) where
-  pub own-begun : (x : ℕ) → isKind b g 2 ≡ true → begunB (planOf b) (statusIn b s) n ≡ true
-      → x ≡ childrenCounted tallies.Begun b s g → ltb 1 x ≡ rivalAt b s g n
+  pub own-begun : (x : ℕ) → isKind b g 1 ≡ false → begunB (planOf b) (statusIn b s) n ≡ true
+      → x ≡ childrenCounted tallies.Begun b s g → (eqb (nodeByte s g) 2 || ltb 1 x) ≡ rivalAt b s g n
   unfolding rivalAt
   own-begun x y z e = rw (y, z, e)
 
-  pub own-waits : (x : ℕ) → isKind b g 2 ≡ true → begunB (planOf b) (statusIn b s) n ≡ false
-      → x ≡ childrenCounted tallies.Begun b s g → ltb 0 x ≡ rivalAt b s g n
+  pub own-waits : (x : ℕ) → isKind b g 1 ≡ false → begunB (planOf b) (statusIn b s) n ≡ false
+      → x ≡ childrenCounted tallies.Begun b s g → (eqb (nodeByte s g) 2 || ltb 0 x) ≡ rivalAt b s g n
   unfolding rivalAt
   own-waits x y z e = rw (y, z, e)
 
-  pub no-choice : isKind b g 2 ≡ false → false ≡ rivalAt b s g n
+  pub no-choice : isKind b g 1 ≡ true → false ≡ rivalAt b s g n
   unfolding rivalAt
   no-choice y = rw y
 
@@ -70,42 +67,55 @@ module _ (b s : List ℕ) (ok : stateRefusal b s ≡ 0) where
       ∙ ap (λ (x : Bool). num (x && begunB (planOf b) (statusIn b s) n) + countBelow (nodeCount b) (others g n))
       (child-test b g n h)
 
-  rival-to : (g n : ℕ) → Child (planOf b) g n
+  branch-to : (g n : ℕ) → Child (planOf b) g n
       → num (begunB (planOf b) (statusIn b s) n) < childrenCounted tallies.Begun b s g
       → Rival (planOf b) (statusIn b s) g n
   unfolding countedChild countedAt others
-  rival-to g n h l =
+  branch-to g n h l =
       let w = counted-some (nodeCount b) (others g n) (λ z. omega (arith, counted g n h)) in
       let x = and-both (not (eqb (w .0) n)) (isChild b g (w .0) && begunB (planOf b) (statusIn b s) (w .0)) (w .2) in
       let y = and-both (isChild b g (w .0)) (begunB (planOf b) (statusIn b s) (w .0)) (x .1) in
       by-branch (w .0) (is-child b g (w .0) (y .0)) (eqb-false (w .0) n (not-true _ (x .0)))
       (begins (w .0) (w .1) .to (true-T _ (y .1)))
 
+  parent-node : (g n : ℕ) → Child (planOf b) g n → g < nodeCount b
+  parent-node g n h = omega (arith, child-lt (planOf b) (well-formed b s ok) h, node-is b n (h .node))
+
+  rival-to : (g n : ℕ) → Picks (planOf b .tree .kind g) → Child (planOf b) g n
+      → (nodeByte s g ≡ 2) ⊎ (num (begunB (planOf b) (statusIn b s) n) < childrenCounted tallies.Begun b s g)
+      → Rival (planOf b) (statusIn b s) g n
+  rival-to g n m h (inl z) = let d = byte-is b s ok g (parent-node g n h) done .0 z in
+      by-skip (picks-moves _ m (shown-moves b s ok g (done-moved d))) d
+  rival-to g n m h (inr l) = branch-to g n h l
+
   rival-from : (g n : ℕ) → Child (planOf b) g n → Rival (planOf b) (statusIn b s) g n
-      → num (begunB (planOf b) (statusIn b s) n) < childrenCounted tallies.Begun b s g
+      → (nodeByte s g ≡ 2) ⊎ (num (begunB (planOf b) (statusIn b s) n) < childrenCounted tallies.Begun b s g)
   unfolding countedChild countedAt others
+  rival-from g n h (by-skip k d) = inl (byte-is b s ok g (parent-node g n h) done .1 d)
   rival-from g n h (by-branch c hc ne x) =
       let l = node-is b c (hc .node) in
-      omega (
+      inr (omega (
         arith,
         counted g n h,
         some-counted (nodeCount b) (others g n) c l
             (and-of (not (eqb c n)) (isChild b g c && begunB (planOf b) (statusIn b s) c) (rw (ne-eqb c n ne))
             (and-of (isChild b g c) (begunB (planOf b) (statusIn b s) c) (child-test b g c hc)
             (T-true _ (begins c l .from x)))),
-      )
+      ))
 
   rival-at : (g n : ℕ) → Picks (planOf b .tree .kind g) → Child (planOf b) g n → Rival (planOf b) (statusIn b s) g n
       → rivalAt b s g n ≡ true
   unfolding rivalAt
-  rival-at g n x h r =
-      and-of (isKind b g 2) (ltb (num (begunB (planOf b) (statusIn b s) n)) (childrenCounted tallies.Begun b s g))
-      (any-kind g (omega (arith, child-lt (planOf b) (well-formed b s ok) h, node-is b n (h .node))) x)
-      (lt-ltb _ _ (rival-from g n h r))
+  rival-at g n x h r = rw no (at (rival-from g n h r))
     where
-      any-kind : (g : ℕ) → g < nodeCount b → Picks (planOf b .tree .kind g) → isKind b g 2 ≡ true
-      any-kind g l x = kind-of b g 2 l
-          (two (kindOf b g) (kind-limit b (has-room b s ok .plan) g l) (rw (plan-kind b g) at x))
+      no : isKind b g 1 ≡ false
+      no = not-passed _ (λ y. choice-kind (kindOf b g) (rw (plan-kind b g) at x) (kind-is b g 1 y .1))
+
+      at : (nodeByte s g ≡ 2) ⊎ (num (begunB (planOf b) (statusIn b s) n) < childrenCounted tallies.Begun b s g)
+          → (eqb (nodeByte s g) 2
+          || ltb (num (begunB (planOf b) (statusIn b s) n)) (childrenCounted tallies.Begun b s g)) ≡ true
+      at (inl z) = rw (eq-eqb (nodeByte s g) 2 z)
+      at (inr l) = rw (lt-ltb _ _ l) (or-true (eqb (nodeByte s g) 2))
 
   -- the node n and its parent
   module _ (n g : ℕ) (z : 0 < n) (l : n < nodeCount b) (e : g ≡ parentOf b n) where
@@ -113,21 +123,28 @@ module _ (b s : List ℕ) (ok : stateRefusal b s ≡ 0) where
     unfolding planOf
     child = record { not-root = z; node = is-node b n l; up = sym e }
 
-    any-group : isKind b g 2 ≡ true → Picks (planOf b .tree .kind g)
-    any-group y = picks-any (plan-kind b g ∙ kind-any-of (kindOf b g) (kind-is b g 2 y .1))
+    any-group : isKind b g 1 ≡ false → Picks (planOf b .tree .kind g)
+    any-group y = rw (plan-kind b g) (kind-choice (kindOf b g)
+        (λ q. group-is b g (rw (← e) at (parent-group b (r .fits) (r .parents) n z l .1)) q)
+        (other-kind b g 1 (parent-node g n child) y))
+      where
+        r : Clean b
+        r = has-room b s ok .plan
 
     pub rival-here : {t : ℕ} → Under (planOf b) n t → rivalAt b s g n ≡ true → BranchBegun (planOf b) (statusIn b s) t
     unfolding rivalAt
     rival-here u y =
-        let w = and-both (isKind b g 2)
-        (ltb (num (begunB (planOf b) (statusIn b s) n)) (childrenCounted tallies.Begun b s g)) y in
+        let x = ltb (num (begunB (planOf b) (statusIn b s) n)) (childrenCounted tallies.Begun b s g) in
+        let w = and-both (not (isKind b g 1)) (eqb (nodeByte s g) 2 || x) y in
+        let m = any-group (not-true _ (w .0)) in
         record {
           group = g;
           own = n;
-          picks = any-group (w .0);
+          picks = m;
           own-child = child;
           above = u;
-          rival = rival-to g n child (ltb-true _ _ (w .1));
+          rival = rival-to g n m child (⊎-elim (λ q. inl (eqb-true (nodeByte s g) 2 q)) (λ q. inr (ltb-true _ _ q))
+              (or-split (eqb (nodeByte s g) 2) x (w .1)));
         }
 
     -- without a rival here, one is further up

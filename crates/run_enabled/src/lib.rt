@@ -1,7 +1,8 @@
-// Refusals 19 and 20 of a start: another branch of an any-of group above the task is begun (01: taken); an order's
-// earlier node is not complete.
-use base::kinds::ANY_OF;
+// Refusals 19 and 20 of a start or a skip: another branch of an any-of or optional group above the node is begun (01:
+// taken); an order's earlier node is not complete.
+use base::kinds::ALL_OF;
 use base::no_nodes;
+use base::statuses::DONE;
 use base::wide;
 use plan_format::fields::earlier;
 use plan_format::fields::is_kind;
@@ -25,22 +26,27 @@ ghost use Rattle.run_progress.specs.Progress.{Counted};
 ghost use Rattle.run_progress.specs.declared.Tally.the-variants.{Begun, Ends};
 ghost use Rattle.run_enabled.specs.Enabling.{rivalAt, openAt};
 
-// The parent g of node n is an any-of group, and another branch of it than n is begun.
+// The parent g of node n is an any-of or optional group, and another branch of it than n is begun; a skip begins the
+// one without tasks.
 fn rival_begun(plan: &[u8], state: &[u8], begun: &[u8; 128], g: usize, n: usize) -> bool
     requires { ⌜ (0 < n) × ((n < nodeCount (now plan))
         × ((g ≡ parentOf (now plan) n) × (stateRefusal (now plan) (now state) ≡ 0))) ⌝ }
     requires { ⌜ Counted Begun (now plan) (now state) (now begun) ⌝ }
     ensures { λ r. ⌜ r ≡ rivalAt (now (plan .entry)) (now (state .entry)) g n ⌝ }
 {
-    if is_kind(plan, g, ANY_OF) {
-        let own = is_begun(plan, state, begun, n);
-        let count = begun[g];
-        return if own { 1 < count } else { 0 < count };
+    if is_kind(plan, g, ALL_OF) {
+        return false;
     }
-    false
+    let skipped = state[8 + g] == DONE;
+    let own = is_begun(plan, state, begun, n);
+    let count = begun[g];
+    if own {
+        return skipped | (1 < count);
+    }
+    skipped | (0 < count)
 }
 
-// 19: walks up from the task.
+// 19: walks up from the node.
 pub fn branch_begun(plan: &[u8], state: &[u8], begun: &[u8; 128], task: usize) -> bool
     requires { ⌜ AtEvent (now plan) (now state) task ⌝ }
     requires { ⌜ Counted Begun (now plan) (now state) (now begun) ⌝ }

@@ -1,26 +1,29 @@
--- The bytes that an event's literals and byte leave. Assumes nothing.
+-- The bytes that an event's literals and byte leave; a group has no literals, and only its byte is written. Assumes
+-- nothing.
 use mathlib.Core.Path.{_≡_, refl, sym, ap, _∙_}
+use mathlib.Core.Logic.{_≢_}
 use mathlib.Core.Bool.{Bool, true}
 use mathlib.Core.List.{List, _++_}
 use mathlib.Core.Option.{Option, some, none, Option·getD}
-use Prim.Native.Nat.{ℕ, _+_, _-_, _/_, _<_, _≤_}
+use Prim.Native.Nat.{ℕ, zero, suc, _+_, _-_, _/_, _<_, _≤_}
 use native.Mathlib.Omega.{arith}
-use lib.ListN.{length, getD, take, drop, length-set, length-append, length-drop, List·getD-append}
+use lib.ListN.{length, getD, take, drop, set, length-set, length-append, length-drop, List·getD-append, take-append-drop}
 use lib.Seq.{getD-set-same, getD-set-other, getD-append-add, getD-drop, length-take-le}
 use Rattle.run_flags.specs.Flags.{flagIn}
 use Rattle.run_flags.proofs.Laws.{same-byte, in-first}
-use Rattle.plan_format.specs.Format.{nodeCount, flagCount, isKind}
+use Rattle.plan_format.specs.Format.{nodeCount, condCount, flagCount, kindOf}
+use Rattle.plan_rules.proofs.Laws.{not-passed}
 use Rattle.plan_check.specs.Meaning.{planOf, signIn}
-use Rattle.plan_check.proofs.Meaning.{kind-is, means}
+use Rattle.plan_check.proofs.Meaning.{means}
 use Rattle.runs.specs.Plan.{Place, placeNumber}
 use Rattle.run_starts.specs.Starts.{nodeByte}
 use Rattle.run_state.specs.State.{stateRefusal}
 use Rattle.run_state.proofs.Passed.{has-room}
-use Rattle.run_state.specs.Made.{made}
-use Rattle.run_conditions.proofs.Laws.{length-literals, made-flag}
+use Rattle.run_state.specs.Made.{isOf, literals, made}
+use Rattle.run_conditions.proofs.Laws.{length-literals, made-flag, of-is, on-task}
 use Rattle.run_monitor.specs.Events.{withEvent}
 
-module _ (b s : List ℕ) (ok : stateRefusal b s ≡ 0) (k : Place) (t x : ℕ) (task : isKind b t 0 ≡ true) where
+module _ (b s : List ℕ) (ok : stateRefusal b s ≡ 0) (k : Place) (t x : ℕ) (inside : t < nodeCount b) where
   abbrev flags : List ℕ
   flags = made b (placeNumber k) t (take 8 s)
 
@@ -44,7 +47,7 @@ module _ (b s : List ℕ) (ok : stateRefusal b s ≡ 0) (k : Place) (t x : ℕ) 
   pub byte-own : nodeByte next t ≡ x
   unfolding withEvent nodeByte
   byte-own = getD-set-same (flags ++ drop 8 s) (8 + t) x 0
-      (omega (arith, joined-length, has-room b s ok .room, kind-is b t 0 task .0))
+      (omega (arith, joined-length, has-room b s ok .room))
 
   pub byte-other : (n : ℕ) → (n ≡ t → ⊥) → nodeByte next n ≡ nodeByte s n
   unfolding withEvent nodeByte
@@ -79,4 +82,21 @@ module _ (b s : List ℕ) (ok : stateRefusal b s ≡ 0) (k : Place) (t x : ℕ) 
   unfolding nodeByte
   byte-past j l =
       let q : 8 + (j - 8) ≡ j = omega arith in
-      rw q at (byte-other (j - 8) (λ e. omega (arith, kind-is b t 0 task .0)))
+      rw q at (byte-other (j - 8) (λ e. omega arith))
+
+-- ---- a group
+module _ (b s : List ℕ) (ok : stateRefusal b s ≡ 0) (g : ℕ) (group : kindOf b g ≢ 0) where
+  -- no condition is of it
+  no-literals : (q k : ℕ) (bytes : List ℕ) → k ≤ condCount b → literals b q g k bytes ≡ bytes
+  unfolding literals
+  no-literals q zero bytes l = refl
+  no-literals q (suc k) bytes l = rw (not-passed (isOf b q g k) (λ y. elsewhere k l y))
+      (no-literals q k bytes (omega arith))
+    where
+      elsewhere : (k : ℕ) → suc k ≤ condCount b → isOf b q g k ≡ true → ⊥
+      elsewhere k l y = group (ap (kindOf b) (sym (of-is b q g k y .0))
+          ∙ on-task b (has-room b s ok .accepted) k (omega arith) .1)
+
+  pub only-byte : (q x : ℕ) → set s (8 + g) x ≡ withEvent b q g x s
+  unfolding withEvent made
+  only-byte q x = rw (no-literals q (condCount b) (take 8 s) (omega arith), take-append-drop 8 s)

@@ -1,4 +1,5 @@
-// The monitor (01: keeper): whether the root is complete, the start and the finish of a task.
+// The monitor (01: keeper): whether the root is complete, the start and the finish of a task, the skip of an optional
+// group.
 use base::statuses::DONE;
 use base::statuses::RUNNING;
 use run_conditions::with_literals;
@@ -10,6 +11,7 @@ use run_progress::is_complete;
 use run_refusals::Move;
 use run_refusals::place_of;
 use run_refusals::refused;
+use run_refusals::skip_refused;
 use run_starts::started;
 use run_starts::write_ordinal;
 use run_state::check_state;
@@ -97,4 +99,20 @@ pub fn finish(plan: &[u8], state: &mut [u8], task: usize) -> u32
     ensures { λ r. ⌜ Called (now (plan .entry)) (now (state .entry)) (execution.finish task) r (now (state .exit)) ⌝ }
 {
     call(plan, state, Move::Finish, task)
+}
+
+// The optional group is skipped: its byte says done, and no other byte changes. Refused, nothing changes.
+pub fn skip(plan: &[u8], state: &mut [u8], group: usize) -> u32
+    ensures { λ r. ⌜ Called (now (plan .entry)) (now (state .entry)) (execution.skip group) r (now (state .exit)) ⌝ }
+{
+    let r = check_state(plan, state);
+    if r != 0 {
+        return r;
+    }
+    let q = skip_refused(plan, state, group);
+    if q != 0 {
+        return q;
+    }
+    state[8 + group] = DONE;
+    0
 }

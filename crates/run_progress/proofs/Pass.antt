@@ -16,6 +16,7 @@ use Rattle.plan_check.specs.Meaning.{planOf}
 use Rattle.plan_check.proofs.Nodes.{child-test, is-node}
 use Rattle.runs.specs.Tests.{sameB}
 use Rattle.runs.specs.Model.Monitor.{completeB, begunB}
+use Rattle.runs.proofs.Calls.Reflect.{not-not}
 use Rattle.run_state.specs.State.{stateRefusal, statusIn}
 use Rattle.run_state.proofs.Passed.{has-room}
 use Rattle.base.specs.Count.{countBelow}
@@ -106,10 +107,10 @@ module _ (k : Tally) (b s : List ℕ) (g c : ℕ) where
   unfolding countedAt
   at-begun e = rw e
 
-  pub at-ends-any : k ≡ Ends → isKind b g 2 ≡ true → completeB (planOf b) (statusIn b s) c ≡ countedAt k b s g c
-  unfolding countedAt sameB
-  at-ends-any e q = rw (e, q)
-
-  pub at-ends-all : k ≡ Ends → isKind b g 2 ≡ false → not (completeB (planOf b) (statusIn b s) c) ≡ countedAt k b s g c
+  pub at-ends-all : k ≡ Ends → isKind b g 1 ≡ true → not (completeB (planOf b) (statusIn b s) c) ≡ countedAt k b s g c
   unfolding countedAt sameB
   at-ends-all e q = rw (e, q)
+
+  pub at-ends-any : k ≡ Ends → isKind b g 1 ≡ false → completeB (planOf b) (statusIn b s) c ≡ countedAt k b s g c
+  unfolding countedAt sameB
+  at-ends-any e q = rw (e, q, not-not (completeB (planOf b) (statusIn b s) c))

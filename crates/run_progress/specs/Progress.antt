@@ -1,8 +1,8 @@
--- What the pass over the nodes counts: children that are begun; complete children of an any-of group, incomplete ones
--- of another.
+-- What the pass over the nodes counts: children that are begun; incomplete children of an all-of group, complete ones of
+-- another.
 use Prim.Native.Nat.{ℕ, _<_}
 use mathlib.Core.Path.{_≡_}
-use mathlib.Core.Bool.{Bool, _&&_}
+use mathlib.Core.Bool.{Bool, not, _&&_}
 use mathlib.Core.List.{List}
 use lib.ListN.{getD}
 use Rattle.plan_format.specs.Format.{nodeCount, isKind}
@@ -17,7 +17,7 @@ use Rattle.run_progress.specs.declared.Tally.the-variants.{Begun, Ends}
 
 unfoldable pub countedAt : Tally → List ℕ → List ℕ → ℕ → ℕ → Bool
 countedAt Begun b s g c = begunB (planOf b) (statusIn b s) c
-countedAt Ends b s g c = sameB (isKind b g 2) (completeB (planOf b) (statusIn b s) c)
+countedAt Ends b s g c = sameB (isKind b g 1) (not (completeB (planOf b) (statusIn b s) c))
 
 unfoldable pub countedChild : Tally → List ℕ → List ℕ → ℕ → ℕ → Bool
 countedChild k b s g c = isChild b g c && countedAt k b s g c

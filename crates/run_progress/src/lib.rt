@@ -1,7 +1,6 @@
 // Which nodes are complete and which are begun (01: taken): one pass over the nodes from the last to the first, which
 // counts children.
 use base::kinds::ALL_OF;
-use base::kinds::ANY_OF;
 use base::kinds::TASK;
 use base::no_nodes;
 use base::statuses::DONE;
@@ -19,13 +18,14 @@ ghost use Rattle.runs.specs.Model.Monitor.{completeB, begunB};
 ghost use Rattle.run_state.specs.State.{stateRefusal, statusIn};
 ghost use Rattle.run_progress.specs.Progress.{countedAt, childrenCounted, Counted};
 
-// Which children of a group are counted: those that are begun; or, for an any-of group the complete ones, for another
-// those that are not.
+// Which children of a group are counted: those that are begun; or, for an all-of group those that are not complete, for
+// another the complete ones.
 pub enum Tally {
     Begun,
     Ends,
 }
 
+// A byte that says done: a task is done, an optional group skipped; that of another group is 0.
 pub fn is_complete(plan: &[u8], state: &[u8], ends: &[u8; 128], n: usize) -> bool
     requires { ⌜ (n < nodeCount (now plan))
         × ((stateRefusal (now plan) (now state) ≡ 0)
@@ -39,7 +39,7 @@ pub fn is_complete(plan: &[u8], state: &[u8], ends: &[u8; 128], n: usize) -> boo
     if is_kind(plan, n, ALL_OF) {
         return ends[n] == 0;
     }
-    ends[n] != 0
+    (ends[n] != 0) | (state[8 + n] == DONE)
 }
 
 pub fn is_begun(plan: &[u8], state: &[u8], begun: &[u8; 128], n: usize) -> bool
@@ -48,10 +48,7 @@ pub fn is_begun(plan: &[u8], state: &[u8], begun: &[u8; 128], n: usize) -> bool
         × (getD (now begun) n 0 ≡ childrenCounted Tally.Begun (now plan) (now state) n)) ⌝ }
     ensures { λ r. ⌜ r ≡ begunB (planOf (now (plan .entry))) (statusIn (now (plan .entry)) (now (state .entry))) n ⌝ }
 {
-    if is_kind(plan, n, TASK) {
-        return state[8 + n] != WAITING;
-    }
-    begun[n] != 0
+    (state[8 + n] != WAITING) | (begun[n] != 0)
 }
 
 // Node n is counted at its parent g.
@@ -72,10 +69,10 @@ fn is_counted(
         Tally::Begun => is_begun(plan, state, table, n),
         Tally::Ends => {
             let complete = is_complete(plan, state, table, n);
-            if is_kind(plan, g, ANY_OF) {
-                complete
-            } else {
+            if is_kind(plan, g, ALL_OF) {
                 !complete
+            } else {
+                complete
             }
         }
     }

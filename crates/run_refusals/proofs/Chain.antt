@@ -1,9 +1,9 @@
--- The chain of refusals 17 to 22. Assumes nothing.
+-- The chains of refusals: 17 to 22 of the events of tasks; 27 and 18 to 20 of a skip. Assumes nothing.
 use mathlib.Core.Path.{_≡_, refl, sym, ap, _∙_}
 use mathlib.Core.Logic.{by-cases, ⊎-elim}
-use mathlib.Core.Bool.{Bool, true, false, cond, not}
+use mathlib.Core.Bool.{Bool, true, false, cond, not, true≢false}
 use mathlib.Core.List.{List}
-use Prim.Native.Nat.{ℕ, zero, suc, _≤_}
+use Prim.Native.Nat.{ℕ}
 use native.Mathlib.Decide.{ℕ-discrete}
 use native.Mathlib.Omega.{arith}
 use lib.Dec.{eqb}
@@ -12,23 +12,25 @@ use borrow.Author.Tests.{eq-eqb, ne-eqb}
 use Rattle.run_flags.specs.Flags.{allByte}
 use Rattle.plan_format.specs.Format.{kindOf, isKind, condCount}
 use Rattle.plan_rules.proofs.Laws.{either}
-use mathlib.Core.Option.{none}
+use mathlib.Core.Option.{Option, some, none}
 use Rattle.plan_check.specs.Meaning.{planOf, kindAt, signIn}
-use Rattle.plan_check.proofs.Meaning.{kind-is, kind-of, kind-task, kind-limit}
+use Rattle.plan_check.proofs.Meaning.{kind-is, kind-of, kind-number, kind-limit, means}
 use Rattle.plan_check.proofs.Nodes.{is-node, node-is, plan-kind}
-use Rattle.runs.specs.Plan.{task, placeNumber}
-use Rattle.runs.specs.Execution.{waiting, running, Event, start, finish, nodeOf, asserts}
-use Rattle.runs.specs.Calls.{asks, statusByte, no-task, wrong-status, branch-begun, order-open, pre-unmet, inc-broken}
-use Rattle.runs.specs.Model.Monitor.{returned, refusalOf, firstOf, orElse, code, appliesB, taskB, statusB, branchBegunB}
-use Rattle.runs.specs.Model.Monitor.{orderOpenB, preUnmetB, incBrokenB}
+use Rattle.runs.specs.Plan.{Kind, task, all-of, any-of, optional, post, Node, itself, kindNumber, placeNumber}
+use Rattle.runs.specs.Execution.{waiting, running, Status-discrete, Event, start, finish, skip, nodeOf, asserts}
+use Rattle.runs.specs.Calls.{one, asks, statusByte, no-task, wrong-status, branch-begun, order-open, pre-unmet}
+use Rattle.runs.specs.Calls.{inc-broken, no-optional}
+use Rattle.runs.specs.Model.Monitor.{returned, refusalOf, firstOf, orElse, code, appliesB, taskB, optionalB, statusB}
+use Rattle.runs.specs.Model.Monitor.{begunB, wrongStatusB, branchBegunB, orderOpenB, preUnmetB, incBrokenB}
 use Rattle.runs.specs.Tests.{negate, anyBelow}
-use Rattle.runs.proofs.Reflect.{r-eq, r-map, clash, true-T, T-true, same-test}
-use Rattle.runs.proofs.Calls.Reflect.{r-task, r-status}
+use Rattle.runs.proofs.Reflect.{Reflects, r-eq, r-map, clash, true-T, T-true, same-test}
+use Rattle.runs.proofs.Calls.Reflect.{r-task, r-optional, r-status, r-begun, r-applies}
+use Rattle.runs.proofs.Calls.Skips.{skip-begun}
 use Rattle.base.specs.Answers.{first}
 use Rattle.base.proofs.First.{first-none, first-some}
 use Rattle.run_starts.specs.Starts.{nodeByte}
 use Rattle.run_state.specs.State.{stateRefusal, statusIn, flagShown, worldOf}
-use Rattle.run_state.proofs.Passed.{has-room, well-formed, byte-is}
+use Rattle.run_state.proofs.Passed.{has-room, well-formed, byte-is, shown-moves}
 use Rattle.run_state.specs.Made.{made}
 use Rattle.run_conditions.specs.Conditions.{brokenAt}
 use Rattle.run_conditions.proofs.Refusals.{broken-is}
@@ -51,12 +53,28 @@ pub node-of : (m : Move) (t : ℕ) → nodeOf (eventOf m t) ≡ t
 node-of Start t = refl
 node-of Finish t = refl
 
-none-kind : (k : ℕ) → k ≤ 2 → kindAt k ≡ task → k ≡ 0
+-- the events of tasks
+abbrev pub OfTask : Event → Type 0
+OfTask (start t) = Unit {0}
+OfTask (finish t) = Unit {0}
+OfTask (skip g) = ⊥
+
+pub task-event : (m : Move) (t : ℕ) → OfTask (eventOf m t)
+task-event Start t = tt
+task-event Finish t = tt
+
+-- the kind of node that an event moves
+abbrev pub eventKind : Event → Kind
+eventKind (start t) = task
+eventKind (finish t) = task
+eventKind (skip g) = optional
+
+number-kind : (κ : Kind) → kindAt (kindNumber κ) ≡ κ
 unfolding kindAt
-none-kind zero l e = refl
-none-kind (suc zero) l e = clash cc
-none-kind (suc (suc zero)) l e = clash cc
-none-kind (suc (suc (suc k))) l e = absurd (omega arith)
+number-kind task = refl
+number-kind all-of = refl
+number-kind any-of = refl
+number-kind optional = refl
 
 start-chain : (a b c d e f : Bool) →
     code (orElse a no-task (λ u. orElse b wrong-status
@@ -79,38 +97,59 @@ finish-chain false true f = refl
 finish-chain false false true = refl
 finish-chain false false false = refl
 
+skip-chain : (a b c d : Bool) → code
+    (orElse a no-optional (λ u. orElse b wrong-status (λ u. orElse c branch-begun (λ u. orElse d order-open (λ u. none)))))
+    ≡ cond a 27 (cond b 18 (cond c 19 (cond d 20 0)))
+skip-chain true b c d = refl
+skip-chain false true c d = refl
+skip-chain false false true d = refl
+skip-chain false false false true = refl
+skip-chain false false false false = refl
+
 module _ (b s : List ℕ) (ok : stateRefusal b s ≡ 0) where
+  -- a node of a kind, by the bytes
+  r-kind : (t : ℕ) (κ : Kind) → Reflects (isKind b t (kindNumber κ))
+      (Node (planOf b) t × (planOf b .tree .kind t ≡ κ))
+  r-kind t κ = record {
+    to = λ y. let w = kind-is b t (kindNumber κ) (T-true (isKind b t (kindNumber κ)) y) in
+        (is-node b t (w .0), plan-kind b t ∙ ap kindAt (w .1) ∙ number-kind κ);
+    from = λ x. let l = node-is b t (x .0) in
+        true-T (isKind b t (kindNumber κ)) (kind-of b t (kindNumber κ) l
+        (sym (kind-number (kindOf b t) (kind-limit b (has-room b s ok .plan) t l))
+        ∙ ap kindNumber (sym (plan-kind b t) ∙ x .1)));
+  }
+
   task-is : (t : ℕ) → isKind b t 0 ≡ taskB (planOf b) t
-  task-is t =
-      same-test _ _ (record {
-        to = λ y. let w = kind-is b t 0 (T-true (isKind b t 0) y) in
-            record { node = is-node b t (w .0); is-task = plan-kind b t ∙ kind-task (kindOf b t) (w .1) };
-        from = λ x. let l = node-is b t (x .node) in
-            true-T (isKind b t 0) (kind-of b t 0 l
-            (none-kind (kindOf b t) (kind-limit b (has-room b s ok .plan) t l) (sym (plan-kind b t) ∙ x .is-task)));
-      }) (r-task (planOf b) (well-formed b s ok) t)
+  task-is t = same-test _ _ (r-map (λ x. record { node = x .0; is-task = x .1 }, λ x. (x .node, x .is-task)) (r-kind t task))
+      (r-task (planOf b) (well-formed b s ok) t)
+
+  optional-is : (g : ℕ) → isKind b g 3 ≡ optionalB (planOf b) g
+  optional-is g = same-test _ _
+      (r-map (λ x. record { node = x .0; is-optional = x .1 }, λ x. (x .node, x .is-optional)) (r-kind g optional))
+      (r-optional (planOf b) (well-formed b s ok) g)
 
   -- the end of the chain: 22
   abbrev broken : Event → ℕ
   broken e = cond (incBrokenB (planOf b) (statusIn b s) e) 22 0
 
-  chain-of : (e : Event) → eventRefusal b s e
+  chain-of : (e : Event) → OfTask e → eventRefusal b s e
       ≡ cond (not (taskB (planOf b) (nodeOf e))) 17
       (cond (not (statusB (statusIn b s (nodeOf e)) (asks e))) 18 (first (beginRefusal b s e) (broken e)))
-  unfolding returned refusalOf firstOf appliesB worldOf negate treeRefusal beginRefusal
-  chain-of (start t) = start-chain (not (taskB (planOf b) t)) (not (statusB (statusIn b s t) waiting))
+  unfolding returned refusalOf firstOf appliesB wrongStatusB worldOf negate treeRefusal beginRefusal
+  chain-of (start t) x = start-chain (not (taskB (planOf b) t)) (not (statusB (statusIn b s t) waiting))
       (branchBegunB (planOf b) (statusIn b s) t) (orderOpenB (planOf b) (statusIn b s) t)
       (preUnmetB (planOf b) (flagShown s) (start t)) (incBrokenB (planOf b) (statusIn b s) (start t))
-  chain-of (finish t) = finish-chain (not (taskB (planOf b) t)) (not (statusB (statusIn b s t) running))
+  chain-of (finish t) x = finish-chain (not (taskB (planOf b) t)) (not (statusB (statusIn b s t) running))
       (incBrokenB (planOf b) (statusIn b s) (finish t))
+  chain-of (skip g) x = absurd x
 
-  module _ (t : ℕ) (e : Event) (of : nodeOf e ≡ t) where
+  module _ (t : ℕ) (e : Event) (of : nodeOf e ≡ t) (tasks : OfTask e) where
     abbrev answer : ℕ
     answer = eventRefusal b s e
 
     chain : answer ≡ cond (not (isKind b t 0)) 17
         (cond (not (statusB (statusIn b s t) (asks e))) 18 (first (beginRefusal b s e) (broken e)))
-    chain = chain-of e ∙ rw (of, task-is t)
+    chain = chain-of e tasks ∙ rw (of, task-is t)
 
     pub answer-17 : isKind b t 0 ≡ false → 17 ≡ answer
     answer-17 y = sym (chain ∙ rw y)
@@ -118,7 +157,7 @@ module _ (b s : List ℕ) (ok : stateRefusal b s ≡ 0) where
     module _ (y : isKind b t 0 ≡ true) where
       status-is : eqb (nodeByte s t) (statusByte (asks e)) ≡ statusB (statusIn b s t) (asks e)
       status-is = let w = kind-is b t 0 y in
-          same-test _ _ (r-map (byte-is b s ok t (w .0) (w .1) (asks e)) (r-eq (nodeByte s t) (statusByte (asks e))))
+          same-test _ _ (r-map (byte-is b s ok t (w .0) (asks e)) (r-eq (nodeByte s t) (statusByte (asks e))))
           (r-status (statusIn b s t) (asks e))
 
       chain-18 : answer ≡ cond (not (eqb (nodeByte s t) (statusByte (asks e)))) 18
@@ -140,7 +179,7 @@ module _ (b s : List ℕ) (ok : stateRefusal b s ≡ 0) where
         answer-broken q z d = ap (λ (x : Bool). cond x 22 0) (sym d) ∙ first-none (beginRefusal b s e) (broken e) q
             ∙ rest
 
-    -- an accepted event is of a task
+    -- an accepted one is of a task
     pub answer-task : answer ≡ 0 → isKind b t 0 ≡ true
     answer-task z =
         ⊎-elim (λ (y : isKind b t 0 ≡ true). y)
@@ -153,18 +192,94 @@ module _ (b s : List ℕ) (ok : stateRefusal b s ≡ 0) where
         by-cases (ℕ-discrete (nodeByte s t) (statusByte (asks e))) (λ y. y)
         (λ n. absurd (omega (arith, answer-18 (answer-task z) n, z)))
 
+  -- ---- a skip
+  module _ (g : ℕ) where
+    skips : eventRefusal b s (skip g)
+        ≡ cond (not (isKind b g 3)) 27 (cond (wrongStatusB (planOf b) (statusIn b s) (skip g)) 18 (treeRefusal b s g))
+    unfolding returned refusalOf firstOf appliesB worldOf negate treeRefusal
+    skips = skip-chain (not (optionalB (planOf b) g)) (wrongStatusB (planOf b) (statusIn b s) (skip g))
+        (branchBegunB (planOf b) (statusIn b s) g) (orderOpenB (planOf b) (statusIn b s) g)
+        ∙ rw (optional-is g)
+
+    pub skip-27 : isKind b g 3 ≡ false → 27 ≡ eventRefusal b s (skip g)
+    skip-27 y = sym (skips ∙ rw y)
+
+    -- 18: the group is begun
+    wrong-is : isKind b g 3 ≡ true → wrongStatusB (planOf b) (statusIn b s) (skip g) ≡ begunB (planOf b) (statusIn b s) g
+    unfolding appliesB worldOf
+    wrong-is y = let x = r-kind g optional .to (true-T _ y) in
+        same-test _ _ (r-map (skip-begun (planOf b) (x .1))
+        (r-applies (planOf b) (well-formed b s ok) (worldOf b s) (one (skip g)) wrong-status))
+        (r-begun (planOf b) (well-formed b s ok) (statusIn b s) g (x .0))
+
+    module _ (y : isKind b g 3 ≡ true) where
+      pub skip-18 : begunB (planOf b) (statusIn b s) g ≡ true → 18 ≡ eventRefusal b s (skip g)
+      skip-18 z = sym (skips ∙ rw (y, wrong-is y ∙ z))
+
+      pub skip-tree : begunB (planOf b) (statusIn b s) g ≡ false → (r : ℕ) → r ≡ treeRefusal b s g
+          → r ≡ eventRefusal b s (skip g)
+      skip-tree z r q = q ∙ sym (skips ∙ rw (y, wrong-is y ∙ z))
+
+    pub skip-optional : eventRefusal b s (skip g) ≡ 0 → isKind b g 3 ≡ true
+    skip-optional z =
+        ⊎-elim (λ (y : isKind b g 3 ≡ true). y)
+        (λ (y : isKind b g 3 ≡ false). absurd (omega (arith, skip-27 y, z)))
+        (either (isKind b g 3))
+
+    pub skip-waits : eventRefusal b s (skip g) ≡ 0 → nodeByte s g ≡ 0
+    skip-waits z =
+        let y = skip-optional z in
+        let l = kind-is b g 3 y .0 in
+        ⊎-elim
+        (λ (x : begunB (planOf b) (statusIn b s) g ≡ true). absurd (omega (arith, skip-18 y x, z)))
+        (λ (x : begunB (planOf b) (statusIn b s) g ≡ false).
+        byte-is b s ok g l waiting .1 (waits-unbegun x (Status-discrete (statusIn b s g) waiting)))
+        (either (begunB (planOf b) (statusIn b s) g))
+      where
+        waits-unbegun : begunB (planOf b) (statusIn b s) g ≡ false → Dec (statusIn b s g ≡ waiting)
+            → statusIn b s g ≡ waiting
+        waits-unbegun x (yes q) = q
+        waits-unbegun x (no q) = absurd (true≢false (sym (T-true _
+            (r-begun (planOf b) (well-formed b s ok) (statusIn b s) g
+            (is-node b g (kind-is b g 3 (skip-optional z) .0)) .from
+            (record { who = g; moves = shown-moves b s ok g q; beneath = itself; begun = q }))) ∙ x))
+
+  -- ---- an accepted event: its node is of the kind that it moves, and has the byte that it asks for
+  pub accepted-kind : (e : Event) → eventRefusal b s e ≡ 0 → isKind b (nodeOf e) (kindNumber (eventKind e)) ≡ true
+  accepted-kind (start t) z = answer-task t (start t) refl tt z
+  accepted-kind (finish t) z = answer-task t (finish t) refl tt z
+  accepted-kind (skip g) z = skip-optional g z
+
+  pub accepted-byte : (e : Event) → eventRefusal b s e ≡ 0 → nodeByte s (nodeOf e) ≡ statusByte (asks e)
+  accepted-byte (start t) z = answer-asked t (start t) refl tt z
+  accepted-byte (finish t) z = answer-asked t (finish t) refl tt z
+  accepted-byte (skip g) z = skip-waits g z
+
   -- what an event asserts
-  pub event-does : (e : Event) (f : ℕ) → asserts (planOf b) e f ≡ signIn b (eventPlace e) (nodeOf e) f
+  pub event-does : (e : Event) → isKind b (nodeOf e) (kindNumber (eventKind e)) ≡ true → (f : ℕ)
+      → asserts (planOf b) e f ≡ signIn b (eventPlace e) (nodeOf e) f
   unfolding planOf
-  event-does (start t) f = refl
-  event-does (finish t) f = refl
+  event-does (start t) y f = refl
+  event-does (finish t) y f = refl
+  event-does (skip g) y f = sym (at (signIn b post g f) refl)
+    where
+      at : (o : Option Bool) → signIn b post g f ≡ o → o ≡ none
+      at none q = refl
+      at (some v) q = let x = means b (has-room b s ok .accepted) .accepted .on-task post g f v q .1 in
+          let z = r-kind g optional .to (true-T _ y) .1 in clash cc
+
+  task-does : (e : Event) → OfTask e → (f : ℕ) → asserts (planOf b) e f ≡ signIn b (eventPlace e) (nodeOf e) f
+  unfolding planOf
+  task-does (start t) x f = refl
+  task-does (finish t) x f = refl
+  task-does (skip g) x f = absurd x
 
   -- the test of 22, by what the function has at hand
-  pub broken-by : (t : ℕ) (e : Event) → nodeOf e ≡ t → (q : ℕ) → q ≡ placeNumber (eventPlace e) → (r : Bool)
+  pub broken-by : (t : ℕ) (e : Event) → nodeOf e ≡ t → OfTask e → (q : ℕ) → q ≡ placeNumber (eventPlace e) → (r : Bool)
       → r ≡ anyBelow (condCount b) (brokenAt b s (made b q t (replicate 8 (allByte false)))
       (made b q t (replicate 8 (allByte true))) t) → r ≡ incBrokenB (planOf b) (statusIn b s) e
-  broken-by t e of q k r h =
-      let g : (f : ℕ) → asserts (planOf b) e f ≡ signIn b (eventPlace e) t f = λ f. event-does e f
+  broken-by t e of x q k r h =
+      let g : (f : ℕ) → asserts (planOf b) e f ≡ signIn b (eventPlace e) t f = λ f. task-does e x f
       ∙ ap (λ (n : ℕ). signIn b (eventPlace e) n f) of in
       h ∙ ap (λ (q : ℕ). anyBelow (condCount b)
       (brokenAt b s (made b q t (replicate 8 (allByte false))) (made b q t (replicate 8 (allByte true))) t)) k

@@ -1,10 +1,10 @@
--- The events that moves are, and the refusals 17 to 22 of an event, in terms of the states that 01 works out
+-- The events that moves are, and the refusals 17 to 22 and 27 of an event, in terms of the states that 01 works out
 -- (`returned` of runs).
 use Prim.Native.Nat.{ℕ}
 use mathlib.Core.List.{List}
 use Rattle.plan_check.specs.Meaning.{planOf}
 use Rattle.runs.specs.Plan.{Place, inc, post}
-use Rattle.runs.specs.Execution.{Event, start, finish}
+use Rattle.runs.specs.Execution.{Event, start, finish, skip}
 use Rattle.runs.specs.Calls.{one}
 use Rattle.runs.specs.Model.Monitor.{returned}
 use Rattle.run_state.specs.State.{worldOf}
@@ -16,11 +16,12 @@ abbrev pub eventOf : Move → ℕ → Event
 eventOf Start t = start t
 eventOf Finish t = finish t
 
--- the place of the literals that an event makes true
+-- the place of the literals that an event makes true (a skip's group has none at any)
 abbrev pub eventPlace : Event → Place
 eventPlace (start t) = inc
 eventPlace (finish t) = post
+eventPlace (skip g) = post
 
--- the first of 17 to 22 that applies, or 0
+-- the first of 17 to 22, or of 27 and 18 to 20 for a skip, that applies, or 0
 abbrev pub eventRefusal : List ℕ → List ℕ → Event → ℕ
 eventRefusal b s e = returned (planOf b) (worldOf b s) (one e)

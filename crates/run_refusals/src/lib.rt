@@ -1,4 +1,6 @@
-// Which refusal applies to the start or the finish of a task, on a state that passes 1 to 16.
+// Which refusal applies to the start or the finish of a task, or to the skip of an optional group, on a state that
+// passes 1 to 16.
+use base::kinds::OPTIONAL;
 use base::kinds::TASK;
 use base::places::INC;
 use base::places::POST;
@@ -13,15 +15,18 @@ use run_enabled::path;
 use run_flags::load;
 use run_progress::Tally;
 use run_progress::children;
+use run_progress::is_begun;
 ghost use mathlib.Core.Path.{_≡_};
 ghost use Rattle.runs.specs.Plan.{placeNumber};
 ghost use Rattle.runs.specs.Execution as execution;
 ghost use Rattle.runs.specs.Calls.{asks, statusByte};
 ghost use Rattle.run_state.specs.State.{AtEvent, stateRefusal};
+ghost use Rattle.run_progress.specs.Progress.{Counted};
+ghost use Rattle.run_progress.specs.declared.Tally.the-variants.{Begun};
 ghost use Rattle.run_refusals.specs.Events.{eventOf, eventPlace, eventRefusal};
 ghost use Rattle.run_refusals.specs.Parts.{treeRefusal, beginRefusal};
 
-// How a call moves its task on.
+// How a call moves a task on.
 pub enum Move {
     Start,
     Finish,
@@ -48,16 +53,16 @@ fn asked(m: Move) -> u8
 }
 
 // Refusals 19 and 20, or 0.
-fn tree_refused(plan: &[u8], state: &[u8], task: usize) -> u32
-    requires { ⌜ AtEvent (now plan) (now state) task ⌝ }
-    ensures { λ r. ⌜ r ≡ treeRefusal (now (plan .entry)) (now (state .entry)) task ⌝ }
+fn tree_refused(plan: &[u8], state: &[u8], begun: &[u8; 128], node: usize) -> u32
+    requires { ⌜ AtEvent (now plan) (now state) node ⌝ }
+    requires { ⌜ Counted Begun (now plan) (now state) (now begun) ⌝ }
+    ensures { λ r. ⌜ r ≡ treeRefusal (now (plan .entry)) (now (state .entry)) node ⌝ }
 {
-    let begun = children(plan, state, Tally::Begun);
-    if branch_begun(plan, state, &begun, task) {
+    if branch_begun(plan, state, begun, node) {
         return 19;
     }
     let ends = children(plan, state, Tally::Ends);
-    let marks = path(plan, task);
+    let marks = path(plan, node);
     if order_open(plan, state, &ends, &marks) {
         return 20;
     }
@@ -69,7 +74,8 @@ fn start_refused(plan: &[u8], state: &[u8], task: usize) -> u32
     requires { ⌜ AtEvent (now plan) (now state) task ⌝ }
     ensures { λ r. ⌜ r ≡ beginRefusal (now (plan .entry)) (now (state .entry)) (execution.start task) ⌝ }
 {
-    let r = tree_refused(plan, state, task);
+    let begun = children(plan, state, Tally::Begun);
+    let r = tree_refused(plan, state, &begun, task);
     if r != 0 {
         return r;
     }
@@ -109,4 +115,19 @@ pub fn refused(plan: &[u8], state: &[u8], m: Move, task: usize) -> u32
         return 22;
     }
     0
+}
+
+// Refusals 27 and 18 to 20 of a skip, or 0.
+pub fn skip_refused(plan: &[u8], state: &[u8], group: usize) -> u32
+    requires { ⌜ stateRefusal (now plan) (now state) ≡ 0 ⌝ }
+    ensures { λ r. ⌜ r ≡ eventRefusal (now (plan .entry)) (now (state .entry)) (execution.skip group) ⌝ }
+{
+    if !is_kind(plan, group, OPTIONAL) {
+        return 27;
+    }
+    let begun = children(plan, state, Tally::Begun);
+    if is_begun(plan, state, &begun, group) {
+        return 18;
+    }
+    tree_refused(plan, state, &begun, group)
 }

@@ -1,5 +1,5 @@
--- The ordinals after a start and after a finish: they are each of 1 to the number of started tasks exactly once again.
--- Assumes nothing.
+-- The ordinals after a start, and where no task starts: they are each of 1 to the number of started tasks exactly once
+-- again. Assumes nothing.
 use mathlib.Core.Path.{_≡_, refl, sym, ap, _∙_}
 use mathlib.Core.Logic.{by-cases}
 use mathlib.Core.Bool.{true, false, _&&_}
@@ -70,25 +70,25 @@ module _ (b s z : List ℕ) (w : WellNumbered b s) (t : ℕ) (l : t < nodeCount 
       };
     }
 
-  -- a finish: t was started, and keeps its ordinal
-  module _ (was : startedIn b s t ≡ true) (own : ordinalIn b z t ≡ ordinalIn b s t) where
-    all-kept : (n : ℕ) → n < nodeCount b → startedIn b z n ≡ startedIn b s n
-    all-kept n j = by-cases (ℕ-discrete n t) (λ (e : n ≡ t). rw e (on ∙ sym was)) (λ e. kept n j e)
+-- in the state z, after s, all is started and numbered as before
+module _ (b s z : List ℕ) (w : WellNumbered b s)
+    (kept : (n : ℕ) → n < nodeCount b → startedIn b z n ≡ startedIn b s n)
+    (same : (n : ℕ) → n < nodeCount b → ordinalIn b z n ≡ ordinalIn b s n) where
+  same-count : startedCount b z ≡ startedCount b s
+  unfolding startedCount
+  same-count = count-same (nodeCount b) (startedIn b z) (startedIn b s) kept
 
-    all-same : (n : ℕ) → n < nodeCount b → ordinalIn b z n ≡ ordinalIn b s n
-    all-same n j = by-cases (ℕ-discrete n t) (λ (e : n ≡ t). rw e own) (λ e. others n j e)
+  same-holders : (k : ℕ) → holders b z k ≡ holders b s k
+  unfolding holders
+  same-holders k = count-same (nodeCount b) (λ i. startedIn b z i && eqb (ordinalIn b z i) k)
+      (λ i. startedIn b s i && eqb (ordinalIn b s i) k) (λ i j. rw (kept i j, same i j))
 
-    same-count : startedCount b z ≡ startedCount b s
-    unfolding startedCount
-    same-count = count-same (nodeCount b) (startedIn b z) (startedIn b s) all-kept
+  stray-none : (n : ℕ) → n < nodeCount b → strayOrdinal b z n ≡ false
+  unfolding strayOrdinal
+  stray-none n j = rw (kept n j, same n j) (w .strays n j)
 
-    same-holders : (k : ℕ) → holders b z k ≡ holders b s k
-    unfolding holders
-    same-holders k = count-same (nodeCount b) (λ i. startedIn b z i && eqb (ordinalIn b z i) k)
-        (λ i. startedIn b s i && eqb (ordinalIn b s i) k) (λ i j. rw (all-kept i j, all-same i j))
-
-    pub finish-numbering : Numbering b z (startedCount b s)
-    finish-numbering = record {
-      count = same-count;
-      well = record { strays = no-stray; once = λ k j. same-holders (suc k) ∙ w .once k (omega (arith, same-count)) };
-    }
+  pub same-numbering : Numbering b z (startedCount b s)
+  same-numbering = record {
+    count = same-count;
+    well = record { strays = stray-none; once = λ k j. same-holders (suc k) ∙ w .once k (omega (arith, same-count)) };
+  }

@@ -3,3 +3,4 @@ pub mod Well
 pub mod Left
 pub mod Shown
 pub mod Passed
+pub mod Plain

@@ -1,20 +1,24 @@
 -- What calls rest on after checks 1 to 16: an accepted plan with its meaning, and a state whose bytes can be read as
 -- statuses. Assumes nothing.
 use mathlib.Core.Path.{_≡_, refl, sym, ap, _∙_}
-use mathlib.Core.Logic.{_↔_}
+use mathlib.Core.Logic.{_↔_, _⊎_, inl, inr, ⊎-elim}
+use mathlib.Core.Bool.{true, false, or-true}
 use mathlib.Core.List.{List}
 use Prim.Native.Nat.{ℕ, zero, suc, _+_, _<_, _≤_}
 use native.Mathlib.Omega.{arith}
 use lib.ListN.{length}
-use borrow.Author.Tests.{ltb-false}
-use Rattle.plan_format.specs.Format.{nodeCount, kindOf}
+use lib.Dec.{eqb}
+use borrow.Author.Tests.{ltb-false, eqb-true, not-false}
+use Rattle.plan_format.specs.Format.{nodeCount, kindOf, isKind}
+use Rattle.plan_rules.proofs.Laws.{either, or-none, or-split, not-passed}
 use Rattle.plan_check.specs.Meaning.{planOf}
-use Rattle.plan_check.proofs.Meaning.{means-well-formed, kind-of}
-use Rattle.runs.specs.Plan.{WellFormed}
+use Rattle.plan_check.proofs.Meaning.{means-well-formed, kind-is, kind-task}
+use Rattle.plan_check.proofs.Nodes.{plan-kind, kind-optional}
+use Rattle.runs.specs.Plan.{Moves, WellFormed}
 use Rattle.runs.specs.Execution.{Status, waiting, running, done}
 use Rattle.runs.specs.Calls.{statusByte}
 use Rattle.run_starts.specs.Starts.{nodeByte}
-use Rattle.run_state.specs.State.{badByte, stateRefusal, statusAt, statusIn}
+use Rattle.run_state.specs.State.{badByte, stateRefusal, statusAt, moves, statusIn}
 use Rattle.run_state.proofs.Refused.{Roomy, roomy, state-well}
 use Rattle.run_state.proofs.Well.{Well, well}
 
@@ -26,11 +30,25 @@ status-back (suc zero) l = refl
 status-back (suc (suc zero)) l = refl
 status-back (suc (suc (suc x))) l = absurd (omega arith)
 
-status-of : (a : Status) → statusAt (statusByte a) ≡ a
+pub status-of : (a : Status) → statusAt (statusByte a) ≡ a
 unfolding statusAt
 status-of waiting = refl
 status-of running = refl
 status-of done = refl
+
+-- the nodes that events move
+module _ (b : List ℕ) (n : ℕ) where
+  pub task-moves : isKind b n 0 ≡ true → moves b n ≡ true
+  unfolding moves
+  task-moves y = rw y
+
+  pub optional-moves : isKind b n 3 ≡ true → moves b n ≡ true
+  unfolding moves
+  optional-moves y = rw y (or-true (isKind b n 0))
+
+  pub moves-node : moves b n ≡ true → n < nodeCount b
+  unfolding moves
+  moves-node y = ⊎-elim (λ x. kind-is b n 0 x .0) (λ x. kind-is b n 3 x .0) (or-split (isKind b n 0) (isKind b n 3) y)
 
 module _ (b s : List ℕ) (ok : stateRefusal b s ≡ 0) where
   pub has-room : Roomy b s
@@ -42,19 +60,54 @@ module _ (b s : List ℕ) (ok : stateRefusal b s ≡ 0) where
   pub is-well : Well b s
   is-well = well b s (state-well b s ok .1)
 
-  -- a task's byte
-  pub byte-small : (n : ℕ) → n < nodeCount b → kindOf b n ≡ 0 → nodeByte s n ≤ 2
+  -- the byte of a node that no event moves
+  pub byte-rests : (n : ℕ) → n < nodeCount b → moves b n ≡ false → nodeByte s n ≡ 0
+  unfolding badByte moves
+  byte-rests n l y = let w = or-none (isKind b n 0) (isKind b n 3) y in
+      eqb-true (nodeByte s n) 0 (not-false _ (rw (w .0, w .1) at (is-well .bytes n l)))
+
+  -- of a task, of an optional group
+  pub byte-optional : (n : ℕ) → n < nodeCount b → isKind b n 3 ≡ true → (nodeByte s n ≡ 0) ⊎ (nodeByte s n ≡ 2)
   unfolding badByte
-  byte-small n l k = ltb-false 2 (nodeByte s n) (rw (kind-of b n 0 l k) at (is-well .bytes n l))
+  byte-optional n l y =
+      let none : isKind b n 0 ≡ false = not-passed _ (λ x. omega (arith, kind-is b n 0 x .1, kind-is b n 3 y .1)) in
+      ⊎-elim (λ x. inl (eqb-true (nodeByte s n) 0 x)) (λ x. inr (eqb-true (nodeByte s n) 2 x))
+      (or-split (eqb (nodeByte s n) 0) (eqb (nodeByte s n) 2) (not-false _ (rw (none, y) at (is-well .bytes n l))))
 
-  task-status : (n : ℕ) → n < nodeCount b → kindOf b n ≡ 0 → statusIn b s n ≡ statusAt (nodeByte s n)
+  byte-small : (n : ℕ) → n < nodeCount b → moves b n ≡ true → nodeByte s n ≤ 2
+  unfolding badByte moves
+  byte-small n l y =
+      ⊎-elim
+      (λ (x : isKind b n 0 ≡ true). ltb-false 2 (nodeByte s n) (rw x at (is-well .bytes n l)))
+      (λ x. ⊎-elim (λ (e : nodeByte s n ≡ 0). omega arith) (λ (e : nodeByte s n ≡ 2). omega arith)
+      (byte-optional n l x))
+      (or-split (isKind b n 0) (isKind b n 3) y)
+
+  -- the byte of any node is that of the status that it shows
+  pub byte-shown : (n : ℕ) → n < nodeCount b → statusByte (statusIn b s n) ≡ nodeByte s n
   unfolding statusIn
-  task-status n l k = rw (kind-of b n 0 l k)
+  byte-shown n l =
+      ⊎-elim
+      (λ (y : moves b n ≡ true). rw y (status-back (nodeByte s n) (byte-small n l y)))
+      (λ (y : moves b n ≡ false). rw (y, byte-rests n l y))
+      (either (moves b n))
 
-  pub byte-is : (n : ℕ) → n < nodeCount b → kindOf b n ≡ 0 → (a : Status)
-      → (nodeByte s n ≡ statusByte a) ↔ (statusIn b s n ≡ a)
-  byte-is n l k a = rw (task-status n l k)
-      (λ e. ap statusAt e ∙ status-of a, λ e. sym (status-back (nodeByte s n) (byte-small n l k)) ∙ ap statusByte e)
+  pub byte-is : (n : ℕ) → n < nodeCount b → (a : Status) → (nodeByte s n ≡ statusByte a) ↔ (statusIn b s n ≡ a)
+  byte-is n l a = (
+    λ e. sym (status-of (statusIn b s n)) ∙ ap statusAt (byte-shown n l ∙ e) ∙ status-of a,
+    λ e. sym (byte-shown n l) ∙ ap statusByte e,
+  )
+
+  -- what does not wait is of a kind that events move
+  pub shown-moves : (n : ℕ) → (statusIn b s n ≡ waiting → ⊥) → Moves (planOf b .tree .kind n)
+  unfolding statusIn moves
+  shown-moves n k =
+      ⊎-elim
+      (λ (y : moves b n ≡ true). ⊎-elim (λ x. rw (plan-kind b n ∙ kind-task (kindOf b n) (kind-is b n 0 x .1)) tt)
+      (λ x. rw (plan-kind b n ∙ kind-optional (kindOf b n) (kind-is b n 3 x .1)) tt)
+      (or-split (isKind b n 0) (isKind b n 3) y))
+      (λ (y : moves b n ≡ false). absurd (k (rw y)))
+      (either (moves b n))
 
   -- a node's number is an index of a table of nodes, and its byte is one of the state
   module _ (n : ℕ) (l : n < nodeCount b) where

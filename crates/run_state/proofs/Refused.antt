@@ -1,20 +1,20 @@
 -- The chain of refusals 1 to 16, forwards and backwards. Assumes nothing.
-use mathlib.Core.Path.{_≡_}
-use mathlib.Core.Bool.{Bool, true, false, _&&_, _||_}
+use mathlib.Core.Path.{_≡_, refl}
+use mathlib.Core.Bool.{Bool, true, false, cond, not, _&&_, _||_}
 use mathlib.Core.List.{List}
 use Prim.Native.Nat.{ℕ, _+_, _*_, _<_, _≤_}
 use lib.ListN.{length, take}
-use lib.Dec.{leb}
-use borrow.Author.Tests.{lt-ltb, le-ltb, ltb-false}
+use lib.Dec.{eqb, ltb, leb}
+use borrow.Author.Tests.{lt-ltb, le-ltb, ltb-false, ne-eqb}
 use Rattle.base.proofs.First.{first-some, both-none, check-passed}
 use Rattle.run_flags.specs.Flags.{flagIn}
 use Rattle.run_flags.proofs.Laws.{in-first}
-use Rattle.plan_format.specs.Format.{nodeCount, flagCount}
+use Rattle.plan_format.specs.Format.{nodeCount, flagCount, isKind}
 use Rattle.plan_rules.specs.Rules.{refusal}
 use Rattle.runs.specs.Tests.{anyBelow}
 use Rattle.plan_check.proofs.Accepted.{Clean, clean}
-use Rattle.run_starts.specs.Starts.{Fits, misnumbered}
-use Rattle.run_state.specs.State.{tooShort, badFlag, badNode, malformed, roomRefusal, stateRefusal}
+use Rattle.run_starts.specs.Starts.{Fits, nodeByte, misnumbered}
+use Rattle.run_state.specs.State.{tooShort, badFlag, badByte, badNode, malformed, roomRefusal, stateRefusal}
 
 module _ (b s : List ℕ) where
   pub room-plan : (refusal b ≡ 0 → ⊥) → refusal b ≡ roomRefusal b s
@@ -70,3 +70,27 @@ pub bad-parts : (b s : List ℕ) (x y z : Bool) → x ≡ anyBelow 64 (badFlag b
     → y ≡ anyBelow (nodeCount b) (badNode b s) → z ≡ misnumbered b s → (x || y || z) ≡ malformed b s
 unfolding malformed
 bad-parts b s x y z ex ey ez = rw (ex, ey, ez)
+
+-- a node's byte, by what the function has at hand
+module _ (b s : List ℕ) (n : ℕ) where
+  pub byte-waiting : nodeByte s n ≡ 0 → false ≡ badByte b s n
+  unfolding badByte
+  byte-waiting e = rw e (at (isKind b n 0) (isKind b n 3))
+    where
+      at : (x y : Bool) → false ≡ cond x false (cond y false false)
+      at true y = refl
+      at false true = refl
+      at false false = refl
+
+  pub byte-task : isKind b n 0 ≡ true → ltb 2 (nodeByte s n) ≡ badByte b s n
+  unfolding badByte
+  byte-task y = rw y
+
+  pub byte-group : (nodeByte s n ≡ 0 → ⊥) → isKind b n 0 ≡ false → (o : Bool) → o ≡ isKind b n 3
+      → not (o && eqb (nodeByte s n) 2) ≡ badByte b s n
+  unfolding badByte
+  byte-group z y o e = rw (y, ne-eqb (nodeByte s n) 0 z, ← e) (at o)
+    where
+      at : (x : Bool) → not (x && eqb (nodeByte s n) 2) ≡ cond x (not (eqb (nodeByte s n) 2)) true
+      at true = refl
+      at false = refl

@@ -1,7 +1,7 @@
 -- What the fresh state shows, and that it is well formed. Assumes nothing.
 use mathlib.Core.Path.{_≡_, refl, sym, _∙_, fun-ext}
 use mathlib.Core.Logic.{by-cases, ⊎-elim}
-use mathlib.Core.Bool.{Bool, true, false, cond, and-false}
+use mathlib.Core.Bool.{Bool, true, false, cond, and-false, true≢false}
 use mathlib.Core.List.{List}
 use Prim.Native.Nat.{ℕ, _+_, _*_, _/_, _<_, _≤_}
 use native.Mathlib.Decide.{decLt}
@@ -17,17 +17,17 @@ use Rattle.plan_format.specs.Format.{u16At, nodeCount, flagCount, startFlag, is
 use Rattle.plan_rules.proofs.Laws.{either, not-passed}
 use Rattle.plan_check.specs.Meaning.{startOf}
 use Rattle.plan_check.proofs.Accepted.{start-below}
-use Rattle.plan_check.proofs.Meaning.{kind-is}
 use Rattle.runs.specs.Execution.{waiting}
 use Rattle.runs.specs.Calls as calls
 use Rattle.run_starts.specs.Starts.{nodeByte}
-use Rattle.run_state.specs.State.{badFlag, badByte, malformed, roomRefusal, stateRefusal, statusAt}
+use Rattle.run_state.specs.State.{badFlag, badByte, malformed, roomRefusal, stateRefusal, statusAt, moves}
 use Rattle.run_starts.specs.Starts.{ordinalAt, ordinalIn, startedIn}
 use Rattle.run_state.specs.State.{statusIn, flagShown, ordinalShown, worldOf}
 use Rattle.run_starts.specs.Starts.{startedCount, strayOrdinal}
 use Rattle.run_state.specs.Fresh.{freshByte, freshState}
 use Rattle.run_state.proofs.Refused.{Roomy, roomy, room-long, state-good}
 use Rattle.run_state.proofs.Well.{from-parts}
+use Rattle.run_state.proofs.Passed.{moves-node}
 
 module _ (b s : List ℕ) (r : Roomy b s) where
   written : List ℕ
@@ -87,7 +87,7 @@ module _ (b s : List ℕ) (r : Roomy b s) where
       alike false = refl
 
       small : (n : ℕ) → n < nodeCount b → badByte b written n ≡ false
-      small n l = rw (fresh-node n l) (alike (isKind b n 0))
+      small n l = rw (fresh-node n l, alike (isKind b n 3)) (alike (isKind b n 0))
 
       stray : (n : ℕ) → n < nodeCount b → strayOrdinal b written n ≡ false
       stray n l = rw (none-started n l, fresh-ordinal n l)
@@ -96,9 +96,9 @@ module _ (b s : List ℕ) (r : Roomy b s) where
   unfolding statusIn statusAt
   shows-status n =
       ⊎-elim
-      (λ (e : isKind b n 0 ≡ true). rw (e, fresh-node n (kind-is b n 0 e .0)))
-      (λ (e : isKind b n 0 ≡ false). rw e)
-      (either (isKind b n 0))
+      (λ (e : moves b n ≡ true). rw (e, fresh-node n (moves-node b n e)))
+      (λ (e : moves b n ≡ false). rw e)
+      (either (moves b n))
 
   shows-flag : (f : ℕ) → flagShown written f ≡ startOf b f
   unfolding flagShown startOf

@@ -19,13 +19,14 @@ use Rattle.runs.specs.Calls.{World}
 unfoldable pub tooShort : List ℕ → List ℕ → Bool
 tooShort b s = ltb (length s) (8 + 3 * nodeCount b)
 
--- 16: a bit for flag V or higher, a group byte not 0, a task byte over 2; and of the ordinals `strayOrdinal` and
--- `misnumbered`
+-- 16: a bit for flag V or higher, a group byte not 0 (02: 2 passes at an optional group, which is then skipped), a task
+-- byte over 2; and of the ordinals `strayOrdinal` and `misnumbered`
 unfoldable pub badFlag : List ℕ → List ℕ → ℕ → Bool
 badFlag b s f = leb (flagCount b) f && flagIn s f
 
 unfoldable pub badByte : List ℕ → List ℕ → ℕ → Bool
-badByte b s n = cond (isKind b n 0) (ltb 2 (nodeByte s n)) (not (eqb (nodeByte s n) 0))
+badByte b s n = cond (isKind b n 0) (ltb 2 (nodeByte s n))
+    (cond (isKind b n 3) (not (eqb (nodeByte s n) 0 || eqb (nodeByte s n) 2)) (not (eqb (nodeByte s n) 0)))
 
 unfoldable pub badNode : List ℕ → List ℕ → ℕ → Bool
 badNode b s n = badByte b s n || strayOrdinal b s n
@@ -41,14 +42,18 @@ roomRefusal b s = first (refusal b) (cond (tooShort b s) 15 0)
 unfoldable pub stateRefusal : List ℕ → List ℕ → ℕ
 stateRefusal b s = first (roomRefusal b s) (cond (malformed b s) 16 0)
 
--- 0 waiting, 1 running, 2 done
+-- 0 waiting, 1 running, 2 done (of an optional group: skipped)
 unfoldable pub statusAt : ℕ → Status
 statusAt x = cond (eqb x 0) waiting (cond (eqb x 1) running done)
 
--- The states that a state's bytes show: a number that is no task of the plan waits, a flag from 64 on is clear, and a
--- number past the nodes has the ordinal 0.
+-- a node that events move: a task, or an optional group
+unfoldable pub moves : List ℕ → ℕ → Bool
+moves b n = isKind b n 0 || isKind b n 3
+
+-- The states that a state's bytes show: a number that is no task or optional group of the plan waits, a flag from 64 on
+-- is clear, and a number past the nodes has the ordinal 0.
 unfoldable pub statusIn : List ℕ → List ℕ → ℕ → Status
-statusIn b s n = cond (isKind b n 0) (statusAt (nodeByte s n)) waiting
+statusIn b s n = cond (moves b n) (statusAt (nodeByte s n)) waiting
 
 unfoldable pub flagShown : List ℕ → ℕ → Bool
 flagShown s f = cond (ltb f 64) (flagIn s f) false
@@ -64,7 +69,7 @@ worldOf b s = record {
   ordinal = ordinalShown b s;
 }
 
--- what is asked where an event of task t is judged or written: t is a node, and the state passes 1 to 16
+-- what is asked where an event of node t is judged or written: t is a node, and the state passes 1 to 16
 pub record AtEvent (b s : List ℕ) (t : ℕ) : Type 0 where
   pub node : t < nodeCount b
   pub passed : stateRefusal b s ≡ 0

@@ -1,5 +1,8 @@
 // The bytes of a state (01: record): the checks that every call makes first, and the fresh state.
+use base::kinds::OPTIONAL;
 use base::kinds::TASK;
+use base::statuses::DONE;
+use base::statuses::WAITING;
 use plan_check::check;
 use plan_format::fields::flags;
 use plan_format::fields::is_kind;
@@ -39,10 +42,13 @@ fn byte_bad(plan: &[u8], state: &[u8], n: usize) -> bool
     ensures { λ r. ⌜ r ≡ badByte (now (plan .entry)) (now (state .entry)) n ⌝ }
 {
     let x = state[8 + n];
-    if is_kind(plan, n, TASK) {
-        return 2 < x;
+    if x == WAITING {
+        return false;
     }
-    x != 0
+    if is_kind(plan, n, TASK) {
+        return DONE < x;
+    }
+    !(is_kind(plan, n, OPTIONAL) & (x == DONE))
 }
 
 // The byte of node n is bad, or it has an ordinal and has not been started.

@@ -1,4 +1,5 @@
--- The trial plans and calls of 01 that are marked * hold, from their bytes, by computation. Assumes nothing.
+-- The trial plans and calls of 01 that are marked * hold, from their bytes, by computation; and rows for 02. Assumes
+-- nothing.
 use Rattle.plan_codes.specs.Names.{nameAllowed}
 use Rattle.plan_codes.specs.Values.{flagOf, signOf, placeOf, valueBad}
 use Rattle.plan_format.specs.Format.{u16At, nodeCount, condCount, orderCount, flagCount, wholeLength, startFlag}
@@ -15,15 +16,16 @@ use Rattle.base.specs.Count.{countBelow}
 use Rattle.run_flags.specs.Flags.{flagIn}
 use Rattle.run_starts.specs.Starts.{nodeByte, ordinalAt, ordinalIn, startedIn, startedCount, holders, strayOrdinal}
 use Rattle.run_starts.specs.Starts.{misnumbered}
-use Rattle.run_state.specs.State.{tooShort, badFlag, badByte, badNode, malformed, roomRefusal, stateRefusal}
+use Rattle.run_state.specs.State.{tooShort, badFlag, badByte, badNode, malformed, roomRefusal, stateRefusal, statusAt}
+use Rattle.run_state.specs.State.{moves, statusIn}
 use Rattle.run_calls.specs.Shown.{flagByte, numberByte, shownByte}
 use Rattle.run_trials.specs.Written.{two, twos, eight, names, nodes, conditionNodes, conditionValues}
 use Rattle.run_trials.specs.Written.{earlierNodes, laterNodes, bytesOf}
 use Rattle.run_trials.specs.Trial.{statusBytes, stateBytes, AllHold}
-use Rattle.run_trials.specs.Starred.{starred, of-starts, of-places}
-use Rattle.run_trials.specs.Checked.{AllChecked}
+use Rattle.run_trials.specs.Starred.{starred, of-starts, of-places, of-skips, of-groups, of-words}
+use Rattle.run_trials.specs.Checked.{AllChecked, AllWorded}
 use Rattle.run_trials.proofs.Tests.{showsB, leftB, holdsB, allHoldB, all-hold}
-use Rattle.run_trials.proofs.Checks.{allCheckedB, all-checked}
+use Rattle.run_trials.proofs.Checks.{allCheckedB, all-checked, completeIs, allWordedB, all-worded}
 
 -- the plans and their bytes, and the bytes of states, under one name
 unfoldable pub bytes : Unit {0}
@@ -51,7 +53,25 @@ pub starts-hold : AllHold of-starts
 unfolding rows
 starts-hold = all-hold of-starts tt
 
-pub places-checked : AllChecked of-places
+-- 16 and 15 of a state
+unfoldable pub checks : Unit {0}
 unfolding bytes nodeByte ordinalAt ordinalIn tooShort badFlag badByte startedIn startedCount holders strayOrdinal
     misnumbered badNode malformed roomRefusal stateRefusal flagIn bit countBelow allCheckedB
+checks = tt
+
+pub places-checked : AllChecked of-places
+unfolding checks
 places-checked = all-checked of-places tt
+
+-- every row for 02's optional groups
+pub skips-hold : AllHold of-skips
+unfolding rows
+skips-hold = all-hold of-skips tt
+
+pub groups-checked : AllChecked of-groups
+unfolding checks
+groups-checked = all-checked of-groups tt
+
+pub words-told : AllWorded of-words
+unfolding rows checks moves statusAt statusIn completeIs allWordedB
+words-told = all-worded of-words tt

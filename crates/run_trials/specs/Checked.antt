@@ -20,13 +20,13 @@ pub record Checked : Type 0 where
   pub state : List ℕ
   pub refusal : ℕ
 
--- `status`, `start` and `finish` refuse with r and change nothing, and `fresh` too where r is 15
+-- `status`, `start`, `finish` and `skip` refuse with r and change nothing, and `fresh` too where r is 15
 pub record Refuses (b s : List ℕ) (r : ℕ) : Type 0 where
   pub status : (p : Progress) → Told b s p → said p ≡ inl r
   pub event : (e : Event) (n : ℕ) (z : List ℕ) → Called b s e n z → (n ≡ r) × (z ≡ s)
   pub room : r ≡ 15 → (n : ℕ) (z : List ℕ) → Freshened b s n z → (n ≡ 15) × (z ≡ s)
 
--- `status` says a word, and `start` and `finish` answer as 01 says of the states that the bytes show
+-- `status` says a word, and `start`, `finish` and `skip` answer as 01 says of the states that the bytes show
 pub record Passes (b s : List ℕ) : Type 0 where
   pub status : (p : Progress) → Told b s p → (w : Word) × (said p ≡ inr w)
   pub event : (e : Event) (n : ℕ) (z : List ℕ) → Called b s e n z
@@ -39,3 +39,13 @@ CheckOf b s (suc r) = Refuses b s (suc r)
 abbrev pub AllChecked : List Checked → Type 0
 AllChecked [] = Unit {0}
 AllChecked (c ∷ l) = CheckOf (bytesOf (c .plan)) (c .state) (c .refusal) × AllChecked l
+
+-- a plan, the bytes of a state, and what `status` says of it
+pub record Worded : Type 0 where
+  pub plan : Written
+  pub state : List ℕ
+  pub word : Word
+
+abbrev pub AllWorded : List Worded → Type 0
+AllWorded [] = Unit {0}
+AllWorded (c ∷ l) = ((p : Progress) → Told (bytesOf (c .plan)) (c .state) p → said p ≡ inr (c .word)) × AllWorded l

@@ -1,28 +1,32 @@
--- The trial plans and calls of 01 that are marked *, as one table; and rows for 02's order of starts. Definitions only.
+-- The trial plans and calls of 01 that are marked *, as one table; and rows for 02's order of starts and its optional
+-- groups. Definitions only.
 use Prim.Native.Nat.{ℕ}
 use mathlib.Core.Bool.{Bool, true, false}
-use mathlib.Core.List.{List, [], _∷_}
+use mathlib.Core.List.{List, [], _∷_, _++_}
 use lib.ListN.{replicate, take}
-use lib.Dec.{eqb}
-use Rattle.runs.specs.Plan.{task, all-of, any-of, Place, pre, inc, post, placeNumber, signNumber}
+use lib.Dec.{eqb, ltb}
+use Rattle.runs.specs.Plan.{Kind, task, all-of, any-of, optional, Place, pre, inc, post, placeNumber, signNumber}
 use Rattle.plan_codes.specs.Values.{valueOf}
-use Rattle.runs.specs.Execution.{Status, waiting, running, done, start, finish}
-use Rattle.runs.specs.Summary.{must-pre}
+use Rattle.runs.specs.Execution.{Status, waiting, running, done, start, finish, skip}
+use Rattle.runs.specs.Summary.{may-pre, must-pre, may-inc, may-clobber}
 use Rattle.runs.specs.Verdict.{Verdict, CLEAR, OPEN, DOOMED}
-use Rattle.runs.specs.Calls.{Call, one, no-task, wrong-status, branch-begun, order-open, pre-unmet, inc-broken, number}
-use Rattle.run_trials.specs.Written.{Entry, Order, then, Written}
+use Rattle.runs.specs.Calls.{Call, one, no-task, wrong-status, branch-begun, order-open, pre-unmet, inc-broken}
+use Rattle.runs.specs.Calls.{no-optional, number}
+use Rattle.run_trials.specs.Written.{Entry, Order, then, Written, eight, twos}
 use Rattle.run_trials.specs.Trial.{Trial, Shown, shown, stateBytes}
-use Rattle.run_trials.specs.Checked.{Checked}
+use Rattle.run_monitor.specs.Status.{Word, COMPLETE, UNFINISHED}
+use Rattle.run_trials.specs.Checked.{Checked, Worded}
 
 -- ---- names
 pub data Letter : Type 0 where
-  A C D E I K L M N O P R S T Z dash : Letter
+  A C D E G I K L M N O P Q R S T U W Z dash : Letter
 
 abbrev ascii : Letter → ℕ
 ascii A = 65
 ascii C = 67
 ascii D = 68
 ascii E = 69
+ascii G = 71
 ascii I = 73
 ascii K = 75
 ascii L = 76
@@ -30,9 +34,12 @@ ascii M = 77
 ascii N = 78
 ascii O = 79
 ascii P = 80
+ascii Q = 81
 ascii R = 82
 ascii S = 83
 ascii T = 84
+ascii U = 85
+ascii W = 87
 ascii Z = 90
 ascii dash = 45
 
@@ -61,12 +68,15 @@ holds f v = condition inc f v
 abbrev leaves : ℕ → Bool → ℕ
 leaves f v = condition post f v
 
--- ---- nodes: the root, which is all-of; a choice under the root; a task under node u
+-- ---- nodes: a group under node u; the root, which is all-of; a choice under the root; a task under node u
+abbrev group : Kind → ℕ → List ℕ → Entry
+group k u n = record { name = n; kind = k; parent = u; minutes = 0; values = [] }
+
 abbrev root : List ℕ → Entry
-root n = record { name = n; kind = all-of; parent = 255; minutes = 0; values = [] }
+root n = group all-of 255 n
 
 abbrev choice : List ℕ → Entry
-choice n = record { name = n; kind = any-of; parent = 0; minutes = 0; values = [] }
+choice n = group any-of 0 n
 
 abbrev work : ℕ → List ℕ → ℕ → List ℕ → Entry
 work u n m l = record { name = n; kind = task; parent = u; minutes = m; values = l }
@@ -78,12 +88,18 @@ none-set f = false
 abbrev only : ℕ → ℕ → Bool
 only g f = eqb f g
 
+abbrev two-set : ℕ → Bool
+two-set f = ltb f 2
+
 -- ---- calls and what they return
 abbrev begin : ℕ → Call
 begin t = one (start t)
 
 abbrev end : ℕ → Call
 end t = one (finish t)
+
+abbrev drop : ℕ → Call
+drop g = one (skip g)
 
 abbrev ok : ℕ
 ok = 0
@@ -232,4 +248,110 @@ of-places =
     -- 8 + 3N - 1 bytes, 8 + N bytes
     ∷ row (take 22 (begun (0 ∷ 1 ∷ 0 ∷ 0 ∷ 2 ∷ []))) 15
     ∷ row (take 13 (begun (0 ∷ 1 ∷ 0 ∷ 0 ∷ 2 ∷ []))) 15
+    ∷ []
+
+-- ---- 02's optional groups
+-- a dive: LOWR lowers the gear; the calibration CALI, by TONE or QUIK, which a busy day drops; PING
+abbrev lowr : ℕ
+lowr = 1
+
+abbrev cali : ℕ
+cali = 2
+
+abbrev tone : ℕ
+tone = 3
+
+abbrev ping : ℕ
+ping = 5
+
+abbrev pub dive : Written
+dive = record {
+  flags = 2;
+  start = none-set;
+  entries = root (name D O W N)
+      ∷ work 0 (name L O W R) 8 (needs 0 off ∷ leaves 0 on ∷ [])
+      ∷ group optional 0 (name C A L I)
+      ∷ work cali (name T O N E) 15 (needs 0 on ∷ holds 1 on ∷ leaves 1 off ∷ [])
+      ∷ work cali (name Q U I K) 4 (needs 0 on ∷ holds 1 on ∷ leaves 1 off ∷ [])
+      ∷ work 0 (name P I N G) 40 (needs 1 off ∷ needs 0 on ∷ holds 1 on ∷ leaves 1 off ∷ [])
+      ∷ [];
+  orders = then lowr cali ∷ then cali ping ∷ [];
+}
+
+-- a group of kind k with a task A and, of kind j, a group of a task C
+abbrev nested : Kind → Kind → Written
+nested k j = record {
+  flags = 1;
+  start = none-set;
+  entries = group k 255 (name R O O T) ∷ work 0 (short A) 2 [] ∷ group j 0 (name P I C K) ∷ work 2 (short C) 3 [] ∷ [];
+  orders = [];
+}
+
+-- the twins, A before Z, with Z in an optional group
+abbrev twin-dropped : Written
+twin-dropped = under-root (a-task (needs 0 off ∷ leaves 0 on ∷ []) ∷ group optional 0 (name P I C K) ∷ work 2
+    (short Z) 5 (needs 0 off ∷ leaves 0 on ∷ []) ∷ []) (then 1 2 ∷ [])
+
+abbrev pub of-skips : List Trial
+of-skips =
+    -- ordered after LOWR; skipped, then neither begun nor skipped again, and PING may start
+    trial dive CLEAR (shown cali 0 on may-pre ∷ shown cali 1 on may-inc ∷ [])
+    (drop cali ∷ begin lowr ∷ end lowr ∷ begin ping ∷ drop cali ∷ begin tone ∷ drop cali ∷ begin ping ∷ [])
+    (number order-open ∷ ok ∷ ok ∷ number order-open ∷ ok ∷ number branch-begun ∷ number wrong-status ∷ ok ∷ [])
+    (stateBytes two-set (waiting ∷ done ∷ done ∷ waiting ∷ waiting ∷ running ∷ []) (0 ∷ 1 ∷ 0 ∷ 0 ∷ 0 ∷ 2 ∷ []))
+    -- not skipped once a branch is begun
+    ∷ trial dive CLEAR [] (begin lowr ∷ end lowr ∷ begin tone ∷ drop cali ∷ end tone ∷ drop cali ∷ begin ping ∷ [])
+    (ok ∷ ok ∷ ok ∷ number wrong-status ∷ ok ∷ number wrong-status ∷ ok ∷ [])
+    (stateBytes two-set (waiting ∷ done ∷ waiting ∷ done ∷ waiting ∷ running ∷ []) (0 ∷ 1 ∷ 0 ∷ 2 ∷ 0 ∷ 3 ∷ []))
+    -- 27, and 17 for a start and a finish of the group
+    ∷ trial dive CLEAR [] (drop tone ∷ drop 0 ∷ drop 6 ∷ drop 256 ∷ begin cali ∷ end cali ∷ [])
+    (number no-optional ∷ number no-optional ∷ number no-optional ∷ number no-optional ∷ number no-task ∷ number no-task
+    ∷ [])
+    (stateBytes none-set (waits 6) (none 6))
+    -- a choice of a task and an optional group
+    ∷ trial (nested any-of optional) CLEAR [] (drop 2 ∷ begin 1 ∷ begin 3 ∷ []) (ok ∷ number branch-begun ∷ number branch-begun ∷ [])
+    (stateBytes none-set (waiting ∷ waiting ∷ done ∷ waiting ∷ []) (none 4))
+    ∷ trial (nested any-of optional) CLEAR [] (begin 1 ∷ drop 2 ∷ drop 0 ∷ []) (ok ∷ number branch-begun ∷ number no-optional ∷ [])
+    (stateBytes none-set (waiting ∷ running ∷ waiting ∷ waiting ∷ []) (0 ∷ 1 ∷ 0 ∷ 0 ∷ []))
+    -- an optional root
+    ∷ trial (nested optional any-of) CLEAR [] (drop 0 ∷ begin 1 ∷ begin 3 ∷ drop 0 ∷ drop 2 ∷ [])
+    (ok ∷ number branch-begun ∷ number branch-begun ∷ number wrong-status ∷ number no-optional ∷ [])
+    (stateBytes none-set (done ∷ waits 3) (none 4))
+    -- an optional group in another: the inner skip is a branch of the outer, and the outer skip ends both
+    ∷ trial (nested optional optional) CLEAR [] (drop 2 ∷ drop 0 ∷ begin 1 ∷ begin 3 ∷ drop 2 ∷ [])
+    (ok ∷ number wrong-status ∷ number branch-begun ∷ number branch-begun ∷ number wrong-status ∷ [])
+    (stateBytes none-set (waiting ∷ waiting ∷ done ∷ waiting ∷ []) (none 4))
+    ∷ trial (nested optional optional) CLEAR [] (drop 0 ∷ drop 2 ∷ begin 3 ∷ [])
+    (ok ∷ number branch-begun ∷ number branch-begun ∷ [])
+    (stateBytes none-set (done ∷ waits 3) (none 4))
+    -- DOOMED with the second twin, OPEN where it can be dropped
+    ∷ trial twin-dropped OPEN (shown 0 0 off may-clobber ∷ shown 2 0 off may-pre ∷ [])
+    (begin 1 ∷ end 1 ∷ begin 3 ∷ drop 2 ∷ []) (ok ∷ ok ∷ number pre-unmet ∷ ok ∷ [])
+    (stateBytes (only 0) (waiting ∷ done ∷ done ∷ waiting ∷ []) (0 ∷ 1 ∷ 0 ∷ 0 ∷ []))
+    ∷ []
+
+-- 16 on states of the dive after LOWR: x is the byte of the calibration, y that of the root, k the place of the calibration
+abbrev dived : ℕ → ℕ → ℕ → ℕ → Checked
+dived x y k r = record {
+  plan = dive;
+  state = eight (only 0) ++ (y ∷ 2 ∷ x ∷ 0 ∷ 0 ∷ 0 ∷ []) ++ twos (0 ∷ 1 ∷ k ∷ 0 ∷ 0 ∷ 0 ∷ []);
+  refusal = r;
+}
+
+abbrev pub of-groups : List Checked
+of-groups = dived 0 0 0 0 ∷ dived 2 0 0 0 ∷ dived 1 0 0 16 ∷ dived 3 0 0 16 ∷ dived 0 2 0 16 ∷ dived 2 0 2 16 ∷ []
+
+-- whether the root is complete
+abbrev root-says : Written → List Status → List ℕ → Word → Worded
+root-says w l os v = record { plan = w; state = stateBytes none-set l os; word = v }
+
+abbrev pub of-words : List Worded
+of-words =
+    root-says (nested optional any-of) (done ∷ waits 3) (none 4) COMPLETE
+    ∷ root-says (nested optional any-of) (waits 4) (none 4) UNFINISHED
+    ∷ root-says (nested optional any-of) (waiting ∷ done ∷ waits 2) (0 ∷ 1 ∷ 0 ∷ 0 ∷ []) COMPLETE
+    ∷ root-says (nested optional optional) (waiting ∷ waiting ∷ done ∷ waiting ∷ []) (none 4) COMPLETE
+    ∷ root-says (nested any-of optional) (waiting ∷ waiting ∷ done ∷ waiting ∷ []) (none 4) COMPLETE
+    ∷ root-says (nested all-of optional) (waiting ∷ done ∷ waits 2) (0 ∷ 1 ∷ 0 ∷ 0 ∷ []) UNFINISHED
+    ∷ root-says (nested all-of optional) (waiting ∷ done ∷ done ∷ waiting ∷ []) (0 ∷ 1 ∷ 0 ∷ 0 ∷ []) COMPLETE
     ∷ []

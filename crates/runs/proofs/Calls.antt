@@ -6,4 +6,5 @@ pub mod Accepted
 pub mod Rows
 pub mod Lists
 pub mod Numbered
+pub mod Skips
 pub mod Demand3

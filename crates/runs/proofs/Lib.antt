@@ -5,3 +5,4 @@ pub mod Execution
 pub mod Summary
 pub mod Verdict
 pub mod Calls
+pub mod Plain

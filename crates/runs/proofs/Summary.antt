@@ -15,6 +15,7 @@ pub mod MustClobber
 pub mod ReflectConditions
 pub mod ByChildren
 pub mod ReflectClobber
+pub mod Optional
 pub mod Exact
 pub use Events.*
 pub use MayMust.*

@@ -1,5 +1,5 @@
--- The monitor's calls on a plan: refusals 17 to 22 and the states, as 01 words them, for any numbers and any states,
--- reachable or not. Definitions only.
+-- The monitor's calls on a plan: refusals 17 to 22 and 27, and the states, as 01 and 02 word them, for any numbers and
+-- any states, reachable or not. Definitions only.
 use mathlib.Core.Path.{_≡_}
 use mathlib.Core.Logic.{_≢_, _⊎_}
 use mathlib.Core.Bool.{Bool, not, cond}
@@ -7,10 +7,9 @@ use mathlib.Core.Option.{Option·getD, some}
 use mathlib.Core.List.{List, [], _∷_, _++_}
 use Prim.Native.Nat.{ℕ, suc}
 use lib.Dec.{T, eqb}
-use Rattle.runs.specs.Plan.{task, Picks, inc, Plan, Node, Child, Under}
-use Rattle.runs.specs.Execution.{Status, waiting, running, done, State, Event, start, finish, History, nodeOf}
-use Rattle.runs.specs.Execution.{moved, Complete, Rival, preOf}
-use Rattle.runs.specs.Execution.{asserts}
+use Rattle.runs.specs.Plan.{task, optional, Picks, inc, Plan, Node, Child, Under}
+use Rattle.runs.specs.Execution.{Status, waiting, running, done, State, Event, start, finish, skip, History, nodeOf}
+use Rattle.runs.specs.Execution.{moved, Complete, Begun, Rival, preOf, asserts}
 
 -- a call asks for an event of any number
 pub data Call : Type 0 where
@@ -20,9 +19,9 @@ pub data Call : Type 0 where
 abbrev pub events : Call → History
 events (one e) = e ∷ []
 
--- the states that 01 works out from the book and the calls: the status of each task, the value of each flag; and 02's
--- order of starts: how many there were, and the ordinal (02: place) of each node's start among them, from 1, or 0 for a
--- node not started
+-- the states that 01 works out from the book and the calls: the status of each task, the value of each flag; 02: which optional groups are
+-- skipped, and the order of starts: how many there were, and the ordinal (02: place) of each node's start among them,
+-- from 1, or 0 for a node not started
 pub record World : Type 0 where
   pub status : State
   pub flag : ℕ → Bool
@@ -33,16 +32,18 @@ pub record World : Type 0 where
 abbrev pub fresh : (ℕ → Bool) → World
 fresh F = record { status = λ x. waiting; flag = F; starts = 0; ordinal = λ x. 0 }
 
--- the number of starts after one event more, and the ordinals: a start takes the next one, a finish takes none
+-- the number of starts after one event more, and the ordinals: a start takes the next one, a finish or a skip takes none
 abbrev pub counted : ℕ → Event → ℕ
 counted n (start t) = suc n
 counted n (finish t) = n
+counted n (skip g) = n
 
 abbrev pub numbered : ℕ → (ℕ → ℕ) → Event → ℕ → ℕ
 numbered n o (start t) x = cond (eqb x t) (suc n) (o x)
 numbered n o (finish t) x = o x
+numbered n o (skip g) x = o x
 
--- an event moves its task on and makes its literals true; a start takes its ordinal
+-- an event moves its node on and makes its literals true; a start takes its ordinal
 abbrev pub happen : Plan → World → Event → World
 happen p a e = record {
   status = moved (a .status) e;
@@ -55,9 +56,9 @@ abbrev pub happenAll : Plan → World → History → World
 happenAll p a [] = a
 happenAll p a (e ∷ h) = happen p (happenAll p a h) e
 
--- what a start or a finish can be refused for, on an accepted book and a well-formed record
+-- what a start, a finish or a skip can be refused for, on an accepted book and a well-formed record
 pub data Refusal : Type 0 where
-  no-task wrong-status branch-begun order-open pre-unmet inc-broken : Refusal
+  no-task wrong-status branch-begun order-open pre-unmet inc-broken no-optional : Refusal
   deriving Discrete as Refusal-discrete
 
 abbrev pub number : Refusal → ℕ
@@ -67,18 +68,31 @@ number branch-begun = 19
 number order-open = 20
 number pre-unmet = 21
 number inc-broken = 22
+number no-optional = 27
 
--- the status that an event asks of its task
+-- the status that an event asks of its node
 abbrev pub asks : Event → Status
 asks (start t) = waiting
 asks (finish t) = running
+asks (skip g) = waiting
 
 module _ (p : Plan) where
   pub record Task (t : ℕ) : Type 0 where
     pub node : Node p t
     pub is-task : p .tree .kind t ≡ task
 
-  -- 19: another branch of an any-of group above t is taken
+  -- an optional group (02: perhaps group) of the plan
+  pub record Optional (g : ℕ) : Type 0 where
+    pub node : Node p g
+    pub is-optional : p .tree .kind g ≡ optional
+
+  -- 18: the task is not waiting, not running; 02: skipping a group twice, or one with a taken branch
+  abbrev pub WrongStatus : State → Event → Type 0
+  WrongStatus s (start t) = s t ≢ asks (start t)
+  WrongStatus s (finish t) = s t ≢ asks (finish t)
+  WrongStatus s (skip g) = (s g ≢ asks (skip g)) ⊎ ((c : ℕ) × Child p g c × Begun p s c)
+
+  -- 19: another branch of an any-of or optional group above t is taken
   pub record BranchBegun (s : State) (t : ℕ) : Type 0 where
     pub group : ℕ
     pub own : ℕ
@@ -112,19 +126,21 @@ module _ (p : Plan) where
     pub holds : p .cond .sign inc who on ≡ some sign
     pub breaks : asserts p e on ≡ some (not sign)
 
-  -- 01's table of refusals, row by row
+  -- 01's table of refusals, row by row; and 02's 27, a skip's number is not that of an optional group
   abbrev pub Applies : World → Call → Refusal → Type 0
   Applies a (one e) no-task = ¬ Task (nodeOf e)
-  Applies a (one e) wrong-status = a .status (nodeOf e) ≢ asks e
+  Applies a (one e) wrong-status = WrongStatus (a .status) e
   Applies a (one e) branch-begun = BranchBegun (a .status) (nodeOf e)
   Applies a (one e) order-open = OrderOpen (a .status) (nodeOf e)
   Applies a (one e) pre-unmet = PreUnmet (a .flag) e
   Applies a (one e) inc-broken = IncBroken (a .status) e
+  Applies a (one e) no-optional = ¬ Optional (nodeOf e)
 
--- the checks that concern a call, in their order
+-- the checks that concern a call, in their order (02: 27 in the place of 17)
 abbrev pub checks : Call → List Refusal
 checks (one (start t)) = no-task ∷ wrong-status ∷ branch-begun ∷ order-open ∷ pre-unmet ∷ inc-broken ∷ []
 checks (one (finish t)) = no-task ∷ wrong-status ∷ inc-broken ∷ []
+checks (one (skip g)) = no-optional ∷ wrong-status ∷ branch-begun ∷ order-open ∷ []
 
 -- r is the first of a list that applies; none of a list applies
 abbrev pub First : (Refusal → Type 0) → Refusal → List Refusal → Type 0
@@ -151,13 +167,14 @@ pub data Worked (p : Plan) : World → List Call → List ℕ → World → Type
 abbrev pub startedBy : Call → List ℕ
 startedBy (one (start t)) = t ∷ []
 startedBy (one (finish t)) = []
+startedBy (one (skip g)) = []
 
 unfoldable pub acceptedStarts : List Call → List ℕ → List ℕ
 acceptedStarts (c ∷ cs) (n ∷ ns) = cond (eqb n 0) (startedBy c) [] ++ acceptedStarts cs ns
 acceptedStarts [] ns = []
 acceptedStarts (c ∷ cs) [] = []
 
--- the state's byte for a task (01: record)
+-- the state's byte for a task (01: record); 02: an optional group's is 2 once it is skipped
 abbrev pub statusByte : Status → ℕ
 statusByte waiting = 0
 statusByte running = 1

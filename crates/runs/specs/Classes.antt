@@ -6,7 +6,7 @@ use mathlib.Core.Option.{none, some}
 use mathlib.Core.List.{[], _∷_}
 use Prim.Native.Nat.{ℕ}
 use Rattle.runs.specs.Plan.{inc, Plan}
-use Rattle.runs.specs.Execution.{Event, start, finish, History, Execution, preOf, asserts}
+use Rattle.runs.specs.Execution.{Event, start, finish, skip, History, Execution, preOf, asserts}
 use Rattle.runs.specs.Summary.{May}
 
 -- every event of a list
@@ -42,6 +42,7 @@ module _ (p : Plan) (f : ℕ) where
     abbrev pub BeginsInc : Event → Type 0
     BeginsInc (start t) = p .cond .sign inc t f ≡ some v
     BeginsInc (finish t) = ⊥
+    BeginsInc (skip g) = ⊥
 
     -- it neither has the precondition nor asserts the flag
     abbrev pub Neutral : Event → Type 0

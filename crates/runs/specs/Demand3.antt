@@ -1,26 +1,26 @@
 -- Demand 3 on the level of plans, as one claim over whole lists of calls, with any numbers and refused calls anywhere.
 -- Definitions only.
 use mathlib.Core.Path.{_≡_}
-use mathlib.Core.Logic.{_≢_, _↔_}
+use mathlib.Core.Logic.{_≢_, _⊎_, _↔_}
 use mathlib.Core.Bool.{Bool}
 use mathlib.Core.List.{List, List·Memᴰ as Among}
 use Prim.Native.Nat.{ℕ, suc, _<_, _≤_}
 use lib.ListN.{length, getD}
 use Rattle.runs.specs.Plan.{Plan}
-use Rattle.runs.specs.Execution.{waiting, Complete}
+use Rattle.runs.specs.Execution.{waiting, done, State, Complete}
 use Rattle.runs.specs.Verdict.{Verdict, Clear, Doomed, Judged}
-use Rattle.runs.specs.Calls.{Call, World, fresh, Task, Worked, acceptedStarts}
+use Rattle.runs.specs.Calls.{Call, World, fresh, Task, Optional, Worked, acceptedStarts}
 
 -- none of the returns is 21 or 22
 abbrev pub NoViolation : List ℕ → Type 0
 NoViolation ns = (r : ℕ) → Among r ns → (r ≢ 21) × (r ≢ 22)
 
 -- Starts in the order of the list l: the ordinal of x is k + 1 exactly if x stands in l after k others, and 0 exactly
--- while x waits.
-pub record Numbered (l : List ℕ) (a : World) : Type 0 where
+-- while x waits or is no task.
+pub record Numbered (p : Plan) (l : List ℕ) (a : World) : Type 0 where
   pub counts : a .starts ≡ length l
   pub position : (x k : ℕ) → (a .ordinal x ≡ suc k) ↔ ((k < length l) × (getD l k 0 ≡ x))
-  pub unstarted : (x : ℕ) → (a .ordinal x ≡ 0) ↔ (a .status x ≡ waiting)
+  pub unstarted : (x : ℕ) → (a .ordinal x ≡ 0) ↔ ((a .status x ≡ waiting) ⊎ (¬ Task p x))
 
 module _ (p : Plan) (F : ℕ → Bool) where
   -- no call in any list returns 21 or 22
@@ -31,20 +31,24 @@ module _ (p : Plan) (F : ℕ → Bool) where
   abbrev pub NeverCompletes : Type 0
   NeverCompletes = (cs : List Call) (ns : List ℕ) (a : World) → Worked p (fresh F) cs ns a → ¬ Complete p (a .status) 0
 
+-- x waits, or is an optional group and skipped
+abbrev pub WaitsOrSkipped : Plan → ℕ → State → Type 0
+WaitsOrSkipped p x s = (s x ≡ waiting) ⊎ (Optional p x × (s x ≡ done))
+
 -- F: the flags at the start
 pub record Demand3 (p : Plan) (F : ℕ → Bool) : Type 0 where
   -- every list of calls has its returns and the states after it, and no others
   pub worked : (cs : List Call) → (ns : List ℕ) × (a : World) × Worked p (fresh F) cs ns a
   pub unique : {cs : List Call} {ns ms : List ℕ} {a b : World} → Worked p (fresh F) cs ns a → Worked p (fresh F) cs ms b
       → (ns ≡ ms) × (a ≡ b)
-  -- what is no task waits, and a flag past the plan's keeps its start bit
+  -- what is no task waits, or is an optional group and skipped; a flag past the plan's keeps its start bit
   pub others : {cs : List Call} {ns : List ℕ} {a : World} → Worked p (fresh F) cs ns a → (x : ℕ) → ¬ Task p x
-      → a .status x ≡ waiting
+      → WaitsOrSkipped p x (a .status)
   pub beyond : {cs : List Call} {ns : List ℕ} {a : World} → Worked p (fresh F) cs ns a → (f : ℕ) → p .cond .flags ≤ f
       → a .flag f ≡ F f
   -- a task's ordinal is the position of its start among the accepted starts of the list
   pub ordinals : {cs : List Call} {ns : List ℕ} {a : World} → Worked p (fresh F) cs ns a
-      → Numbered (acceptedStarts cs ns) a
+      → Numbered p (acceptedStarts cs ns) a
   -- the plan has one verdict
   pub judged : (v : Verdict) × Judged p F v × ((u : Verdict) → Judged p F u → u ≡ v)
   -- CLEAR exactly if no call in any list returns 21 or 22

@@ -1,5 +1,5 @@
--- Plans: a tree of tasks, all-of and any-of groups; conditions of the tasks; orders among the children of a group.
--- Definitions only.
+-- Plans: a tree of tasks, all-of, any-of and optional groups; conditions of the tasks; orders among the children of a
+-- group. Definitions only.
 use mathlib.Core.Path.{_≡_}
 use mathlib.Core.Logic.{_≢_}
 use mathlib.Core.Bool.{Bool, true, false}
@@ -8,7 +8,8 @@ use Prim.Native.Nat.{ℕ, _<_}
 use lib.Dec.{T}
 
 pub data Kind : Type 0 where
-  task all-of any-of : Kind
+  -- optional: 02's perhaps group, "as any-of with one more branch that has no tasks"
+  task all-of any-of optional : Kind
   deriving Discrete as Kind-discrete
 
 -- the groups of which one branch is taken
@@ -16,17 +17,26 @@ abbrev pub Picks : Kind → Type 0
 Picks task = ⊥
 Picks all-of = ⊥
 Picks any-of = Unit {0}
+Picks optional = Unit {0}
+
+-- the nodes that events move: a task by its start and its finish, an optional group by its skip
+abbrev pub Moves : Kind → Type 0
+Moves task = Unit {0}
+Moves all-of = ⊥
+Moves any-of = ⊥
+Moves optional = Unit {0}
 
 -- pre-, in- and postcondition: 01's need, hold and leaving
 pub data Place : Type 0 where
   pre inc post : Place
   deriving Discrete as Place-discrete
 
--- 01's numbers of kinds, places and signs (0 clear, 1 set)
+-- 01's and 02's numbers of kinds, places and signs (0 clear, 1 set)
 abbrev pub kindNumber : Kind → ℕ
 kindNumber task = 0
 kindNumber all-of = 1
 kindNumber any-of = 2
+kindNumber optional = 3
 
 abbrev pub placeNumber : Place → ℕ
 placeNumber pre = 0
@@ -97,7 +107,7 @@ module _ (p : Plan) where
     pub parent-lower : (n : ℕ) → 0 < n → Node n → p .tree .parent n < n
     pub parent-node : (n : ℕ) → 0 < n → Node n → Node (p .tree .parent n)
     pub parent-group : (n : ℕ) → 0 < n → Node n → p .tree .kind (p .tree .parent n) ≢ task
-    -- each group has a child, but for an all-of root, which may have none
+    -- each all-of or any-of group has a child, but for an all-of root, which may have none
     pub some-branch : (g : ℕ) → Node g → p .tree .kind g ≡ any-of → (c : ℕ) × Child g c
     pub some-part : (g : ℕ) → 0 < g → Node g → p .tree .kind g ≡ all-of → (c : ℕ) × Child g c
     pub order-group : (a b : ℕ) → T (p .order a b) → (g : ℕ) × (p .tree .kind g ≡ all-of) × Child g a × Child g b

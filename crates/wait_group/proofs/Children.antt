@@ -1,13 +1,14 @@
 -- The children of a group, turn by turn. Assumes nothing.
 use mathlib.Core.Path.{_≡_, refl, sym, ap, _∙_}
-use mathlib.Core.Bool.{true}
+use mathlib.Core.Bool.{Bool, true}
 use mathlib.Core.List.{List}
 use Prim.Native.Nat.{ℕ, max, _+_, _<_, _≤_}
 use native.Mathlib.Omega.{arith}
 use lib.ListN.{getD}
-use Rattle.plan_format.specs.Format.{nodeCount, orderCount, earlierOf, laterOf}
+use Rattle.plan_format.specs.Format.{nodeCount, orderCount, earlierOf, laterOf, isKind, isChoice}
 use Rattle.plan_rules.specs.Rules.{isChild}
 use Rattle.plan_check.proofs.Accepted.{Clean, clean}
+use Rattle.plan_check.proofs.Meaning.{kind-is}
 use Rattle.marks_row.specs.declared.Segment.{Segment}
 use Rattle.marks_row.specs.Segments.{segmentOf, Position, Every}
 use Rattle.marks_row.specs.Tables.{AtGroup}
@@ -40,7 +41,7 @@ module _ {kids : List ℕ} {low : ℕ} {f : ℕ → ℕ} where
         least = λ u w. let p = (every-next l) .1 w in omega (arith, h .least u (p .0), p .1, k, z);
       }
 
-module _ {b from kids : List ℕ} {k g : ℕ} (o : GroupOf b from kids k g) where
+module _ {b from kids : List ℕ} {test : Bool} {g : ℕ} (o : GroupOf b from kids test g) where
   ok : Clean b
   ok = clean b (o .accepted)
 
@@ -63,8 +64,8 @@ module _ {b from kids : List ℕ} {k g : ℕ} (o : GroupOf b from kids k g) wher
         (λ c l e. every-listed (o .tree) (o .node) here (h .bound) c e) in
         omega arith
 
--- an any-of group
-pub any-all : {b from kids : List ℕ} {g v : ℕ} {segment : Segment} → GroupOf b from kids 2 g
+-- an any-of or optional group
+pub any-all : {b from kids : List ℕ} {g v : ℕ} {segment : Segment} → GroupOf b from kids (isChoice b g) g
     → segment ≡ segmentOf from g
     → GreatestTo kids (segment .start) (lengthOf b) (segment .end) v → v ≡ lengthOf b g
 any-all {b} {g = g} o here h = greatest-all o here h ∙ sym (length-any b (ok o) g (o .node) (o .kind))
@@ -81,8 +82,8 @@ pub record SpreadTo (b kids : List ℕ) (segment : Segment) (lengths waits₀ wa
   pub done : Every kids (segment .start) i (ChildDone b waits)
   pub longest : GreatestTo kids (segment .start) (λ c. waitWithin b c + lengthOf b c) i v
 
-module _ {b from kids lengths waits₀ : List ℕ} {g : ℕ} {segment : Segment} (o : GroupOf b from kids 1 g)
-    (here : segment ≡ segmentOf from g) where
+module _ {b from kids lengths waits₀ : List ℕ} {g : ℕ} {segment : Segment}
+    (o : GroupOf b from kids (isKind b g 1) g) (here : segment ≡ segmentOf from g) where
   pub spread-none : Tables b lengths waits₀ → SpreadTo b kids segment lengths waits₀ waits₀ (segment .start) 0
   spread-none t = record {
     tables = t;
@@ -98,7 +99,7 @@ module _ {b from kids lengths waits₀ : List ℕ} {g : ℕ} {segment : Segment}
     spread-wait =
         let h = child-at o here e p in
         let up = s .tables .within c (child-lower b (ok o) g c h .1) in
-        let low = waits-least b (ok o) g c (getD waits c 0) h (o .kind) (λ j l q.
+        let low = waits-least b (ok o) g c (getD waits c 0) h (kind-is b g 1 (o .kind) .1) (λ j l q.
         let x = earlier-child b (ok o) g c j l q h in
         rw q at (lower-before (o .tree) (o .node) here p (s .done) (earlierOf b j) (x .1)
         (rw e at (x .0)) .met j l refl)) in
@@ -151,5 +152,5 @@ module _ {b from kids lengths waits₀ : List ℕ} {g : ℕ} {segment : Segment}
     tables = s .tables;
     grown = s .grown;
     children = λ c h. every-listed (o .tree) (o .node) here (s .done) c h .wait;
-    greatest = greatest-all o here (s .longest) ∙ sym (length-all b (ok o) g (o .node) (o .kind));
+    greatest = greatest-all o here (s .longest) ∙ sym (length-all b (ok o) g (o .node) (kind-is b g 1 (o .kind) .1));
   }

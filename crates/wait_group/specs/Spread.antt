@@ -1,6 +1,6 @@
 -- What the tables of lengths and waits hold while the groups are worked out, and what one group adds. Definitions only.
 use mathlib.Core.Path.{_≡_}
-use mathlib.Core.Bool.{true}
+use mathlib.Core.Bool.{Bool, true}
 use mathlib.Core.List.{List}
 use Prim.Native.Nat.{ℕ, _≤_, _<_}
 use lib.ListN.{length, getD}
@@ -23,12 +23,12 @@ pub record Raised (b waits waits′ : List ℕ) (c v : ℕ) : Type 0 where
   pub only : (m u : ℕ) → getD waits m 0 ≤ u → ((j : ℕ) → j < orderCount b → earlierOf b j ≡ c → laterOf b j ≡ m → v ≤ u)
       → getD waits′ m 0 ≤ u
 
--- g is a group of kind k of an accepted plan, and the table of children is the plan's
-pub record GroupOf (b from kids : List ℕ) (k g : ℕ) : Type 0 where
+-- g is a group of an accepted plan, of a kind that passes the test, and the table of children is the plan's
+pub record GroupOf (b from kids : List ℕ) (test : Bool) (g : ℕ) : Type 0 where
   pub accepted : refusal b ≡ 0
   pub tree : TreeOf b from kids
   pub node : g < nodeCount b
-  pub kind : kindOf b g ≡ k
+  pub kind : test ≡ true
 
 -- the tables before and while the groups are worked out: the lengths of the tasks stand, and no wait is beyond the one
 -- within its group

@@ -2,6 +2,7 @@
 ghost use mathlib.Core.Path.{_≡_};
 ghost use Prim.Native.Nat.{max};
 ghost use lib.ListN.{length};
+ghost use Rattle.plan_format.specs.Format.{isKind, isChoice};
 ghost use Rattle.plan_rules.specs.Rules.{refusal};
 ghost use Rattle.wait_lengths.specs.Waits.{lengthOf};
 ghost use Rattle.wait_group.specs.Spread.{FirstOrder, Raised, GroupOf, Tables, ChildLengths, Spread};
@@ -64,8 +65,8 @@ pub fn spread(
     waits: &mut [u32; 128],
     node: usize,
 ) -> u32
-    requires { ⌜ GroupOf (now plan) (now from) (now kids) 1 node × Tables (now plan) (now lengths) (now waits)
-        × ChildLengths (now plan) (now lengths) node ⌝ }
+    requires { ⌜ GroupOf (now plan) (now from) (now kids) (isKind (now plan) node 1) node
+        × Tables (now plan) (now lengths) (now waits) × ChildLengths (now plan) (now lengths) node ⌝ }
     ensures { λ r. ⌜ Spread (now (plan .entry)) (now (lengths .entry)) (now (waits .entry))
         (now (waits .exit)) node r ⌝ }
 {
@@ -82,7 +83,7 @@ pub fn spread(
     longest
 }
 
-// The length of an any-of group, from those of its children.
+// The length of an any-of or optional group, from those of its children.
 pub fn longest_child(
     plan: &[u8],
     from: &[u8; 129],
@@ -90,7 +91,8 @@ pub fn longest_child(
     lengths: &[u32; 128],
     node: usize,
 ) -> u32
-    requires { ⌜ GroupOf (now plan) (now from) (now kids) 2 node × ChildLengths (now plan) (now lengths) node ⌝ }
+    requires { ⌜ GroupOf (now plan) (now from) (now kids) (isChoice (now plan) node) node
+        × ChildLengths (now plan) (now lengths) node ⌝ }
     ensures { λ r. ⌜ r ≡ lengthOf (now (plan .entry)) node ⌝ }
 {
     let mut longest = 0u32;

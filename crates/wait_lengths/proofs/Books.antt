@@ -1,7 +1,8 @@
--- Lengths and longest waits of two plans, computed. Assumes nothing.
+-- Lengths and longest waits of small plans, computed. Assumes nothing.
 use mathlib.Core.Path.{_≡_, refl}
 use mathlib.Core.List.{List, [], _∷_}
 use Prim.Native.Nat.{ℕ}
+use lib.ListN.{set}
 use Rattle.plan_format.specs.Format.{u16At, nodeCount, condCount, orderCount, entryAt, parentOf, kindOf, minutesOf}
 use Rattle.plan_format.specs.Format.{earlierOf, laterOf, isKind}
 use Rattle.plan_rules.specs.Rules.{isChild}
@@ -18,6 +19,18 @@ pub waits-of-B : waitsB ≡ 17 ∷ 0 ∷ 12 ∷ 12 ∷ []
 unfolding planB waitsB u16At nodeCount condCount orderCount entryAt parentOf kindOf minutesOf earlierOf laterOf isKind
     isChild kindAt greatest waitBy lengthAs lengthBy lengthOf waitWithin waitsTo longestWait
 waits-of-B = refl
+
+-- the same where its choice is an optional group, of kind 3 (02)
+unfoldable optionalB : List ℕ
+optionalB = set planB 45 3
+
+pub waitsOptional : List ℕ
+waitsOptional = lengthOf optionalB 0 ∷ longestWait optionalB 1 ∷ longestWait optionalB 3 ∷ longestWait optionalB 4 ∷ []
+
+pub waits-of-optional : waitsOptional ≡ 17 ∷ 0 ∷ 12 ∷ 12 ∷ []
+unfolding planB optionalB waitsOptional u16At nodeCount condCount orderCount entryAt parentOf kindOf minutesOf earlierOf
+    laterOf isKind isChild kindAt greatest waitBy lengthAs lengthBy lengthOf waitWithin waitsTo longestWait
+waits-of-optional = refl
 
 -- tasks 1 to 4 of 5, 3, 2 and 9 minutes under an all-of root, 1 before 2 before 3
 unfoldable chain : List ℕ

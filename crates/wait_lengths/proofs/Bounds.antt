@@ -9,16 +9,16 @@ use native.Mathlib.Decide.{ℕ-discrete, decLt}
 use native.Mathlib.Omega.{arith}
 use lib.Dec.{eqb, ltb, leb}
 use borrow.Author.Tests.{eq-eqb, ne-eqb, lt-ltb, le-ltb, ltb-false, le-leb, lt-leb}
-use Rattle.plan_format.specs.Format.{nodeCount, parentOf, kindOf, minutesOf, earlierOf, isKind, isGroup}
+use Rattle.plan_format.specs.Format.{nodeCount, parentOf, kindOf, minutesOf, earlierOf, isKind, isGroup, isChoice}
 use Rattle.plan_rules.specs.Rules.{isChild, badEntry, cause6}
 use Rattle.plan_rules.proofs.Laws.{none-at, or-none, not-passed}
 use Rattle.plan_check.proofs.Accepted.{Clean}
 use Rattle.plan_rules.proofs.Causes.{root-parent, parent-group}
-use Rattle.plan_check.proofs.Meaning.{kind-is, kind-of, kind-group, group-is, group-of, kind-limit}
+use Rattle.plan_check.proofs.Meaning.{kind-is, kind-of, kind-group, group-is, group-of}
 use Rattle.wait_lengths.specs.Waits.{lengthOf, waitWithin, waitsTo, longestWait}
 use Rattle.wait_lengths.proofs.Greatest.{greatest-le, greatest-least}
-use Rattle.wait_lengths.proofs.Laws.{child-lower, earlier-child, length-task, length-any, length-all}
-use Rattle.wait_lengths.proofs.Laws.{waits-least}
+use Rattle.wait_lengths.proofs.Laws.{choice-is, choice-of, child-lower, earlier-child, length-task, length-any}
+use Rattle.wait_lengths.proofs.Laws.{length-all, waits-least}
 use Rattle.wait_lengths.proofs.Sums.{sum, sum-grows, sum-le, sum-more, sum-has, sum-balance, sum-none, sum-one}
 use Rattle.wait_lengths.proofs.Sums.{sum-same}
 
@@ -28,19 +28,21 @@ and-false false = refl
 
 module _ (b : List ℕ) (ok : Clean b) where
   -- ---- a child ends within its group
-  pub group-kind : (g c : ℕ) → isChild b g c ≡ true → (kindOf b g ≡ 1) ⊎ (kindOf b g ≡ 2)
+  pub group-kind : (g c : ℕ) → isChild b g c ≡ true → (kindOf b g ≡ 1) ⊎ (isChoice b g ≡ true)
   group-kind g c h =
       let w = child-lower b ok g c h in
       let p = parent-group b (ok .fits) (ok .parents) c (omega arith) (w .1) .1 in
-      group-is b g (rw (w .2) at p)
+      let k = group-is b g (rw (w .2) at p) in
+      by-cases (ℕ-discrete (kindOf b g) 1) (λ (e : kindOf b g ≡ 1). inl e)
+      (λ e. inr (choice-of b ok g (omega arith) (omega arith)))
 
   no-wait : (n : ℕ) → (isKind b (parentOf b n) 1 ≡ true → ⊥) → waitWithin b n ≡ 0
   unfolding waitWithin
   no-wait n h = rw (not-passed (isKind b (parentOf b n) 1) h)
 
-  pub wait-any : (g c : ℕ) → isChild b g c ≡ true → kindOf b g ≡ 2 → waitWithin b c ≡ 0
+  pub wait-any : (g c : ℕ) → isChild b g c ≡ true → isChoice b g ≡ true → waitWithin b c ≡ 0
   wait-any g c h e = no-wait c (λ q. omega
-      (arith, kind-is b (parentOf b c) 1 q .1, ap (kindOf b) (child-lower b ok g c h .2)))
+      (arith, choice-is b g e .1, kind-is b (parentOf b c) 1 q .1, ap (kindOf b) (child-lower b ok g c h .2)))
 
   pub wait-root : waitWithin b 0 ≡ 0
   wait-root = no-wait 0 (λ q. omega
@@ -52,7 +54,7 @@ module _ (b : List ℕ) (ok : Clean b) where
       ⊎-elim
       (λ (e : kindOf b g ≡ 1). rw (length-all b ok g (omega arith) e)
       (greatest-le (isChild b g) (λ d. waitWithin b d + lengthOf b d) (nodeCount b) c (w .1) h))
-      (λ (e : kindOf b g ≡ 2).
+      (λ (e : isChoice b g ≡ true).
       rw (wait-any g c h e, length-any b ok g (omega arith) e)
       (omega (arith, greatest-le (isChild b g) (lengthOf b) (nodeCount b) c (w .1) h)))
       (group-kind g c h)
@@ -144,7 +146,7 @@ module _ (b : List ℕ) (ok : Clean b) where
         sum-more c (childLength n),
         sum-grows (childLength n) (suc c) (nodeCount b) m,
       ))))
-      (λ y. rw (length-any b ok n l (omega (arith, kind-limit b ok n l)))
+      (λ y. rw (length-any b ok n l (choice-of b ok n l (omega arith)))
       (greatest-least (isChild b n) (lengthOf b) (nodeCount b) _ (λ c m h.
       omega (arith, child-length n c h, sum-has (nodeCount b) c (childLength n) m)))))
 
@@ -240,16 +242,12 @@ module _ (b : List ℕ) (ok : Clean b) where
   minutes-limit : (n : ℕ) → n < nodeCount b → minutesOf b n ≤ 10080
   unfolding cause6 badEntry
   minutes-limit n l =
-      let w = or-none (ltb 2 (kindOf b n) || (isGroup b n && ltb 0 (minutesOf b n)))
+      let w = or-none (ltb 3 (kindOf b n) || (isGroup b n && ltb 0 (minutesOf b n)))
       (isKind b n 0 && ltb 10080 (minutesOf b n)) (none-at (nodeCount b) (badEntry b) (ok .entries) n l) in
-      let u = or-none (ltb 2 (kindOf b n)) (isGroup b n && ltb 0 (minutesOf b n)) (w .0) .1 in
+      let u = or-none (ltb 3 (kindOf b n)) (isGroup b n && ltb 0 (minutesOf b n)) (w .0) .1 in
       by-cases (ℕ-discrete (kindOf b n) 0)
       (λ (e : kindOf b n ≡ 0). ltb-false 10080 (minutesOf b n) (rw (kind-of b n 0 l e) at (w .1)))
-      (λ e.
-      let k : (kindOf b n ≡ 1) ⊎ (kindOf b n ≡ 2) =
-      by-cases (ℕ-discrete (kindOf b n) 1) (λ (q : kindOf b n ≡ 1). inl q)
-      (λ q. inr (omega (arith, kind-limit b ok n l))) in
-      omega (arith, ltb-false 0 (minutesOf b n) (rw (group-of b ok n l (kind-group (kindOf b n) k)) at u)))
+      (λ e. omega (arith, ltb-false 0 (minutesOf b n) (rw (group-of b ok n l (kind-group (kindOf b n) e)) at u)))
 
   -- at the root
   open-root : (c : ℕ) → c < nodeCount b → openLength 1 c ≡ childLength 0 c

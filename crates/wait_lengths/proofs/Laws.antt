@@ -1,20 +1,23 @@
 -- Lengths and waits of an accepted plan satisfy 01's sentences: enough levels and orders are followed. Assumes nothing.
 use mathlib.Core.Path.{_≡_, refl, sym, ap, _∙_}
-use mathlib.Core.Bool.{true}
+use mathlib.Core.Logic.{⊎-elim, by-cases}
+use mathlib.Core.Bool.{true, or-true}
 use mathlib.Core.List.{List}
 use Prim.Native.Nat.{ℕ, zero, suc, _+_, _<_, _≤_}
+use native.Mathlib.Decide.{ℕ-discrete}
 use native.Mathlib.Omega.{arith}
 use lib.Dec.{eqb}
 use borrow.Author.Tests.{eqb-true, eq-eqb}
-use Rattle.plan_format.specs.Format.{nodeCount, orderCount, parentOf, kindOf, minutesOf, earlierOf, laterOf}
+use Rattle.plan_format.specs.Format.{nodeCount, orderCount, parentOf, kindOf, minutesOf, earlierOf, laterOf, isKind}
+use Rattle.plan_format.specs.Format.{isChoice}
 use Rattle.plan_rules.specs.Rules.{isChild, badOrder, cause13}
-use Rattle.plan_rules.proofs.Laws.{none-at}
-use Rattle.runs.specs.Plan.{Kind, task, all-of, any-of}
+use Rattle.plan_rules.proofs.Laws.{none-at, or-split}
+use Rattle.runs.specs.Plan.{Kind, task, all-of, any-of, optional}
 use Rattle.plan_check.specs.Meaning.{kindAt}
 use Rattle.plan_check.proofs.Accepted.{Clean}
 use Rattle.plan_rules.proofs.Causes.{parent-group}
-use Rattle.plan_check.proofs.Meaning.{child-is, siblings, kind-task, kind-all-of, kind-of}
-use Rattle.plan_check.proofs.Nodes.{kind-any-of}
+use Rattle.plan_check.proofs.Meaning.{child-is, siblings, kind-task, kind-all-of, kind-is, kind-of, kind-limit}
+use Rattle.plan_check.proofs.Nodes.{kind-any-of, kind-optional}
 use Rattle.wait_lengths.specs.Waits.{greatest, waitBy, lengthAs, lengthBy, lengthOf, waitWithin}
 use Rattle.wait_lengths.proofs.Greatest.{greatest-same, greatest-le, greatest-least}
 
@@ -25,7 +28,19 @@ pub record Ordered (b : List ℕ) (j : ℕ) : Type 0 where
   pub earlier : isChild b (parentOf b (earlierOf b j)) (earlierOf b j) ≡ true
   pub later : isChild b (parentOf b (earlierOf b j)) (laterOf b j) ≡ true
 
+-- an any-of or optional group by the number of its kind
+pub choice-is : (b : List ℕ) (n : ℕ) → isChoice b n ≡ true → (n < nodeCount b) × (2 ≤ kindOf b n)
+unfolding isChoice
+choice-is b n h = ⊎-elim (λ x. omega (arith, kind-is b n 2 x)) (λ x. omega (arith, kind-is b n 3 x))
+    (or-split (isKind b n 2) (isKind b n 3) h)
+
 module _ (b : List ℕ) (ok : Clean b) where
+  pub choice-of : (n : ℕ) → n < nodeCount b → 2 ≤ kindOf b n → isChoice b n ≡ true
+  unfolding isChoice
+  choice-of n l m =
+      by-cases (ℕ-discrete (kindOf b n) 2) (λ (e : kindOf b n ≡ 2). rw (kind-of b n 2 l e))
+      (λ e. rw (kind-of b n 3 l (omega (arith, kind-limit b ok n l))) (or-true (isKind b n 2)))
+
   pub child-lower : (g c : ℕ) → isChild b g c ≡ true → (g < c) × (c < nodeCount b) × (parentOf b c ≡ g)
   child-lower g c h =
       let w = child-is b g c h in
@@ -72,6 +87,7 @@ module _ (b : List ℕ) (ok : Clean b) where
   unfolding lengthAs
   length-same len len′ n h task = refl
   length-same len len′ n h any-of = greatest-same (nodeCount b) _ _ _ (λ c l e. h c e)
+  length-same len len′ n h optional = greatest-same (nodeCount b) _ _ _ (λ c l e. h c e)
   length-same len len′ n h all-of =
       greatest-same (nodeCount b) _ _ _ (λ c l e. rw (wait-same len len′ n h (nodeCount b) c e, h c e))
 
@@ -106,10 +122,12 @@ module _ (b : List ℕ) (ok : Clean b) where
     unfolding lengthAs
     length-task e = length-is n l ∙ rw (kind-task (kindOf b n) e)
 
-    -- any-of: its longest child
-    pub length-any : kindOf b n ≡ 2 → lengthOf b n ≡ greatest (nodeCount b) (isChild b n) (lengthOf b)
+    -- any-of and optional: its longest child
+    pub length-any : isChoice b n ≡ true → lengthOf b n ≡ greatest (nodeCount b) (isChild b n) (lengthOf b)
     unfolding lengthAs
-    length-any e = length-is n l ∙ rw (kind-any-of (kindOf b n) e)
+    length-any h = length-is n l ∙ by-cases (ℕ-discrete (kindOf b n) 2)
+        (λ (e : kindOf b n ≡ 2). rw (kind-any-of (kindOf b n) e))
+        (λ e. rw (kind-optional (kindOf b n) (omega (arith, choice-is b n h .1, kind-limit b ok n l))))
 
     -- all-of: the greatest wait within it plus length over its children
     pub length-all : kindOf b n ≡ 1

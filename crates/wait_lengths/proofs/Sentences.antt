@@ -1,6 +1,6 @@
 -- The lengths and waits of an accepted plan satisfy 01's sentences, and no others do. Assumes nothing.
 use mathlib.Core.Path.{_≡_, refl, sym, ap, _∙_}
-use mathlib.Core.Logic.{_⊎_, inl, inr, ⊎-elim, by-cases}
+use mathlib.Core.Logic.{_≢_, _⊎_, inl, inr, ⊎-elim, by-cases}
 use mathlib.Core.Bool.{Bool, true, false, true≢false}
 use mathlib.Core.List.{List}
 use Prim.Native.Nat.{ℕ, zero, suc, _+_, _<_, _≤_}
@@ -8,16 +8,17 @@ use native.Mathlib.Decide.{ℕ-discrete, decLt}
 use native.Mathlib.Omega.{arith}
 use lib.Dec.{eqb}
 use borrow.Author.Tests.{eqb-true, eq-eqb}
-use Rattle.plan_format.specs.Format.{nodeCount, orderCount, parentOf, kindOf, earlierOf, laterOf, isKind}
+use Rattle.plan_format.specs.Format.{nodeCount, orderCount, parentOf, kindOf, earlierOf, laterOf, isKind, isChoice}
 use Rattle.plan_rules.specs.Rules.{isChild}
 use Rattle.runs.specs.Tests.{anyBelow}
 use Rattle.plan_rules.proofs.Laws.{either, found-at, none-at}
 use Rattle.plan_check.proofs.Accepted.{Clean}
-use Rattle.plan_check.proofs.Meaning.{kind-is, kind-of, kind-limit, kind-group, group-of, child-of}
+use Rattle.plan_check.proofs.Meaning.{kind-is, kind-of, kind-group, group-of, child-of}
 use Rattle.wait_lengths.specs.Waits.{greatest, lengthOf, waitWithin, longestWait}
 use Rattle.wait_lengths.specs.Sentences.{Greatest, Child, OrderInto, Times}
 use Rattle.wait_lengths.proofs.Greatest.{greatest-empty, greatest-le}
-use Rattle.wait_lengths.proofs.Laws.{child-lower, earlier-child, length-task, length-any, length-all, wait-all}
+use Rattle.wait_lengths.proofs.Laws.{choice-is, choice-of, child-lower, earlier-child, length-task, length-any}
+use Rattle.wait_lengths.proofs.Laws.{length-all, wait-all}
 use Rattle.wait_lengths.proofs.Bounds.{group-kind, wait-any, wait-root, longest-root, longest-child, own-child}
 
 -- ---- the computed greatest is the greatest
@@ -56,7 +57,7 @@ module _ (p : ℕ → Bool) (f : ℕ → ℕ) where
 
 module _ (b : List ℕ) (ok : Clean b) where
   -- over the children of a group
-  over-children : (g : ℕ) (f : ℕ → ℕ) → g < nodeCount b → (kindOf b g ≡ 1) ⊎ (kindOf b g ≡ 2)
+  over-children : (g : ℕ) (f : ℕ → ℕ) → g < nodeCount b → kindOf b g ≢ 0
       → Greatest (Child b g) f (greatest (nodeCount b) (isChild b g) f)
   over-children g f l k =
       let w = child-of b ok g l (group-of b ok g l (kind-group (kindOf b g) k)) in
@@ -86,10 +87,11 @@ module _ (b : List ℕ) (ok : Clean b) where
   unfolding into
   times = record {
     task = λ n k. let w = kind-is b n 0 k in length-task b ok n (w .0) (w .1);
-    any-of = λ g k. let w = kind-is b g 2 k in
-        rw (length-any b ok g (w .0) (w .1)) (over-children g (lengthOf b) (w .0) (inr (w .1)));
+    choice = λ g k. let w = choice-is b g k in
+        rw (length-any b ok g (w .0) k) (over-children g (lengthOf b) (w .0) (omega (arith, w .1)));
     all-of = λ g k. let w = kind-is b g 1 k in
-        rw (length-all b ok g (w .0) (w .1)) (over-children g (λ c. waitWithin b c + lengthOf b c) (w .0) (inl (w .1)));
+        rw (length-all b ok g (w .0) (w .1))
+        (over-children g (λ c. waitWithin b c + lengthOf b c) (w .0) (omega (arith, w .1)));
     unordered = λ g c k h n.
         wait-all b ok g c h (kind-is b g 1 k .1)
         ∙ greatest-empty (into c) (λ j. waitWithin b (earlierOf b j) + lengthOf b (earlierOf b j)) (orderCount b)
@@ -99,7 +101,7 @@ module _ (b : List ℕ) (ok : Clean b) where
         (either (into c j)));
     ordered = λ g c j k h o. rw (wait-all b ok g c h (kind-is b g 1 k .1))
         (over-orders c j (λ i. waitWithin b (earlierOf b i) + lengthOf b (earlierOf b i)) o);
-    in-any-of = λ g c k h. wait-any b ok g c h (kind-is b g 2 k .1);
+    in-choice = λ g c k h. wait-any b ok g c h k;
     root = wait-root b ok;
     longest-root = longest-root b ok ∙ sym (wait-root b ok);
     longest-child = λ g c h.
@@ -151,8 +153,7 @@ module _ {b : List ℕ} (ok : Clean b) {len wait longest len′ wait′ longest�
       let a = kind-of b n 1 l q in
       greatest-one (λ c h. omega (arith, wait-in (suc c) n c (omega arith) a h e, e c h)) (t .all-of n a)
       (t′ .all-of n a))
-      (λ q. let a = kind-of b n 2 l (omega (arith, kind-limit b ok n l)) in
-      greatest-one e (t .any-of n a) (t′ .any-of n a)))
+      (λ q. let a = choice-of b ok n l (omega arith) in greatest-one e (t .choice n a) (t′ .choice n a)))
 
   pub length-one : (n : ℕ) → n < nodeCount b → len n ≡ len′ n
   length-one n l = length-in (nodeCount b) n l (omega arith)
@@ -163,8 +164,7 @@ module _ {b : List ℕ} (ok : Clean b) {len wait longest len′ wait′ longest�
       ⊎-elim
       (λ (q : kindOf b g ≡ 1). wait-in (suc c) g c (omega arith) (kind-of b g 1 (omega arith) q) h
       (λ d y. length-one d (child-lower b ok g d y .1)))
-      (λ (q : kindOf b g ≡ 2). let a = kind-of b g 2 (omega arith) q in t .in-any-of g c a h
-      ∙ sym (t′ .in-any-of g c a h))
+      (λ (a : isChoice b g ≡ true). t .in-choice g c a h ∙ sym (t′ .in-choice g c a h))
       (group-kind b ok g c h)
 
   longest-in : (k n : ℕ) → n < k → n < nodeCount b → longest n ≡ longest′ n

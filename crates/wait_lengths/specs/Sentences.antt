@@ -4,7 +4,7 @@ use Prim.Native.Nat.{ℕ, _+_, _<_, _≤_}
 use mathlib.Core.Path.{_≡_}
 use mathlib.Core.Bool.{true}
 use mathlib.Core.List.{List}
-use Rattle.plan_format.specs.Format.{orderCount, minutesOf, earlierOf, laterOf, isKind}
+use Rattle.plan_format.specs.Format.{orderCount, minutesOf, earlierOf, laterOf, isKind, isChoice}
 use Rattle.plan_rules.specs.Rules.{isChild}
 
 -- v is the greatest f i over the numbers i that P holds of: none is above it, and one is it
@@ -23,16 +23,16 @@ OrderInto b c j = (j < orderCount b) × (laterOf b j ≡ c)
 pub record Times (b : List ℕ) (len wait longest : ℕ → ℕ) : Type 0 where
   -- length of a task: its minutes
   pub task : (n : ℕ) → isKind b n 0 ≡ true → len n ≡ minutesOf b n
-  -- any-of: its longest child
-  pub any-of : (g : ℕ) → isKind b g 2 ≡ true → Greatest (Child b g) len (len g)
+  -- any-of, and optional (02): its longest child
+  pub choice : (g : ℕ) → isChoice b g ≡ true → Greatest (Child b g) len (len g)
   -- all-of: the greatest wait within it plus length over its children
   pub all-of : (g : ℕ) → isKind b g 1 ≡ true → Greatest (Child b g) (λ c. wait c + len c) (len g)
   -- a child's wait within an all-of group is 0, or the greatest wait plus length among its orders' earlier nodes
   pub unordered : (g c : ℕ) → isKind b g 1 ≡ true → Child b g c → ((j : ℕ) → OrderInto b c j → ⊥) → wait c ≡ 0
   pub ordered : (g c j : ℕ) → isKind b g 1 ≡ true → Child b g c → OrderInto b c j
       → Greatest (OrderInto b c) (λ i. wait (earlierOf b i) + len (earlierOf b i)) (wait c)
-  -- in an any-of group 0
-  pub in-any-of : (g c : ℕ) → isKind b g 2 ≡ true → Child b g c → wait c ≡ 0
+  -- in an any-of or optional group 0
+  pub in-choice : (g c : ℕ) → isChoice b g ≡ true → Child b g c → wait c ≡ 0
   -- the root's own is 0
   pub root : wait 0 ≡ 0
   -- longest wait: the sum of these from the root down

@@ -5,7 +5,7 @@ use mathlib.Core.List.{List}
 use lib.Dec.{eqb}
 use Rattle.plan_format.specs.Format.{nodeCount, orderCount, parentOf, kindOf, minutesOf, earlierOf, laterOf, isKind}
 use Rattle.plan_rules.specs.Rules.{isChild}
-use Rattle.runs.specs.Plan.{Kind, task, all-of, any-of}
+use Rattle.runs.specs.Plan.{Kind, task, all-of, any-of, optional}
 use Rattle.plan_check.specs.Meaning.{kindAt}
 
 -- v, or f n where that is greater and n passes
@@ -26,11 +26,12 @@ waitBy b len zero c = 0
 waitBy b len (suc k) c = greatest (orderCount b) (λ j. eqb (laterOf b j) c)
     (λ j. waitBy b len k (earlierOf b j) + len (earlierOf b j))
 
--- Length of a task: its minutes; any-of: its longest child; all-of: the greatest wait within it plus length over its
--- children. The lengths of the children are given.
+-- Length of a task: its minutes; any-of, and optional (02): its longest child; all-of: the greatest wait within it plus
+-- length over its children. The lengths of the children are given.
 unfoldable pub lengthAs : List ℕ → (ℕ → ℕ) → Kind → ℕ → ℕ
 lengthAs b len task n = minutesOf b n
 lengthAs b len any-of n = greatest (nodeCount b) (isChild b n) len
+lengthAs b len optional n = greatest (nodeCount b) (isChild b n) len
 lengthAs b len all-of n = greatest (nodeCount b) (isChild b n) (λ c. waitBy b len (nodeCount b) c + len c)
 
 -- k is the number of levels that are followed: a child has the higher number, so the number of nodes is enough
@@ -41,7 +42,7 @@ lengthBy b (suc k) n = lengthAs b (lengthBy b k) (kindAt (kindOf b n)) n
 unfoldable pub lengthOf : List ℕ → ℕ → ℕ
 lengthOf b n = lengthBy b (nodeCount b) n
 
--- in an all-of group as above, in an any-of group 0; the root's own is 0
+-- in an all-of group as above, in an any-of or optional group 0; the root's own is 0
 unfoldable pub waitWithin : List ℕ → ℕ → ℕ
 waitWithin b n = cond (isKind b (parentOf b n) 1) (waitBy b (lengthOf b) (nodeCount b) n) 0
 

@@ -1,14 +1,14 @@
 -- The groups, worked out from the children up. Assumes nothing.
 use mathlib.Core.Path.{_≡_, refl, sym, _∙_}
-use mathlib.Core.Logic.{⊎-elim, by-cases}
-use mathlib.Core.Bool.{true}
+use mathlib.Core.Logic.{_≢_, ⊎-elim, by-cases}
+use mathlib.Core.Bool.{Bool, true}
 use mathlib.Core.List.{List}
 use Prim.Native.Nat.{ℕ, _+_, _<_, _≤_}
 use native.Mathlib.Decide.{ℕ-discrete}
 use native.Mathlib.Omega.{arith}
 use lib.ListN.{getD, set, length-set}
 use lib.Seq.{getD-set-same, getD-set-other}
-use Rattle.plan_format.specs.Format.{nodeCount, parentOf, kindOf}
+use Rattle.plan_format.specs.Format.{nodeCount, parentOf, kindOf, isKind, isChoice}
 use Rattle.plan_rules.specs.Rules.{refusal, isChild}
 use Rattle.runs.specs.Plan.{Under, itself}
 use Rattle.runs.proofs.Plan.Trees.{under-root}
@@ -16,18 +16,17 @@ use Rattle.runs.proofs.Execution.Final.{under-task}
 use Rattle.plan_check.specs.Meaning.{planOf}
 use Rattle.plan_check.proofs.Accepted.{Clean, clean}
 use Rattle.plan_rules.proofs.Causes.{parent-group}
-use Rattle.plan_check.proofs.Meaning.{kind-limit, kind-task, means-well-formed}
+use Rattle.plan_check.proofs.Meaning.{kind-of, kind-task, means-well-formed}
 use Rattle.plan_check.proofs.Nodes.{is-node, plan-kind}
 use Rattle.marks_row.specs.declared.Segment.{Segment}
 use Rattle.marks_row.specs.Segments.{segmentOf, Position}
-use Rattle.marks_row.proofs.Turns.{kid-later}
 use Rattle.marks_row.proofs.Walks.{RightTo, right-none, right-more, right-all}
+use Rattle.table_children.specs.Children.{TreeOf}
 use Rattle.table_children.proofs.Listed.{its-children, every-listed}
 use Rattle.wait_lengths.specs.Waits.{lengthOf, waitWithin}
 use Rattle.wait_group.specs.Spread.{GroupOf, Tables, ChildLengths, Spread}
-use Rattle.wait_group.proofs.Children.{at-group}
 use Rattle.wait_tree.specs.Filled.{Done, Worked, AllWorked}
-use Rattle.wait_lengths.proofs.Laws.{child-lower}
+use Rattle.wait_lengths.proofs.Laws.{choice-is, choice-of, child-lower}
 use Rattle.wait_lengths.proofs.Bounds.{own-child, group-kind, wait-any, wait-root}
 
 -- ---- a node that is done stays done while the waits grow, and when a right length is written
@@ -70,19 +69,15 @@ task-done {b} {lengths} {waits} e t m l k s u =
     own = record {
       own = s .tasks t l k;
       children = λ c h. ⊎-elim (λ (q : kindOf b t ≡ 1). absurd (omega arith))
-          (λ (q : kindOf b t ≡ 2). absurd (omega arith)) (group-kind b (clean b e) t c h);
+          (λ (q : isChoice b t ≡ true). absurd (omega (arith, choice-is b t q .1))) (group-kind b (clean b e) t c h);
     }
 
 -- a child that is a task: its length stands
-pub task-worked : {b lengths waits : List ℕ} {t : ℕ} → refusal b ≡ 0 → t < nodeCount b → (kindOf b t ≡ 1 → ⊥)
-    → (kindOf b t ≡ 2 → ⊥) → Tables b lengths waits
-    → Worked b lengths waits lengths waits t
-task-worked {b} {t = t} e l n o s = record {
+pub task-worked : {b lengths waits : List ℕ} {t : ℕ} → refusal b ≡ 0 → t < nodeCount b → kindOf b t ≡ 0
+    → Tables b lengths waits → Worked b lengths waits lengths waits t
+task-worked {t = t} e l k s = record {
   tables = s;
-  under = record {
-    kept = λ m d. d;
-    right = λ m u. task-done e t m l (omega (arith, kind-limit b (clean b e) t l)) s u;
-  };
+  under = record { kept = λ m d. d; right = λ m u. task-done e t m l k s u };
 }
 
 -- ---- the children at the positions before i, with all under them
@@ -103,15 +98,17 @@ module _ {b kids : List ℕ} {segment : Segment} {lengths₀ waits₀ : List ℕ
   child-more e p s y z x = rw (y, z)
       (record { tables = x .tables; walked = right-more (p .low) e (s .walked) (x .under) })
 
--- a child that is a group
-pub child-group : {b from kids : List ℕ} {k g i c x k′ : ℕ} {segment : Segment} → GroupOf b from kids k g
-    → segment ≡ segmentOf from g → Position segment i
-    → c ≡ getD kids i 0 → x ≡ kindOf b c → x ≡ k′ → GroupOf b from kids k′ c
-child-group o here p e q z = record
-    { accepted = o .accepted; tree = o .tree; node = kid-later (at-group o) here p e .1; kind = sym q ∙ z }
+-- a group by the number of its kind
+module _ {b from kids : List ℕ} {g k : ℕ} (a : refusal b ≡ 0) (t : TreeOf b from kids) (l : g < nodeCount b)
+    (q : k ≡ kindOf b g) where
+  pub all-group : k ≡ 1 → GroupOf b from kids (isKind b g 1) g
+  all-group e = record { accepted = a; tree = t; node = l; kind = kind-of b g 1 l (sym q ∙ e) }
 
-module _ {b from kids lengths₀ waits₀ lengths waits : List ℕ} {k g : ℕ} {segment : Segment}
-    (o : GroupOf b from kids k g) (here : segment ≡ segmentOf from g)
+  pub any-group : k ≢ 1 → k ≢ 0 → GroupOf b from kids (isChoice b g) g
+  any-group n m = record { accepted = a; tree = t; node = l; kind = choice-of b (clean b a) g l (omega arith) }
+
+module _ {b from kids lengths₀ waits₀ lengths waits : List ℕ} {test : Bool} {g : ℕ} {segment : Segment}
+    (o : GroupOf b from kids test g) (here : segment ≡ segmentOf from g)
     (s : ChildrenTo b kids segment lengths₀ waits₀ lengths waits (segment .end)) where
   pub child-lengths : ChildLengths b lengths g
   child-lengths = record { is = λ c h. every-listed (o .tree) (o .node) here (s .walked .right) c h c itself .own }
@@ -134,7 +131,7 @@ module _ {b from kids lengths₀ waits₀ lengths waits : List ℕ} {k g : ℕ} 
       → Worked b lengths₀ waits₀ (set lengths g v) waits′ g
   all-worked x = worked (x .greatest) (x .tables) (x .grown) (x .children)
 
-  pub any-worked : {v : ℕ} → kindOf b g ≡ 2 → v ≡ lengthOf b g → Worked b lengths₀ waits₀ (set lengths g v) waits g
+  pub any-worked : {v : ℕ} → isChoice b g ≡ true → v ≡ lengthOf b g → Worked b lengths₀ waits₀ (set lengths g v) waits g
   any-worked e q =
       let ok = clean b (o .accepted) in
       worked q (s .tables) (λ i. omega arith)
@@ -165,5 +162,5 @@ module _ {b lengths waits : List ℕ} (e : refusal b ≡ 0) where
   pub root-worked : {lengths₀ waits₀ : List ℕ} → Worked b lengths₀ waits₀ lengths waits 0 → AllWorked b lengths waits
   root-worked x = all-done (x .tables) (x .under .right)
 
-  pub root-task : Tables b lengths waits → (kindOf b 0 ≡ 1 → ⊥) → (kindOf b 0 ≡ 2 → ⊥) → AllWorked b lengths waits
-  root-task t n o = root-worked (task-worked e (clean b e .fits .limits .some-node) n o t)
+  pub root-task : Tables b lengths waits → kindOf b 0 ≡ 0 → AllWorked b lengths waits
+  root-task t k = root-worked (task-worked e (clean b e .fits .limits .some-node) k t)

@@ -1,6 +1,8 @@
-// Lengths and longest waits of an accepted plan, by functions for all-of and any-of groups that call each other.
+// Lengths and longest waits of an accepted plan, by functions for all-of groups and for any-of and optional groups that
+// call each other.
 ghost use mathlib.Core.Path.{_≡_};
 ghost use lib.ListN.{length};
+ghost use Rattle.plan_format.specs.Format.{isKind, isChoice};
 ghost use Rattle.plan_rules.specs.Rules.{refusal};
 ghost use Rattle.base.specs.Zeros.{Zeros};
 ghost use Rattle.table_children.specs.Children.{TreeOf};
@@ -8,7 +10,6 @@ ghost use Rattle.wait_lengths.specs.Waits.{lengthOf};
 ghost use Rattle.wait_group.specs.Spread.{GroupOf, Tables};
 ghost use Rattle.wait_tree.specs.Filled.{Worked, AllWorked, Within, Longest};
 use base::kinds::ALL_OF;
-use base::kinds::ANY_OF;
 use base::kinds::TASK;
 use base::no_nodes;
 use base::no_starts;
@@ -32,7 +33,8 @@ fn all_length(
     waits: &mut [u32; 128],
     node: usize,
 )
-    requires { ⌜ GroupOf (now plan) (now from) (now kids) 1 node × Tables (now plan) (now lengths) (now waits) ⌝ }
+    requires { ⌜ GroupOf (now plan) (now from) (now kids) (isKind (now plan) node 1) node
+        × Tables (now plan) (now lengths) (now waits) ⌝ }
     ensures { λ r. ⌜ Worked (now (plan .entry)) (now (lengths .entry)) (now (waits .entry)) (now (lengths .exit))
         (now (waits .exit)) node ⌝ }
 {
@@ -43,7 +45,7 @@ fn all_length(
         let k = kind(plan, child);
         if k == ALL_OF {
             all_length(plan, from, kids, lengths, waits, child);
-        } else if k == ANY_OF {
+        } else if k != TASK {
             any_length(plan, from, kids, lengths, waits, child);
         }
         i += 1;
@@ -52,7 +54,7 @@ fn all_length(
     lengths[node] = longest;
 }
 
-// Works out an any-of group and all groups under it.
+// Works out an any-of or optional group and all groups under it.
 fn any_length(
     plan: &[u8],
     from: &[u8; 129],
@@ -61,7 +63,8 @@ fn any_length(
     waits: &mut [u32; 128],
     node: usize,
 )
-    requires { ⌜ GroupOf (now plan) (now from) (now kids) 2 node × Tables (now plan) (now lengths) (now waits) ⌝ }
+    requires { ⌜ GroupOf (now plan) (now from) (now kids) (isChoice (now plan) node) node
+        × Tables (now plan) (now lengths) (now waits) ⌝ }
     ensures { λ r. ⌜ Worked (now (plan .entry)) (now (lengths .entry)) (now (waits .entry)) (now (lengths .exit))
         (now (waits .exit)) node ⌝ }
 {
@@ -72,7 +75,7 @@ fn any_length(
         let k = kind(plan, child);
         if k == ALL_OF {
             all_length(plan, from, kids, lengths, waits, child);
-        } else if k == ANY_OF {
+        } else if k != TASK {
             any_length(plan, from, kids, lengths, waits, child);
         }
         i += 1;
@@ -112,7 +115,7 @@ fn work_out(
     let root = kind(plan, 0);
     if root == ALL_OF {
         all_length(plan, from, kids, lengths, waits, 0);
-    } else if root == ANY_OF {
+    } else if root != TASK {
         any_length(plan, from, kids, lengths, waits, 0);
     }
 }

@@ -1,20 +1,22 @@
 -- `any_words` meets its contract. Assumes nothing.
+use mathlib.Core.Path.{sym, _∙_}
 use Prim.Native.Nat.{ℕ, _-_}
 use Rattle.runs.specs.Plan.{Plan}
 use Rattle.marks_row.specs.Segments.{Reached}
 use Rattle.marks_row.proofs.Turns.{first-turn, position-small, kid-small, position, next-turn, last-turn}
 use Rattle.marks_siblings.specs.Group.{Group}
 use Rattle.marks_group.proofs.Merge.{AnyWords, joined-none, joined-more, unmasked, child-row, any-row}
+use Rattle.marks_group.proofs.Merge.{optional-row, is-optional, is-any}
 use native.Mathlib.Omega.{arith}
 use Rattle.marks_group.proofs.any_words.Statement.{statement}
 use Rattle.marks_group.proofs.any_words.Tie as tie
 
 abbrev Inv-loop : tie.InvT-loop
-Inv-loop kids segment rows mask words₀ i₀ words i = Reached segment i
+Inv-loop kind kids segment rows mask words₀ i₀ words i = Reached segment i
     × ((p : Plan) (n : ℕ) (g : Group kids segment rows p n) → AnyWords g i words)
 
 abbrev μ-loop : tie.MeasureT-loop
-μ-loop kids segment rows mask words₀ i₀ words i = segment .end - i
+μ-loop kind kids segment rows mask words₀ i₀ words i = segment .end - i
 
 loop-holds : tie.Need-loop-holds Inv-loop μ-loop
 loop-holds c = (first-turn (c .before .before .pre), λ p n g. joined-none (c .start-words2 .ensures))
@@ -42,8 +44,14 @@ loop-again c =
     )
 
 returns : tie.Need-returns Inv-loop μ-loop
-returns c = let l = c .before .before in
-    λ p n g kn. any-row g kn (rw (last-turn (l .loop .inv .0) (c .if1 .left)) at (l .loop .inv .1 p n g))
+returns c = let l = c .before .before .before .before in
+    λ p n g m e. optional-row g (is-optional _ (sym (c .before .if2 .taken) ∙ e))
+    (rw (last-turn (l .loop .inv .0) (c .before .before .if1 .left)) at (l .loop .inv .1 p n g)) (c .with-empty .ensures)
+
+returns-2 : tie.Need-returns-2 Inv-loop μ-loop
+returns-2 c = let l = c .before .before .before in
+    λ p n g m e. any-row g (is-any _ m (λ q. c .if2 .left (e ∙ sym q)))
+    (rw (last-turn (l .loop .inv .0) (c .before .if1 .left)) at (l .loop .inv .1 p n g))
 
 pub any-words-spec : {M : Type 1} → statement M
 any-words-spec =
@@ -60,4 +68,6 @@ any-words-spec =
     (λ c. omega arith)
     (λ c. omega arith)
     loop-again
-    returns)
+    (λ c κs. tt)
+    returns
+    returns-2)

@@ -1,5 +1,6 @@
 -- `all_of` and `any_of` meet their contracts, n - node falling: the children before i are worked out, with all under
 -- them. Assumes nothing.
+use mathlib.Core.Path.{refl}
 use mathlib.Core.Logic.{⊎-elim}
 use Prim.Native.Nat.{ℕ, _-_, _<_}
 use native.Mathlib.Omega.{arith}
@@ -13,7 +14,7 @@ use Rattle.base.proofs.wide.Reads as wide-reads
 use Rattle.marks_row.proofs.children.Reads as children-reads
 use Rattle.marks_row.proofs.write_row.Reads as write-row-reads
 use Rattle.marks_group.proofs.any_words.Reads as any-words-reads
-use Rattle.marks_tree.proofs.Children.{is-task, is-all, is-any, ChildrenTo, children-none, child-more}
+use Rattle.marks_tree.proofs.Children.{is-task, is-all, is-choice, ChildrenTo, children-none, child-more}
 use Rattle.marks_tree.proofs.Children.{task-filled, all-filled, any-filled}
 use Rattle.marks_tree.proofs.all_row.Reads as all-row-reads
 use Rattle.marks_tree.proofs.all_of.Reads as all-of
@@ -120,9 +121,9 @@ all-of-loop-again t c =
     let at = position turn test in
     let e = c .before .before .wide .ensures .0 in (
       next-turn turn test,
-      ⊎-elim (λ w. child-more _ _ _ _ _ _ _ z e at (l .loop .inv .1) (w .3) (is-all (w .0 .taken)) (w .2 .ensures))
-          (⊎-elim (λ w. child-more _ _ _ _ _ _ _ z e at (l .loop .inv .1) (w .4) (is-any (w .1 .taken)) (w .3 .ensures))
-          (λ w. child-more _ _ _ _ _ _ _ z e at (l .loop .inv .1) (w .2) (is-task (w .0 .left) (w .1 .left))
+      ⊎-elim (λ w. child-more _ _ _ _ _ _ _ z e at (l .loop .inv .1) (w .3) (is-all _ _ (w .0 .taken)) (w .2 .ensures))
+          (⊎-elim (λ w. child-more _ _ _ _ _ _ _ z e at (l .loop .inv .1) (w .4) (is-choice _ _ (w .0 .left) (w .1 .taken)) (w .3 .ensures))
+          (λ w. child-more _ _ _ _ _ _ _ z e at (l .loop .inv .1) (w .2) (is-task _ _ (w .1 .left))
           (task-filled (l .loop .inv .1 .long))))
           (c .if2 .came),
     )
@@ -225,33 +226,39 @@ any-of-loop-again t c =
     let at = position turn test in
     let e = c .before .before .wide .ensures .0 in (
       next-turn turn test,
-      ⊎-elim (λ w. child-more _ _ _ _ _ _ _ z e at (l .loop .inv .1) (w .3) (is-all (w .0 .taken)) (w .2 .ensures))
-          (⊎-elim (λ w. child-more _ _ _ _ _ _ _ z e at (l .loop .inv .1) (w .4) (is-any (w .1 .taken)) (w .3 .ensures))
-          (λ w. child-more _ _ _ _ _ _ _ z e at (l .loop .inv .1) (w .2) (is-task (w .0 .left) (w .1 .left))
+      ⊎-elim (λ w. child-more _ _ _ _ _ _ _ z e at (l .loop .inv .1) (w .3) (is-all _ _ (w .0 .taken)) (w .2 .ensures))
+          (⊎-elim (λ w. child-more _ _ _ _ _ _ _ z e at (l .loop .inv .1) (w .4) (is-choice _ _ (w .0 .left) (w .1 .taken)) (w .3 .ensures))
+          (λ w. child-more _ _ _ _ _ _ _ z e at (l .loop .inv .1) (w .2) (is-task _ _ (w .1 .left))
           (task-filled (l .loop .inv .1 .long))))
           (c .if2 .came),
     )
 
+any-of-element-copy-out-kind : (t : ℕ)
+    → any-of-lts.Need-element-copy-out-any-words (any-of-claims t) (any-of-at t) any-of.Post any-of-Inv-loop any-of-μ-loop
+any-of-element-copy-out-kind t c =
+    let s = c .before .before .before .before in
+    omega (arith, s .pre .1 .0 .shaped .small, s .pre .1 .0 .below)
+
 any-of-any-words-requires : (t : ℕ)
     → any-of-lts.Need-any-words-requires (any-of-claims t) (any-of-at t) any-of.Post any-of-Inv-loop any-of-μ-loop
 any-of-any-words-requires t c κs =
-    let l = c .before .before .before in
+    let l = c .before .before .before .before in
     at-segment (l .before .before .pre .1 .0) (l .before .children .ensures)
 
 any-of-write-row-requires : (t : ℕ)
     → any-of-lts.Need-write-row-requires (any-of-claims t) (any-of-at t) any-of.Post any-of-Inv-loop any-of-μ-loop
 any-of-write-row-requires t c κs =
-    let l = c .before .before .before .before .before in
+    let l = c .before .before .before .before .before .before in
     let s = l .before .before in
     (omega (arith, s .pre .1 .0 .shaped .small, s .pre .1 .0 .below), l .loop .inv .1 .long)
 
 any-of-returns : (t : ℕ) → any-of-lts.Need-returns (any-of-claims t)
     (any-of-at t) any-of.Post any-of-Inv-loop any-of-μ-loop
 any-of-returns t c =
-    let l = c .before .before .before .before .before .before in
-    let e = last-turn (l .loop .inv .0) (c .before .before .before .before .if1 .left) in
+    let l = c .before .before .before .before .before .before .before in
+    let e = last-turn (l .loop .inv .0) (c .before .before .before .before .before .if1 .left) in
     any-filled _ _ _ _ _ _ _ (l .before .children .ensures) (rw e at (l .loop .inv .1)) (c .write-row .ensures)
-    (c .before .before .any-words .ensures)
+    refl (c .before .before .any-words .ensures)
 
 pub +all-of+any-of-spec : {M : Type 1} → statement M
 +all-of+any-of-spec = close μ-all-of μ-any-of (λ t. all-of-lts.spec (all-of-claims t)
@@ -287,6 +294,7 @@ pub +all-of+any-of-spec : {M : Type 1} → statement M
     (λ c. omega arith)
     (λ c. omega arith)
     (any-of-loop-again t)
+    (any-of-element-copy-out-kind t)
     (any-of-any-words-requires t)
     (any-of-write-row-requires t)
     (any-of-returns t)

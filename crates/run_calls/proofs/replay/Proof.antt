@@ -13,29 +13,29 @@ use Rattle.run_calls.proofs.replay.Statement.{statement}
 use Rattle.run_calls.proofs.replay.Tie as tie
 
 abbrev Inv-loop : tie.InvT-loop
-Inv-loop plan finishes tasks state₀ returns₀ r n i₀ state returns i = ((i ≤ n) × (length state ≡ length state₀))
-    × Partly plan state₀ returns₀ (callsOf finishes tasks returns₀) i state returns
+Inv-loop plan codes nodes state₀ returns₀ r n i₀ state returns i = ((i ≤ n) × (length state ≡ length state₀))
+    × Partly plan state₀ returns₀ (callsOf codes nodes returns₀) i state returns
 
 abbrev μ-loop : tie.MeasureT-loop
-μ-loop plan finishes tasks state₀ returns₀ r n i₀ state returns i = n - i
+μ-loop plan codes nodes state₀ returns₀ r n i₀ state returns i = n - i
 
 -- the number of calls
 count : (c : tie.After-least2 Inv-loop μ-loop)
     → c .least2 .result ≡ length (callsOf
     (now (c .before .before .before .before .before .before .before .before .before .before .before .before .args
-    .finishes)) (now (c .before .before .before .before .before .before .before .before .before .before .before
-    .before .args .tasks)) (now (c .before .before .before .before .before .before .before .before .before .before
+    .codes)) (now (c .before .before .before .before .before .before .before .before .before .before .before
+    .before .args .nodes)) (now (c .before .before .before .before .before .before .before .before .before .before
     .before .before .args .returns)))
 count c = let a = c .before .before .before .before .before .before .before .before .before .before .before .before
-    .args in c .least2 .ensures ∙ ap (λ (k : ℕ). min (length (now (a .finishes))) k) (c .before .least .ensures)
-    ∙ sym (calls-length (now (a .finishes)) (now (a .tasks)) (now (a .returns)))
+    .args in c .least2 .ensures ∙ ap (λ (k : ℕ). min (length (now (a .codes))) k) (c .before .least .ensures)
+    ∙ sym (calls-length (now (a .codes)) (now (a .nodes)) (now (a .returns)))
 
 below : (c : tie.In-loop Inv-loop μ-loop)
     → ((c .before .loop .i < length
     (now (c .before .before .before .before .before .before .before .before .before .before .before .before .before
-    .before .args .finishes))) × (c .before .loop .i < length
+    .before .args .codes))) × (c .before .loop .i < length
     (now (c .before .before .before .before .before .before .before .before .before .before .before .before .before
-    .before .args .tasks)))) × (c .before .loop .i < length
+    .before .args .nodes)))) × (c .before .loop .i < length
     (now (c .before .before .before .before .before .before .before .before .before .before .before .before .before
     .before .args .returns)))
 below c =
@@ -77,7 +77,7 @@ loop-again c =
     .before .before .before .before .before .before .before .args in
     let l = c .before .before .before .before .before .before .before .loop in
     let b = below (c .before .before .before .before .before .before) in
-    let q : l .i < length (callsOf (now (a .finishes)) (now (a .tasks)) (now (a .returns))) =
+    let q : l .i < length (callsOf (now (a .codes)) (now (a .nodes)) (now (a .returns))) =
     omega (
       arith,
       count (c .before .before .before .before .before .before .before .before),
@@ -86,7 +86,7 @@ loop-again c =
     let z : length (c .before .before .make .last .1 .0) ≡ length (l .state) = search needs in (
       (omega (arith, c .before .before .before .before .before .before .loop-test .taken), z ∙ l .inv .0 .1),
       partly-more _ _ _ _ _ _ _ (l .inv .1) q (b .1) _ _ _
-          (calls-at (now (a .finishes)) (now (a .tasks)) (now (a .returns)) (l .i) q)
+          (calls-at (now (a .codes)) (now (a .nodes)) (now (a .returns)) (l .i) q)
           (c .before .before .make .ensures),
     )
 
@@ -104,7 +104,7 @@ returns-2 c =
     let a = c .before .before .before .before .before .before .before .before .before .before .before .before .before
     .before .args in
     let l = c .before .loop in
-    let cs = callsOf (now (a .finishes)) (now (a .tasks)) (now (a .returns)) in
+    let cs = callsOf (now (a .codes)) (now (a .nodes)) (now (a .returns)) in
     let e : l .i ≡ length cs = omega (arith, count (c .before .before), l .inv .0 .0, c .loop-test .left) in
     ran-all _ _ _ cs (λ i. omega (
       arith,

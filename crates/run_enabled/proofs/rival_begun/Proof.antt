@@ -1,9 +1,12 @@
 -- `run_enabled::rival_begun` meets its contract. Assumes nothing.
-use mathlib.Core.Path.{sym, _∙_}
+use mathlib.Core.Path.{_≡_, sym, _∙_}
+use mathlib.Core.Bool.{false}
 use Prim.Native.Nat.{_<_}
 use denote.Ref.{now}
+use Rattle.plan_format.specs.Format.{nodeCount, isKind}
+use Rattle.run_starts.specs.Starts.{nodeByte}
 use Rattle.run_state.proofs.Refused.{Roomy}
-use Rattle.run_state.proofs.Passed.{has-room}
+use Rattle.run_state.proofs.Passed.{has-room, byte-inside}
 use Rattle.run_enabled.proofs.Branches.{own-begun, own-waits, no-choice}
 use Rattle.run_enabled.proofs.Marks.{parent-lower}
 use native.Mathlib.Omega.{arith}
@@ -16,42 +19,59 @@ room c = has-room _ _ (c .pre .0 .1 .1 .1)
 node-small : (c : tie.Start) → c .args .n < 128
 node-small c = omega (arith, c .pre .0 .1 .0, room c .plan .fits .limits .nodes)
 
-parent-small : (c : tie.Start) → c .args .g < 128
-parent-small c = omega (
+parent-below : (c : tie.Start) → c .args .g < nodeCount (now (c .args .plan))
+parent-below c = omega (
   arith,
-  node-small c,
+  c .pre .0 .1 .0,
   parent-lower (now (c .args .plan)) (room c .accepted) (c .args .n) (c .args .g) (c .pre .0 .0) (c .pre .0 .1 .0)
       (c .pre .0 .1 .1 .0),
 )
 
-is-begun-requires : tie.Need-is-begun-requires
-is-begun-requires c κs = let s = c .before .before .before .before in
-    (s .pre .0 .1 .0, (s .pre .0 .1 .1 .1, s .pre .1 (s .args .n) (node-small s)))
+parent-small : (c : tie.Start) → c .args .g < 128
+parent-small c = omega (arith, parent-below c, room c .plan .fits .limits .nodes)
+
+no-all : (c : tie.Else1) → isKind (now (c .before .before .before .before .args .plan))
+    (c .before .before .before .before .args .g) 1 ≡ false
+no-all c = sym (c .before .is-kind .ensures) ∙ c .if1 .left
 
 returns : tie.Need-returns
-returns c =
-    let s = c .before .before .before .before .before .before .before in
-    own-begun _ _ _ _ _ (sym (c .before .before .before .before .is-kind .ensures)
-    ∙ c .before .before .before .if1 .taken) (sym (c .before .before .is-begun .ensures) ∙ c .if2 .taken)
-    (s .pre .1 (s .args .g) (parent-small s))
+returns c = no-choice _ _ _ _ (sym (c .before .is-kind .ensures) ∙ c .if1 .taken)
+
+add-skipped : tie.Need-add-skipped
+add-skipped c = omega (arith, parent-small (c .before .before .before .before))
+
+shared-slice-read-skipped : tie.Need-shared-slice-read-skipped
+shared-slice-read-skipped c =
+    let s = c .before .before .before .before .before in
+    byte-inside _ _ (s .pre .0 .1 .1 .1) _ (parent-below s)
+
+is-begun-requires : tie.Need-is-begun-requires
+is-begun-requires c κs = let s = c .before .before .before .before .before in
+    (s .pre .0 .1 .0, (s .pre .0 .1 .1 .1, s .pre .1 (s .args .n) (node-small s)))
 
 returns-2 : tie.Need-returns-2
+unfolding nodeByte
 returns-2 c =
-    let s = c .before .before .before .before .before .before .before in
-    own-waits _ _ _ _ _ (sym (c .before .before .before .before .is-kind .ensures)
-    ∙ c .before .before .before .if1 .taken) (sym (c .before .before .is-begun .ensures) ∙ c .if2 .left)
-    (s .pre .1 (s .args .g) (parent-small s))
+    let s = c .before .before .before .before .before .before .before .before in
+    own-begun _ _ _ _ _ (no-all (c .before .before .before .before))
+    (sym (c .before .before .is-begun .ensures) ∙ c .if2 .taken) (s .pre .1 (s .args .g) (parent-small s))
 
 returns-3 : tie.Need-returns-3
-returns-3 c = no-choice _ _ _ _ (sym (c .before .is-kind .ensures) ∙ c .if1 .left)
+unfolding nodeByte
+returns-3 c =
+    let s = c .before .before .before .before .before .before .before .before in
+    own-waits _ _ _ _ _ (no-all (c .before .before .before .before))
+    (sym (c .before .before .is-begun .ensures) ∙ c .if2 .left) (s .pre .1 (s .args .g) (parent-small s))
 
 pub rival-begun-spec : {M : Type 1} → statement M
 rival-begun-spec =
     tie.close
     (tie.spec
     (λ c κs. room (c .before .before) .plan .fits)
-    is-begun-requires
-    (λ c. parent-small (c .before .before .before .before .before))
     returns
+    add-skipped
+    shared-slice-read-skipped
+    is-begun-requires
+    (λ c. parent-small (c .before .before .before .before .before .before))
     returns-2
     returns-3)

@@ -4,7 +4,7 @@ use denote.Ref.{now}
 use Rattle.plan_check.proofs.Meaning.{kind-is}
 use Rattle.run_state.specs.State.{stateRefusal}
 use Rattle.run_refusals.specs.Events.{eventOf, eventRefusal}
-use Rattle.run_refusals.proofs.Chain.{node-of, answer-task}
+use Rattle.run_refusals.proofs.Chain.{node-of, task-event, answer-task}
 use Rattle.run_monitor.proofs.Called.{called-16, called-22, called-0}
 use borrow.Author.Needs.{needs}
 use Rattle.run_monitor.proofs.call.Statement.{statement}
@@ -32,7 +32,8 @@ write-move-requires c κs =
     let a = c .before .before .before .before .before .before .before .before .before .args in
     let ok = passed (c .before .before .before .before) in
     record {
-      node = kind-is _ _ 0 (answer-task _ _ ok (a .task) _ (node-of (a .m) (a .task)) (none (c .before))) .0;
+      node = kind-is _ _ 0 (answer-task _ _ ok (a .task) _ (node-of (a .m) (a .task)) (task-event (a .m) (a .task))
+          (none (c .before))) .0;
       passed = ok;
     }
 

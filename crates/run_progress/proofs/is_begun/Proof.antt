@@ -1,62 +1,34 @@
 -- `run_progress::is_begun` meets its contract. Assumes nothing.
-use mathlib.Core.Path.{_≡_, sym, ap, _∙_}
-use mathlib.Core.Bool.{not}
+use mathlib.Core.Path.{ap, _∙_}
+use mathlib.Core.Bool.{not, _||_}
 use Prim.Native.Nat.{ℕ, _<_}
 use lib.Dec.{eqb}
 use denote.Ref.{now}
-use Rattle.plan_format.specs.Format.{kindOf}
-use Rattle.plan_check.proofs.Accepted.{Clean}
-use Rattle.plan_check.proofs.Meaning.{kind-is}
-use Rattle.plan_check.proofs.Nodes.{other-kind}
 use Rattle.run_starts.specs.Starts.{nodeByte}
-use Rattle.run_state.proofs.Passed.{has-room, node-small, byte-inside}
-use Rattle.run_progress.proofs.Progress.{task-begun, group-begun}
+use Rattle.run_state.proofs.Passed.{node-small, byte-inside}
+use Rattle.run_progress.proofs.Progress.{node-begun}
 use native.Mathlib.Omega.{arith}
 use Rattle.run_progress.proofs.is_begun.Statement.{statement}
 use Rattle.run_progress.proofs.is_begun.Tie as tie
 
-plan-clean : (c : tie.Start) → Clean (now (c .args .plan))
-plan-clean c = has-room _ _ (c .pre .1 .0) .plan
-
 small : (c : tie.Start) → c .args .n < 128
 small c = node-small _ _ (c .pre .1 .0) _ (c .pre .0)
 
-is-task : (c : tie.Then1) → kindOf (now (c .before .before .before .before .args .plan))
-    (c .before .before .before .before .args .n) ≡ 0
-is-task c = kind-is _ _ 0 (sym (c .before .is-kind .ensures) ∙ c .if1 .taken) .1
-
-no-task : (c : tie.Else1) → kindOf (now (c .before .before .before .before .args .plan))
-    (c .before .before .before .before .args .n) ≡ 0 → ⊥
-no-task c = other-kind _ _ 0 (c .before .before .before .before .pre .0)
-    (sym (c .before .is-kind .ensures) ∙ c .if1 .left)
-
-add-result : tie.Need-add-result
-add-result c = omega (arith, small (c .before .before .before .before))
-
 shared-slice-read-result : tie.Need-shared-slice-read-result
-shared-slice-read-result c = let s = c .before .before .before .before .before in
-    byte-inside _ _ (s .pre .1 .0) _ (s .pre .0)
+shared-slice-read-result c = byte-inside _ _ (c .before .pre .1 .0) _ (c .before .pre .0)
 
 returns : tie.Need-returns
 unfolding nodeByte
-returns c = let s = c .before .before .before .before .before in
-    task-begun (now (s .args .plan)) (now (s .args .state)) (s .pre .1 .0) (s .args .n) (s .pre .0)
-    (is-task (c .before))
-
-returns-2 : tie.Need-returns-2
-returns-2 c =
-    let s = c .before .before .before .before .before in
-    ap (λ (x : ℕ). not (eqb x 0)) (s .pre .1 .1)
-    ∙ group-begun (now (s .args .plan)) (now (s .args .state)) (s .pre .1 .0) (s .args .n) (s .pre .0)
-    (no-task (c .before))
+returns c =
+    let s = c .before .before in
+    ap (λ (x : ℕ). not (eqb (nodeByte (now (s .args .state)) (s .args .n)) 0) || not (eqb x 0)) (s .pre .1 .1)
+    ∙ node-begun (now (s .args .plan)) (now (s .args .state)) (s .pre .1 .0) (s .args .n) (s .pre .0)
 
 pub is-begun-spec : {M : Type 1} → statement M
 is-begun-spec =
     tie.close
     (tie.spec
-    (λ c κs. plan-clean (c .before .before) .fits)
-    add-result
+    (λ c. omega (arith, small c))
     shared-slice-read-result
-    returns
-    (λ c. small (c .before .before .before .before))
-    returns-2)
+    (λ c. small (c .before))
+    returns)

@@ -46,14 +46,14 @@ returns c =
 returns-2 : tie.Need-returns-2
 returns-2 c =
     let e : c .before .before .before .before .before .before .before .args .tally ≡ Ends = cc in
-    c .before .before .is-complete .ensures
-    ∙ at-ends-any _ _ _ _ _ e (sym (c .before .is-kind .ensures) ∙ c .if1 .taken)
+    ap not (c .before .before .is-complete .ensures)
+    ∙ at-ends-all _ _ _ _ _ e (sym (c .before .is-kind .ensures) ∙ c .if1 .taken)
 
 returns-3 : tie.Need-returns-3
 returns-3 c =
     let e : c .before .before .before .before .before .before .before .args .tally ≡ Ends = cc in
-    ap not (c .before .before .is-complete .ensures)
-    ∙ at-ends-all _ _ _ _ _ e (sym (c .before .is-kind .ensures) ∙ c .if1 .left)
+    c .before .before .is-complete .ensures
+    ∙ at-ends-any _ _ _ _ _ e (sym (c .before .is-kind .ensures) ∙ c .if1 .left)
 
 pub is-counted-spec : {M : Type 1} → statement M
 is-counted-spec =

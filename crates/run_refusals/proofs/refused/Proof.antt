@@ -16,7 +16,7 @@ use Rattle.run_state.specs.State.{statusIn}
 use Rattle.run_state.proofs.Passed.{has-room}
 use Rattle.run_refusals.specs.Events.{eventOf}
 use Rattle.run_refusals.specs.Parts.{beginRefusal}
-use Rattle.run_refusals.proofs.Chain.{asks-of, place-is, node-of, answer-17, answer-18, answer-begin}
+use Rattle.run_refusals.proofs.Chain.{asks-of, place-is, node-of, task-event, answer-17, answer-18, answer-begin}
 use Rattle.run_refusals.proofs.Chain.{answer-broken, broken-by}
 use native.Mathlib.Omega.{arith}
 use Rattle.run_refusals.proofs.refused.Statement.{statement}
@@ -63,13 +63,15 @@ broken : (c : tie.After-inc-broken)
 broken c =
     let s = c .before .before .before .before .before .before .before .before .before .before .before in
     sym (broken-by (now (s .args .plan)) (now (s .args .state)) (s .pre) (s .args .task)
-    (eventOf (s .args .m) (s .args .task)) (node-of (s .args .m) (s .args .task)) _
+    (eventOf (s .args .m) (s .args .task)) (node-of (s .args .m) (s .args .task))
+    (task-event (s .args .m) (s .args .task)) _
     (c .before .place-of .ensures ∙ ap (λ (k : Place). placeNumber k) (place-is (s .args .m) (s .args .task))) _
     (c .inc-broken .ensures))
 
 returns : tie.Need-returns
 returns c = answer-17 _ _ (c .before .before .before .before .pre) (c .before .before .before .before .args .task) _
     (node-of (c .before .before .before .before .args .m) (c .before .before .before .before .args .task))
+    (task-event (c .before .before .before .before .args .m) (c .before .before .before .before .args .task))
     (sym (c .before .is-kind .ensures) ∙ not-true _ (c .if1 .taken))
 
 add-if2 : tie.Need-add-if2
@@ -87,6 +89,7 @@ returns-2 : tie.Need-returns-2
 unfolding nodeByte
 returns-2 c = let s = c .before .before .before .before .before .before .before in
     answer-18 _ _ (s .pre) (s .args .task) _ (node-of (s .args .m) (s .args .task))
+    (task-event (s .args .m) (s .args .task))
     (is-task (c .before .before .before)) (λ z. c .if2 .taken (z ∙ sym (asked-is (c .before))))
 
 begin-refused-requires : tie.Need-begin-refused-requires
@@ -98,12 +101,14 @@ begin-refused-requires c κs = record {
 returns-3 : tie.Need-returns-3
 returns-3 c = let s = c .before .before .before .before .before .before .before .before .before in
     answer-begin _ _ (s .pre) (s .args .task) _ (node-of (s .args .m) (s .args .task))
+    (task-event (s .args .m) (s .args .task))
     (is-task (c .before .before .before .before .before)) (as-asked (c .before .before)) _
     (c .before .begin-refused .ensures) (c .if3 .taken)
 
 returns-4 : tie.Need-returns-4
 returns-4 c = let s = c .before .before .before .before .before .before .before .before .before .before .before .before
     in answer-broken _ _ (s .pre) (s .args .task) _ (node-of (s .args .m) (s .args .task))
+    (task-event (s .args .m) (s .args .task))
     (is-task (c .before .before .before .before .before .before .before .before))
     (as-asked (c .before .before .before .before .before)) (begun (c .before .before .before)) _
     (broken (c .before) ∙ c .if4 .taken)
@@ -111,6 +116,7 @@ returns-4 c = let s = c .before .before .before .before .before .before .before 
 returns-5 : tie.Need-returns-5
 returns-5 c = let s = c .before .before .before .before .before .before .before .before .before .before .before .before
     in answer-broken _ _ (s .pre) (s .args .task) _ (node-of (s .args .m) (s .args .task))
+    (task-event (s .args .m) (s .args .task))
     (is-task (c .before .before .before .before .before .before .before .before))
     (as-asked (c .before .before .before .before .before)) (begun (c .before .before .before)) _
     (broken (c .before) ∙ c .if4 .left)

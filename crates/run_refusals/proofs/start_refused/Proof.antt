@@ -19,11 +19,11 @@ use Rattle.run_refusals.proofs.start_refused.Statement.{statement}
 use Rattle.run_refusals.proofs.start_refused.Tie as tie
 
 unmet : (c : tie.After-pre-unmet)
-    → preUnmetB (planOf (now (c .before .before .before .before .before .before .args .plan)))
-    (flagShown (now (c .before .before .before .before .before .before .args .state)))
-    (start (c .before .before .before .before .before .before .args .task)) ≡ c .pre-unmet .result
+    → preUnmetB (planOf (now (c .before .before .before .before .before .before .before .before .args .plan)))
+    (flagShown (now (c .before .before .before .before .before .before .before .before .args .state)))
+    (start (c .before .before .before .before .before .before .before .before .args .task)) ≡ c .pre-unmet .result
 unmet c =
-    let s = c .before .before .before .before .before .before in
+    let s = c .before .before .before .before .before .before .before .before in
     sym (c .pre-unmet .ensures ∙ ap
     (λ (x : List ℕ). anyBelow (condCount (now (s .args .plan))) (unmetAt (now (s .args .plan)) x (s .args .task)))
     (c .before .load .ensures) ∙ unmet-is _ _ (s .pre .passed) (s .args .task))
@@ -46,8 +46,9 @@ start-refused-spec =
     tie.close
     (tie.spec
     (λ c κs. search needs)
+    (λ c κs. search needs)
     returns
-    (λ c κs. omega (arith, has-room _ _ (c .before .before .before .before .pre .passed) .room))
-    (λ c κs. has-room _ _ (c .before .before .before .before .before .pre .passed) .accepted)
+    (λ c κs. omega (arith, has-room _ _ (c .before .before .before .before .before .before .pre .passed) .room))
+    (λ c κs. has-room _ _ (c .before .before .before .before .before .before .before .pre .passed) .accepted)
     returns-2
     returns-3)

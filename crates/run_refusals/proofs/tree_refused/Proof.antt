@@ -7,54 +7,42 @@ use Rattle.run_state.specs.State.{statusIn}
 use Rattle.run_state.proofs.Passed.{has-room}
 use Rattle.run_enabled.proofs.Orders.{open-is}
 use Rattle.run_refusals.proofs.Chain.{tree-19, tree-20, tree-none}
+use borrow.Author.Needs.{needs}
 use Rattle.run_refusals.proofs.tree_refused.Statement.{statement}
 use Rattle.run_refusals.proofs.tree_refused.Tie as tie
 
 opens : (c : tie.After-order-open)
     → c .order-open .result ≡ orderOpenB
-    (planOf (now (c .before .before .before .before .before .before .before .before .before .before .before .args
-    .plan))) (statusIn (now (c .before .before .before .before .before .before .before .before .before .before
-    .before .args .plan)) (now (c .before .before .before .before .before .before .before .before .before .before
-    .before .args .state))) (c .before .before .before .before .before .before .before .before .before .before
-    .before .args .task)
-opens c = c .order-open .ensures
-    ∙ open-is _ _ (c .before .before .before .before .before .before .before .before .before .before .before .pre
-    .passed) _
+    (planOf (now (c .before .before .before .before .before .before .before .before .before .args .plan)))
+    (statusIn (now (c .before .before .before .before .before .before .before .before .before .args .plan))
+    (now (c .before .before .before .before .before .before .before .before .before .args .state)))
+    (c .before .before .before .before .before .before .before .before .before .args .node)
+opens c = c .order-open .ensures ∙ open-is _ _ (c .before .before .before .before .before .before .before .before .before .pre .0 .passed) _
     _ (c .before .before .before .path .ensures .1)
-
-branch-begun-requires : tie.Need-branch-begun-requires
-branch-begun-requires c κs = (c .before .before .before .before .pre, c .before .children .ensures .1)
 
 returns : tie.Need-returns
 returns c = tree-19 _ _ _ (sym (c .before .branch-begun .ensures) ∙ c .if1 .taken)
 
 path-requires : tie.Need-path-requires
-path-requires c κs = let s = c .before .before .before .before .before .before .before in
-    (s .pre .node, has-room _ _ (s .pre .passed) .accepted)
-
-order-open-requires : tie.Need-order-open-requires
-order-open-requires c κs = (
-  c .before .before .before .before .before .before .before .before .before .before .pre .passed,
-  c .before .before .before .children2 .ensures .1,
-)
+path-requires c κs = let s = c .before .before .before .before .before in
+    (s .pre .0 .node, has-room _ _ (s .pre .0 .passed) .accepted)
 
 returns-2 : tie.Need-returns-2
-returns-2 c = tree-20 _ _ _ (sym (c .before .before .before .before .before .before .before .branch-begun .ensures)
-    ∙ c .before .before .before .before .before .before .if1 .left) (sym (opens (c .before)) ∙ c .if2 .taken)
+returns-2 c = tree-20 _ _ _ (sym (c .before .before .before .before .before .before .before .branch-begun .ensures) ∙ c .before .before .before .before .before .before .if1 .left)
+    (sym (opens (c .before)) ∙ c .if2 .taken)
 
 returns-3 : tie.Need-returns-3
-returns-3 c = tree-none _ _ _ (sym (c .before .before .before .before .before .before .before .branch-begun .ensures)
-    ∙ c .before .before .before .before .before .before .if1 .left) (sym (opens (c .before)) ∙ c .if2 .left)
+returns-3 c = tree-none _ _ _ (sym (c .before .before .before .before .before .before .before .branch-begun .ensures) ∙ c .before .before .before .before .before .before .if1 .left)
+    (sym (opens (c .before)) ∙ c .if2 .left)
 
 pub tree-refused-spec : {M : Type 1} → statement M
 tree-refused-spec =
     tie.close
     (tie.spec
-    (λ c κs. c .before .before .pre .passed)
-    branch-begun-requires
+    (λ c κs. search needs)
     returns
-    (λ c κs. c .before .before .before .before .before .before .pre .passed)
+    (λ c κs. search needs)
     path-requires
-    order-open-requires
+    (λ c κs. search needs)
     returns-2
     returns-3)

@@ -18,7 +18,7 @@ abbrev pub flat : List Call → History
 flat [] = []
 flat (c ∷ cs) = events c ++ flat cs
 
--- 17 to 20 do not apply; 21 or 22 applies
+-- 17 to 20, and 27, do not apply; 21 or 22 applies
 abbrev pub EnabledCall : Plan → State → Call → Type 0
 EnabledCall p s (one e) = Enabled p 0 s e
 

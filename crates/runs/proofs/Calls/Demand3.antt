@@ -1,17 +1,17 @@
 -- Demand 3 holds of every well-formed plan, whatever flags are set at the start; and the same for what computes.
-use Rattle.runs.proofs.Base.{_≡_, refl, sym, ap, _∙_, _⊎_, inl, inr, _↔_, Bool, Option, none, some, List, []}
+use Rattle.runs.proofs.Base.{_≡_, refl, sym, ap, _∙_, _≢_, _⊎_, inl, inr, _↔_, Bool, Option, none, some, List, []}
 use Rattle.runs.proofs.Base.{_∷_, Among, ℕ, _≤_, arith}
-use Rattle.runs.specs.Plan.{Place, inc, post, Plan, WellFormed}
-use Rattle.runs.specs.Execution.{waiting, Status-discrete, Event, start, finish, History, statusAfter, Complete}
+use Rattle.runs.specs.Plan.{Kind, task, all-of, any-of, optional, Moves, Place, inc, post, Plan, Node, WellFormed}
+use Rattle.runs.specs.Execution.{Status, waiting, running, done, Event, start, finish, skip, History, statusAfter, Complete}
 use Rattle.runs.specs.Execution.{lastAssertedOf, asserts}
-use Rattle.runs.specs.Execution.{lastAsserted}
+use Rattle.runs.specs.Execution.{Execution, lastAsserted}
 use Rattle.runs.specs.Verdict.{Clear, Doomed}
-use Rattle.runs.specs.Calls.{Call, World, fresh, Refusal, pre-unmet, inc-broken, number, Task, Worked}
-use Rattle.runs.specs.Demand3.{NoViolation, Demand3}
+use Rattle.runs.specs.Calls.{Call, World, fresh, Refusal, pre-unmet, inc-broken, number, Task, Optional, Worked}
+use Rattle.runs.specs.Demand3.{NoViolation, WaitsOrSkipped, Demand3}
 use Rattle.runs.specs.Model.Monitor.{returns, states}
 use Rattle.runs.specs.Model.Verdicts.{verdict}
 use Rattle.runs.proofs.Plan.{under-node}
-use Rattle.runs.proofs.Execution.{moved-task, moved-under}
+use Rattle.runs.proofs.Execution.{done-moved, running-moved, moved-moves, running-task, moved-under}
 use Rattle.runs.proofs.Verdict.Exact.{verdict-exact}
 use Rattle.runs.proofs.Calls.Accepted.{flat, FirstViolation, accepted-execution, clear-no-first-violation}
 use Rattle.runs.proofs.Calls.Accepted.{clear-or-first-violation}
@@ -55,19 +55,32 @@ module _ (p : Plan) (w : WellFormed p) (F : ℕ → Bool) where
       go : (b : World) → Reached p F b → ¬ Complete p (b .status) 0
       go b x = rw (x .same) (doomed-incomplete p w F d (x .accepted))
 
-  -- what is no task of the plan waits: groups, and numbers past the nodes
-  pub others-wait : (cs : List Call) (x : ℕ) → ¬ Task p x → states p (fresh F) cs .status x ≡ waiting
+  -- what is no task of the plan waits, groups and numbers past the nodes, but for the optional groups that are skipped
+  pub others-wait : (cs : List Call) (x : ℕ) → ¬ Task p x → WaitsOrSkipped p x (states p (fresh F) cs .status)
   others-wait cs x n = go (states p (fresh F) cs) (reaches p w F cs)
     where
-      go : (b : World) → Reached p F b → b .status x ≡ waiting
-      go b g = rw (g .same) (settled (Status-discrete (statusAfter (flat (g .calls)) x) waiting))
+      go : (b : World) → Reached p F b → WaitsOrSkipped p x (b .status)
+      go b g = rw (g .same) (at (statusAfter h x) refl)
         where
-          settled : Dec (statusAfter (flat (g .calls)) x ≡ waiting) → statusAfter (flat (g .calls)) x ≡ waiting
-          settled (yes q) = q
-          settled (no k) = absurd (n (record {
-            node = under-node p (w .root-node) (moved-under p w (accepted-execution p w F (g .accepted)) x k);
-            is-task = moved-task p w (accepted-execution p w F (g .accepted)) x k;
-          }))
+          h : History
+          h = flat (g .calls)
+
+          f : Execution p 0 h
+          f = accepted-execution p w F (g .accepted)
+
+          is-node : statusAfter h x ≢ waiting → Node p x
+          is-node k = under-node p (w .root-node) (moved-under p w f x k)
+
+          skipped : (kd : Kind) → p .tree .kind x ≡ kd → Moves kd → Node p x → Optional p x
+          skipped task kx m l = absurd (n (record { node = l; is-task = kx }))
+          skipped all-of kx m l = absurd m
+          skipped any-of kx m l = absurd m
+          skipped optional kx m l = record { node = l; is-optional = kx }
+
+          at : (s : Status) → statusAfter h x ≡ s → WaitsOrSkipped p x (statusAfter h)
+          at waiting q = inl q
+          at running q = absurd (n (record { node = is-node (running-moved q); is-task = running-task p w f x q }))
+          at done q = let k = done-moved q in inr (skipped (p .tree .kind x) refl (moved-moves p w f x k) (is-node k), q)
 
   -- a flag past the plan's keeps its start bit
   pub others-keep : (cs : List Call) (f : ℕ) → p .cond .flags ≤ f → states p (fresh F) cs .flag f ≡ F f
@@ -81,6 +94,7 @@ module _ (p : Plan) (w : WellFormed p) (F : ℕ → Bool) where
       silent : (e : Event) → asserts p e f ≡ none
       silent (start t) = off inc t (p .cond .sign inc t f) refl
       silent (finish t) = off post t (p .cond .sign post t f) refl
+      silent (skip g) = refl
 
       never : (h : History) → lastAsserted p h f ≡ none
       never [] = refl
@@ -106,7 +120,7 @@ module _ (p : Plan) (w : WellFormed p) (F : ℕ → Bool) where
   }
     where
       others : {cs : List Call} {ns : List ℕ} {a : World} → Worked p (fresh F) cs ns a → (x : ℕ) → ¬ Task p x
-          → a .status x ≡ waiting
+          → WaitsOrSkipped p x (a .status)
       others {cs} {a = a} y x n = let (e, q) = worked-only p w y in rw q (others-wait cs x n)
 
       beyond : {cs : List Call} {ns : List ℕ} {a : World} → Worked p (fresh F) cs ns a → (f : ℕ) → p .cond .flags ≤ f

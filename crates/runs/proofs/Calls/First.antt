@@ -7,7 +7,7 @@ use Rattle.runs.specs.Tests.{either}
 use Rattle.runs.specs.Plan.{Plan, WellFormed}
 use Rattle.runs.specs.Calls.{Call, events, World, happenAll, Refusal, no-task, wrong-status, branch-begun}
 use Rattle.runs.specs.Calls.{order-open, pre-unmet, inc-broken}
-use Rattle.runs.specs.Calls.{number, Applies, checks, First, None, Answered, accepted, refused, Worked, no-calls}
+use Rattle.runs.specs.Calls.{no-optional, number, Applies, checks, First, None, Answered, accepted, refused, Worked, no-calls}
 use Rattle.runs.specs.Calls.{next-call, Refusal-discrete}
 use Rattle.runs.specs.Model.Monitor.{appliesB, orElse, firstOf, code, settle, refusalOf, returned, step, returns}
 use Rattle.runs.specs.Model.Monitor.{states}
@@ -90,7 +90,7 @@ first-member A r (q ∷ l) x = (r-either _ _ (r-decide (Refusal-discrete q r)) (
 ofNumber : ℕ → Option Refusal
 unfolding firstOf
 ofNumber n = firstOf (λ r. eqb (number r) n)
-    (no-task ∷ wrong-status ∷ branch-begun ∷ order-open ∷ pre-unmet ∷ inc-broken ∷ [])
+    (no-task ∷ wrong-status ∷ branch-begun ∷ order-open ∷ pre-unmet ∷ inc-broken ∷ no-optional ∷ [])
 
 number-tells : (o : Option Refusal) → ofNumber (code o) ≡ o
 unfolding ofNumber
@@ -101,6 +101,7 @@ number-tells (some branch-begun) = refl
 number-tells (some order-open) = refl
 number-tells (some pre-unmet) = refl
 number-tells (some inc-broken) = refl
+number-tells (some no-optional) = refl
 
 pub code-inj : {o x : Option Refusal} → code o ≡ code x → o ≡ x
 code-inj {o} {x} q = sym (number-tells o) ∙ ap ofNumber q ∙ number-tells x

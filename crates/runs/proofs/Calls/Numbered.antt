@@ -1,6 +1,6 @@
 -- The ordinals of starts: after any list of calls, a task's ordinal is the position of its start among the accepted
 -- starts of the list.
-use Rattle.runs.proofs.Base.{_≡_, refl, sym, ap, _∙_, _≢_, _↔_, Bool, false, none, some, List, [], _∷_, _++_, append-nil}
+use Rattle.runs.proofs.Base.{_≡_, refl, sym, ap, _∙_, _≢_, _⊎_, inl, inr, _↔_, Bool, false, none, some, List, [], _∷_, _++_, append-nil}
 use Rattle.runs.proofs.Base.{append-assoc, ℕ, suc, _<_, arith, ℕ-discrete, eqb, getD, length}
 use mathlib.Core.Logic.{by-cases}
 use native.Mathlib.Decide.{decLt}
@@ -8,8 +8,8 @@ use lib.ListN.{length-append, List·getD-append}
 use lib.Seq.{getD-append-seam}
 use borrow.Author.Tests.{eq-eqb, ne-eqb}
 use Rattle.runs.specs.Plan.{Plan}
-use Rattle.runs.specs.Execution.{waiting, running, Status-discrete, start, finish}
-use Rattle.runs.specs.Calls.{Call, one, World, fresh, happen, Refusal, number, accepted, refused, Worked}
+use Rattle.runs.specs.Execution.{Status, waiting, running, Status-discrete, start, finish, skip}
+use Rattle.runs.specs.Calls.{Call, one, World, fresh, happen, Refusal, number, Task, accepted, refused, Worked}
 use Rattle.runs.specs.Calls.{no-calls, next-call, acceptedStarts}
 use Rattle.runs.specs.Demand3.{Numbered}
 use Rattle.runs.proofs.Reflect.{clash}
@@ -40,21 +40,29 @@ module _ (l : List ℕ) (t : ℕ) where
       → (k < length (l ++ (t ∷ []))) × (getD (l ++ (t ∷ [])) k 0 ≡ x)
   still-there x k (m, e) = (omega (arith, one-longer), List·getD-append l (t ∷ []) 0 k m ∙ e)
 
-module _ (p : Plan) (l : List ℕ) (a : World) (h : Numbered l a) (t : ℕ) where
+module _ (p : Plan) (l : List ℕ) (a : World) (h : Numbered p l a) (t : ℕ) where
+  -- a task that does not wait has an ordinal
+  begun-numbered : {s : Status} → ¬ ¬ Task p t → s ≢ waiting → ¬ ((s ≡ waiting) ⊎ (¬ Task p t))
+  begun-numbered k n (inl e) = n e
+  begun-numbered k n (inr m) = k m
+
   -- a start takes the next position
-  start-numbered : a .status t ≡ waiting → Numbered (l ++ (t ∷ [])) (happen p a (start t))
-  start-numbered s = record {
+  start-numbered : ¬ ¬ Task p t → a .status t ≡ waiting → Numbered p (l ++ (t ∷ [])) (happen p a (start t))
+  start-numbered y s = record {
     counts = ap suc (h .counts) ∙ sym (one-longer l t);
     position = λ x k. by-cases (ℕ-discrete x t) (λ (e : x ≡ t). rw (e, eq-eqb t t refl) (own k))
         (λ n. rw (ne-eqb x t n) (other x k n));
     unstarted = λ x. by-cases (ℕ-discrete x t)
-        (λ (e : x ≡ t). rw (eq-eqb x t e) (λ z. absurd (omega arith), λ z. clash cc))
+        (λ (e : x ≡ t). rw (eq-eqb x t e, e) (
+          λ z. absurd (omega arith),
+          λ z. absurd (begun-numbered y (λ q. clash cc) z),
+        ))
         (λ n. rw (ne-eqb x t n) (h .unstarted x));
   }
     where
       -- t was not in the list
       new : (k : ℕ) → k < length l → getD l k 0 ≡ t → ⊥
-      new k m e = omega (arith, h .unstarted t .1 s, h .position t k .1 (m, e))
+      new k m e = omega (arith, h .unstarted t .1 (inl s), h .position t k .1 (m, e))
 
       own : (k : ℕ) → (suc (a .starts) ≡ suc k) ↔ ((k < length (l ++ (t ∷ []))) × (getD (l ++ (t ∷ [])) k 0 ≡ t))
       own k = (
@@ -73,15 +81,25 @@ module _ (p : Plan) (l : List ℕ) (a : World) (h : Numbered l a) (t : ℕ) wher
       )
 
   -- a finish takes none
-  finish-numbered : a .status t ≡ running → Numbered l (happen p a (finish t))
-  finish-numbered s = record {
+  finish-numbered : ¬ ¬ Task p t → a .status t ≡ running → Numbered p l (happen p a (finish t))
+  finish-numbered y s = record {
     counts = h .counts;
     position = h .position;
     unstarted = λ x. by-cases (ℕ-discrete x t)
-        (λ (e : x ≡ t). rw (eq-eqb x t e) (
-          λ z. let q = sym s ∙ h .unstarted t .0 (rw e at z) in clash cc,
-          λ z. clash cc,
+        (λ (e : x ≡ t). rw (eq-eqb x t e, e) (
+          λ z. absurd (begun-numbered y (λ q. clash cc) (h .unstarted t .0 z)),
+          λ z. absurd (begun-numbered y (λ q. clash cc) z),
         ))
+        (λ n. rw (ne-eqb x t n) (h .unstarted x));
+  }
+
+  -- nor does a skip: an optional group is no task
+  skip-numbered : ¬ Task p t → Numbered p l (happen p a (skip t))
+  skip-numbered y = record {
+    counts = h .counts;
+    position = h .position;
+    unstarted = λ x. by-cases (ℕ-discrete x t)
+        (λ (e : x ≡ t). rw (eq-eqb x t e, e) (λ z. inr y, λ z. h .unstarted t .1 (inr y)))
         (λ n. rw (ne-eqb x t n) (h .unstarted x));
   }
 
@@ -91,21 +109,23 @@ number-some r = ne-eqb (number r) 0 (λ q. let e = code-inj {o = some r} {x = no
 
 module _ (p : Plan) where
   -- calls after starts in the order of l
-  pub worked-numbered : {a z : World} {cs : List Call} {ns : List ℕ} (l : List ℕ) → Worked p a cs ns z → Numbered l a
-      → Numbered (l ++ acceptedStarts cs ns) z
+  pub worked-numbered : {a z : World} {cs : List Call} {ns : List ℕ} (l : List ℕ) → Worked p a cs ns z → Numbered p l a
+      → Numbered p (l ++ acceptedStarts cs ns) z
   unfolding acceptedStarts
   worked-numbered l no-calls h = rw (append-nil l) h
   worked-numbered l (next-call {a = a} {c = one (start t)} {cs = cs} {ns = ns} (accepted k) w) h =
       rw (← append-assoc l (t ∷ []) (acceptedStarts cs ns))
-      (worked-numbered (l ++ (t ∷ [])) w (start-numbered p l a h t (found (Status-discrete _ _) (k .1 .0))))
+      (worked-numbered (l ++ (t ∷ [])) w (start-numbered p l a h t (k .0) (found (Status-discrete _ _) (k .1 .0))))
   worked-numbered l (next-call {a = a} {c = one (finish t)} (accepted k) w) h =
-      worked-numbered l w (finish-numbered p l a h t (found (Status-discrete _ _) (k .1 .0)))
+      worked-numbered l w (finish-numbered p l a h t (k .0) (found (Status-discrete _ _) (k .1 .0)))
+  worked-numbered l (next-call {a = a} {c = one (skip g)} (accepted k) w) h =
+      worked-numbered l w (skip-numbered p l a h g (λ y. k .0 (λ o. let q = sym (y .is-task) ∙ o .is-optional in clash cc)))
   worked-numbered l (next-call (refused r k) w) h = rw (number-some r) (worked-numbered l w h)
 
   -- and after no start
-  pub fresh-numbered : (F : ℕ → Bool) → Numbered [] (fresh F)
+  pub fresh-numbered : (F : ℕ → Bool) → Numbered p [] (fresh F)
   fresh-numbered F = record {
     counts = refl;
     position = λ x k. (λ e. absurd (omega arith), λ w. absurd (omega (arith, w .0)));
-    unstarted = λ x. (λ e. refl, λ e. refl);
+    unstarted = λ x. (λ e. inl refl, λ e. refl);
   }

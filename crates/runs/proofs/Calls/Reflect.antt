@@ -1,28 +1,29 @@
--- The tests for the refusals reflect the rows of 01's table, on any states.
-use Rattle.runs.proofs.Base.{_≡_, refl, sym, ap, _∙_, _≢_, Bool, true, false, not, Option, none, some, ℕ, zero}
-use Rattle.runs.proofs.Base.{suc, _+_, _<_, _≤_, arith, T}
-use Rattle.runs.specs.Plan.{Picks, inc, Plan, Node, Child, Under, WellFormed}
-use Rattle.runs.specs.Execution.{Status, waiting, running, State, Event, nodeOf, task-done, all-done, any-done}
-use Rattle.runs.specs.Execution.{Complete, Begun, Rival}
-use Rattle.runs.specs.Execution.{by-branch, preOf, asserts}
+-- The tests for the refusals reflect the rows of 01's and 02's table, on any states.
+use Rattle.runs.proofs.Base.{_≡_, refl, sym, ap, _∙_, _≢_, _⊎_, inl, inr, Bool, true, false, not, Option, none, some, ℕ, zero}
+use Rattle.runs.proofs.Base.{suc, _+_, _<_, _≤_}
+use Rattle.runs.proofs.Base.{arith, T}
+use Rattle.runs.specs.Plan.{any-of, optional, Picks, Moves, inc, Plan, Node, Child, Under, WellFormed}
+use Rattle.runs.specs.Execution.{Status, waiting, running, done, State, Event, start, finish, skip, nodeOf}
+use Rattle.runs.specs.Execution.{task-done, all-done, any-done, skip-done}
+use Rattle.runs.specs.Execution.{Complete, Begun, Rival, by-branch, by-skip, preOf, asserts}
 use Rattle.runs.specs.Calls.{Call, one, World, Refusal, no-task, wrong-status, branch-begun, order-open}
-use Rattle.runs.specs.Calls.{pre-unmet, inc-broken, Task}
-use Rattle.runs.specs.Calls.{BranchBegun, OrderOpen, PreUnmet, IncBroken, Applies}
-use Rattle.runs.specs.Model.Monitor.{statusB, oppositeB, taskB, completeIn, completeB, begunB, rivalB}
-use Rattle.runs.specs.Model.Monitor.{branchBegunB, orderOpenB, preUnmetB}
-use Rattle.runs.specs.Model.Monitor.{incBrokenB, appliesB}
-use Rattle.runs.proofs.Reflect.{clash, Reflects, r-map, r-both, r-guarded, r-negate, r-any, r-T, r-decide, r-eq}
+use Rattle.runs.specs.Calls.{pre-unmet, inc-broken, no-optional}
+use Rattle.runs.specs.Calls.{Task, Optional, WrongStatus, BranchBegun, OrderOpen, PreUnmet, IncBroken, Applies}
+use Rattle.runs.specs.Model.Monitor.{statusB, oppositeB, taskB, optionalB, completeIn, completeB, begunB, rivalB}
+use Rattle.runs.specs.Model.Monitor.{wrongStatusB, branchBegunB, orderOpenB}
+use Rattle.runs.specs.Model.Monitor.{preUnmetB, incBrokenB, appliesB}
+use Rattle.runs.proofs.Reflect.{clash, Reflects, r-map, r-both, r-either, r-guarded, r-negate, r-any, r-T, r-decide, r-eq}
 use Rattle.runs.proofs.Reflect.{r-some}
-use Rattle.runs.proofs.Plan.{child-lt, r-kind, r-picks, r-by-kind, r-some-child, r-every-child, r-some-task}
+use Rattle.runs.proofs.Plan.{child-lt, r-kind, r-picks, r-moves, r-by-kind, r-some-child, r-every-child, r-some-under}
 use Rattle.runs.proofs.Plan.{r-under}
-use Rattle.runs.proofs.Execution.{picks-any, complete-task, complete-all, PickDone, branch-done, complete-pick}
+use Rattle.runs.proofs.Execution.{picks-any, picks-optional, complete-task, complete-all, PickDone, branch-done, group-skipped, complete-pick}
 use Rattle.runs.proofs.Summary.{pre-flag}
 
 pub r-status : (s r : Status) → Reflects (statusB s r) (s ≡ r)
 unfolding statusB
 r-status s r = r-decide _
 
-not-not : (v : Bool) → not (not v) ≡ v
+pub not-not : (v : Bool) → not (not v) ≡ v
 not-not true = refl
 not-not false = refl
 
@@ -44,22 +45,40 @@ module _ (p : Plan) (w : WellFormed p) where
   r-task t = r-map (λ x. record { node = x .0; is-task = x .1 }, λ x. (x .node, x .is-task))
       (r-both _ _ (r-T _) (r-kind _ _))
 
+  pub r-optional : (g : ℕ) → Reflects (optionalB p g) (Optional p g)
+  unfolding optionalB
+  r-optional g = r-map (λ x. record { node = x .0; is-optional = x .1 }, λ x. (x .node, x .is-optional)) (r-both _ _ (r-T _) (r-kind _ _))
+
   module _ (s : State) where
     r-complete-in : (k n : ℕ) → Node p n → p .tree .size ≤ n + k → Reflects (completeIn p s k n) (Complete p s n)
     unfolding completeIn
     r-complete-in zero n l b = absurd (omega (arith, w .node-below n l))
-    r-complete-in (suc k) n l b = r-by-kind (p .tree .kind n) _ _ _
+    r-complete-in (suc k) n l b = r-by-kind (p .tree .kind n) _ _ _ _
         (λ kn. r-map (task-done kn, complete-task p kn) (r-status _ _))
         (λ kn. r-map (all-done kn, complete-all p kn)
         (r-every-child p w (Complete p s) _ (λ c hc. r-complete-in k c (hc .node) (omega (arith, child-lt p w hc)))))
         (λ kn. r-map (
           λ x. any-done (x .0) (picks-any kn) (x .1) (x .2),
-          λ d. through (complete-pick p (picks-any kn) d),
+          λ d. through kn (complete-pick p (picks-any kn) d),
         )
         (r-some-child p w (Complete p s) _ (λ c hc. r-complete-in k c (hc .node) (omega (arith, child-lt p w hc)))))
+        (λ kn. r-map (complete-so kn, λ d. way (complete-pick p (picks-optional kn) d)) (r-either _ _
+        (r-some-child p w (Complete p s) _ (λ c hc. r-complete-in k c (hc .node) (omega (arith, child-lt p w hc)))) (r-status _ _)))
       where
-        through : PickDone p s n → (c : ℕ) × Child p n c × Complete p s c
-        through (branch-done c hc x) = (c, hc, x)
+        through : p .tree .kind n ≡ any-of → PickDone p s n → (c : ℕ) × Child p n c × Complete p s c
+        through kn (branch-done c hc x) = (c, hc, x)
+        through kn (group-skipped k x) = clash cc
+
+        Way : Type 0
+        Way = ((c : ℕ) × Child p n c × Complete p s c) ⊎ (s n ≡ done)
+
+        way : PickDone p s n → Way
+        way (branch-done c hc x) = inl (c, hc, x)
+        way (group-skipped k x) = inr x
+
+        complete-so : p .tree .kind n ≡ optional → Way → Complete p s n
+        complete-so kn (inl (c, hc, x)) = any-done c (picks-optional kn) hc x
+        complete-so kn (inr x) = skip-done kn x
 
     pub r-complete : (n : ℕ) → Node p n → Reflects (completeB p s n) (Complete p s n)
     unfolding completeB
@@ -68,18 +87,32 @@ module _ (p : Plan) (w : WellFormed p) where
     pub r-begun : (b : ℕ) → Node p b → Reflects (begunB p s b) (Begun p s b)
     unfolding begunB
     r-begun b l = r-map (
-      λ x. record { who = x .0; beneath = x .1; is-task = x .2; begun = x .3 },
-      λ x. (x .who, x .beneath, x .is-task, x .begun),
-    ) (r-some-task p w (λ t. s t ≢ waiting) _ l (λ t. r-negate _ (r-status _ _)))
+      λ x. record { who = x .0; beneath = x .1; moves = x .2 .0; begun = x .2 .1 },
+      λ x. (x .who, x .beneath, (x .moves, x .begun)),
+    ) (r-some-under p w (λ t. Moves (p .tree .kind t) × (s t ≢ waiting)) _ l (λ t. r-both _ _ (r-moves _) (r-negate _ (r-status _ _))))
 
     r-rival : (g b : ℕ) → Reflects (rivalB p s g b) (Rival p s g b)
     unfolding rivalB
-    r-rival g b = r-map (λ x. by-branch (x .0) (x .1) (x .2 .0) (x .2 .1), from)
-        (r-some-child p w (λ c. (c ≢ b) × Begun p s c) _
-        (λ c hc. r-both _ _ (r-negate _ (r-eq _ _)) (r-begun c (hc .node))))
+    r-rival g b = r-map (to, from) (r-either _ _
+        (r-some-child p w (λ c. (c ≢ b) × Begun p s c) _ (λ c hc. r-both _ _ (r-negate _ (r-eq _ _)) (r-begun c (hc .node))))
+        (r-both _ _ (r-kind _ _) (r-status _ _)))
       where
-        from : Rival p s g b → (c : ℕ) × Child p g c × ((c ≢ b) × Begun p s c)
-        from (by-branch c hc ne t) = (c, hc, (ne, t))
+        Other : Type 0
+        Other = ((c : ℕ) × Child p g c × ((c ≢ b) × Begun p s c)) ⊎ ((p .tree .kind g ≡ optional) × (s g ≡ done))
+
+        to : Other → Rival p s g b
+        to (inl (c, hc, (ne, t))) = by-branch c hc ne t
+        to (inr (k, d)) = by-skip k d
+
+        from : Rival p s g b → Other
+        from (by-branch c hc ne t) = inl (c, hc, (ne, t))
+        from (by-skip k d) = inr (k, d)
+
+    r-wrong-status : (e : Event) → Reflects (wrongStatusB p s e) (WrongStatus p s e)
+    unfolding wrongStatusB
+    r-wrong-status (start t) = r-negate _ (r-status _ _)
+    r-wrong-status (finish t) = r-negate _ (r-status _ _)
+    r-wrong-status (skip g) = r-either _ _ (r-negate _ (r-status _ _)) (r-some-child p w (Begun p s) _ (λ c hc. r-begun c (hc .node)))
 
     r-branch-begun : (t : ℕ) → Reflects (branchBegunB p s t) (BranchBegun p s t)
     unfolding branchBegunB
@@ -151,8 +184,9 @@ module _ (p : Plan) (w : WellFormed p) where
   pub r-applies : (a : World) (c : Call) (r : Refusal) → Reflects (appliesB p a c r) (Applies p a c r)
   unfolding appliesB
   r-applies a (one e) no-task = r-negate _ (r-task (nodeOf e))
-  r-applies a (one e) wrong-status = r-negate _ (r-status _ _)
+  r-applies a (one e) wrong-status = r-wrong-status (a .status) e
   r-applies a (one e) branch-begun = r-branch-begun (a .status) (nodeOf e)
   r-applies a (one e) order-open = r-order-open (a .status) (nodeOf e)
   r-applies a (one e) pre-unmet = r-pre-unmet (a .flag) e
   r-applies a (one e) inc-broken = r-inc-broken (a .status) e
+  r-applies a (one e) no-optional = r-negate _ (r-optional (nodeOf e))

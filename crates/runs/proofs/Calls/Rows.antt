@@ -4,15 +4,15 @@ use Rattle.runs.proofs.Base.{_≡_, refl, sym, _⊎_, inl, inr, _↔_, 
 use Rattle.runs.proofs.Base.{List, [], _∷_, _++_, ℕ, T}
 use Rattle.runs.specs.Tests.{either}
 use Rattle.runs.specs.Plan.{Plan, WellFormed}
-use Rattle.runs.specs.Execution.{waiting, running, Event, start, finish, nodeOf, Ready, Enabled, can-start}
-use Rattle.runs.specs.Execution.{can-finish}
+use Rattle.runs.specs.Execution.{waiting, running, start, finish, skip, Ready, Enabled, can-start}
+use Rattle.runs.specs.Execution.{can-finish, can-skip}
 use Rattle.runs.specs.Calls.{Call, one, World, Refusal, no-task, wrong-status, branch-begun, order-open}
-use Rattle.runs.specs.Calls.{pre-unmet, inc-broken, Task}
-use Rattle.runs.specs.Calls.{BranchBegun, OrderOpen, Applies, checks, First, None}
+use Rattle.runs.specs.Calls.{pre-unmet, inc-broken}
+use Rattle.runs.specs.Calls.{no-optional, WrongStatus, BranchBegun, OrderOpen, Applies, checks, First, None}
 use Rattle.runs.specs.Model.Monitor.{refusalOf}
 use Rattle.runs.proofs.Reflect.{clash, decided}
 use Rattle.runs.proofs.Plan.{under-node, child-parent, under-root}
-use Rattle.runs.proofs.Calls.Reflect.{r-status, r-task, r-complete}
+use Rattle.runs.proofs.Calls.Reflect.{r-status, r-task, r-optional, r-complete}
 use Rattle.runs.proofs.Calls.Accepted.{EnabledCall, ViolatesCall}
 use Rattle.runs.proofs.Calls.First.{memberB, first-member, none-append, first-append, first-not-none}
 use Rattle.runs.proofs.Calls.First.{refused-first, refused-none}
@@ -21,18 +21,24 @@ force : {X : Type 0} → Dec X → ¬ ¬ X → X
 force (yes x) k = x
 force (no n) k = absurd (k n)
 
+no-sign : {v : Bool} → none ≡ some v → ⊥
+no-sign q = clash cc
+
 -- the checks of a call in two parts: those of being enabled, those of a violation
 abbrev enabledChecks : Call → List Refusal
 enabledChecks (one (start t)) = no-task ∷ wrong-status ∷ branch-begun ∷ order-open ∷ []
 enabledChecks (one (finish t)) = no-task ∷ wrong-status ∷ []
+enabledChecks (one (skip g)) = no-optional ∷ wrong-status ∷ branch-begun ∷ order-open ∷ []
 
 abbrev violationChecks : Call → List Refusal
 violationChecks (one (start t)) = pre-unmet ∷ inc-broken ∷ []
 violationChecks (one (finish t)) = inc-broken ∷ []
+violationChecks (one (skip g)) = []
 
 two-parts : (c : Call) → checks c ≡ enabledChecks c ++ violationChecks c
 two-parts (one (start t)) = refl
 two-parts (one (finish t)) = refl
+two-parts (one (skip g)) = refl
 
 abbrev pub Violating : Refusal → Type 0
 Violating r = (r ≡ pre-unmet) ⊎ (r ≡ inc-broken)
@@ -43,6 +49,8 @@ not-enabling (one (start t)) r (inl q) x = rw q at x
 not-enabling (one (start t)) r (inr q) x = rw q at x
 not-enabling (one (finish t)) r (inl q) x = rw q at x
 not-enabling (one (finish t)) r (inr q) x = rw q at x
+not-enabling (one (skip g)) r (inl q) x = rw q at x
+not-enabling (one (skip g)) r (inr q) x = rw q at x
 
 first-violating : (A : Refusal → Type 0) (c : Call) (r : Refusal) → First A r (violationChecks c) → Violating r × A r
 first-violating A (one (start t)) r (inl (q, a)) = (inl (sym q), a)
@@ -50,13 +58,10 @@ first-violating A (one (start t)) r (inr (k, inl (q, a))) = (inr (sym q), a)
 first-violating A (one (start t)) r (inr (k, inr (k′, x))) = absurd x
 first-violating A (one (finish t)) r (inl (q, a)) = (inr (sym q), a)
 first-violating A (one (finish t)) r (inr (k, x)) = absurd x
+first-violating A (one (skip g)) r x = absurd x
 
 module _ (p : Plan) (w : WellFormed p) (a : World) where
-  -- 17 to 20 do not apply to what is enabled, and what they do not apply to is enabled
-  enabled-task : {e : Event} → Enabled p 0 (a .status) e → Task p (nodeOf e)
-  enabled-task (can-start m) = record { node = under-node p (w .root-node) (m .beneath); is-task = m .is-task }
-  enabled-task (can-finish m) = record { node = under-node p (w .root-node) (m .beneath); is-task = m .is-task }
-
+  -- 17 to 20, and 27, do not apply to what is enabled, and what they do not apply to is enabled
   ready-choice : {t : ℕ} → Ready p 0 (a .status) t → ¬ BranchBegun p (a .status) t
   ready-choice m x = m .choice (x .group) (x .own) (x .picks)
       (under-root p w (x .group) (child-parent p w (x .own-child))) (x .own-child) (x .above) (x .rival)
@@ -86,7 +91,7 @@ module _ (p : Plan) (w : WellFormed p) (a : World) where
 
       from : Enabled p 0 (a .status) (start t) → None (Applies p a (one (start t))) (enabledChecks (one (start t)))
       from (can-start m) = (
-        λ k. k (enabled-task (can-start m)),
+        λ k. k (record { node = under-node p (w .root-node) (m .beneath); is-task = m .is-task }),
         (λ k. k (m .waits), (ready-choice (m .ready), (ready-order (m .ready), tt))),
       )
   enabled-is (one (finish t)) = (to, from)
@@ -100,9 +105,29 @@ module _ (p : Plan) (w : WellFormed p) (a : World) where
           }
 
       from : Enabled p 0 (a .status) (finish t) → None (Applies p a (one (finish t))) (enabledChecks (one (finish t)))
-      from (can-finish m) = (λ k. k (enabled-task (can-finish m)), (λ k. k (m .runs), tt))
+      from (can-finish m) = (λ k. k (record { node = under-node p (w .root-node) (m .beneath); is-task = m .is-task }), (λ k. k (m .runs), tt))
+  enabled-is (one (skip g)) = (to, from)
+    where
+      to : None (Applies p a (one (skip g))) (enabledChecks (one (skip g))) → Enabled p 0 (a .status) (skip g)
+      to (k₁, (k₂, (k₃, (k₄, u)))) = let x = force (decided (r-optional p w g)) k₁ in can-skip record {
+        is-optional = x .is-optional;
+        beneath = under-root p w g (x .node);
+        waits = force (decided (r-status (a .status g) waiting)) (λ n. k₂ (inl n));
+        untaken = λ c hc t. k₂ (inr (c, hc, t));
+        ready = is-ready g k₃ k₄;
+      }
 
-  -- 21 and 22, the one or the other; a finish has no precondition
+      from : Enabled p 0 (a .status) (skip g) → None (Applies p a (one (skip g))) (enabledChecks (one (skip g)))
+      from (can-skip m) = (
+        λ k. k (record { node = under-node p (w .root-node) (m .beneath); is-optional = m .is-optional }),
+        (untaken, (ready-choice (m .ready), (ready-order (m .ready), tt))),
+      )
+        where
+          untaken : ¬ WrongStatus p (a .status) (skip g)
+          untaken (inl n) = n (m .waits)
+          untaken (inr (c, hc, t)) = m .untaken c hc t
+
+  -- 21 and 22, the one or the other; a finish has no precondition, a skip asserts nothing either
   violates-not : (c : Call) → None (Applies p a c) (violationChecks c) ↔ (¬ ViolatesCall p a c)
   violates-not (one (start t)) = (to, λ k. (λ x. k (inl x), (λ x. k (inr x), tt)))
     where
@@ -111,12 +136,14 @@ module _ (p : Plan) (w : WellFormed p) (a : World) where
       to (k₁, (k₂, u)) (inr x) = k₂ x
   violates-not (one (finish t)) = (to, λ k. (λ x. k (inr x), tt))
     where
-      no-sign : {v : Bool} → none ≡ some v → ⊥
-      no-sign q = clash cc
-
       to : None (Applies p a (one (finish t))) (violationChecks (one (finish t))) → ¬ ViolatesCall p a (one (finish t))
       to (k, u) (inl x) = no-sign (x .needs)
       to (k, u) (inr x) = k x
+  violates-not (one (skip g)) = (λ u. harmless, λ k. tt)
+    where
+      harmless : ¬ ViolatesCall p a (one (skip g))
+      harmless (inl x) = no-sign (x .needs)
+      harmless (inr x) = no-sign (x .breaks)
 
   violates-of : (c : Call) (r : Refusal) → Violating r → Applies p a c r → ViolatesCall p a c
   violates-of (one e) r (inl q) x = inl (rw q at x)

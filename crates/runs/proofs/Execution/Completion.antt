@@ -1,17 +1,17 @@
 -- Every execution extends to a completed one, so every node has one.
 use Rattle.runs.proofs.Base.{_≡_, refl, _⊎_, inl, inr, [], _∷_, _++_, ℕ}
-use Rattle.runs.specs.Plan.{Kind, task, all-of, any-of, Picks, Plan, itself, Node, Child, WellFormed}
-use Rattle.runs.specs.Execution.{Status, waiting, running, done, start, finish, History, statusAfter, task-done}
-use Rattle.runs.specs.Execution.{all-done, any-done, can-start}
-use Rattle.runs.specs.Execution.{can-finish, Execution, none-yet, one-more, Completed}
+use Rattle.runs.specs.Plan.{Kind, task, all-of, any-of, optional, Picks, Plan, itself, Node, Child, WellFormed}
+use Rattle.runs.specs.Execution.{Status, waiting, running, done, start, finish, skip, History, statusAfter, task-done}
+use Rattle.runs.specs.Execution.{all-done, any-done}
+use Rattle.runs.specs.Execution.{can-start, can-finish, Execution, none-yet, one-more, Completed}
 use Rattle.runs.proofs.Plan.{child-under, from-leaves}
 use Rattle.runs.specs.Classes.{Anything}
 use Rattle.runs.proofs.Execution.Histories.{after-same, all-anything}
 use Rattle.runs.proofs.Execution.Locality.{own-ready}
 use Rattle.runs.proofs.Execution.Parts.{part, part-execution}
-use Rattle.runs.proofs.Execution.AnyOf.{pick-join, OneOf, through, pick-execution}
+use Rattle.runs.proofs.Execution.AnyOf.{pick-join, skip-completed, OneOf, through, skipped, pick-execution}
 use Rattle.runs.proofs.Execution.Stages.{Staged, stage}
-use Rattle.runs.proofs.Execution.Completeness.{picks-any}
+use Rattle.runs.proofs.Execution.Completeness.{picks-any, picks-optional}
 
 module _ (p : Plan) (w : WellFormed p) where
   pub record Extended (n : ℕ) (h : History) : Type 0 where
@@ -63,6 +63,7 @@ module _ (p : Plan) (w : WellFormed p) where
       go : (r : History) → (r ≡ []) ⊎ OneOf p w n r → Extended n r
       go r (inl q) = rw q first
       go r (inr (through c hc fc)) = lift-grown k hc (ih c hc r fc)
+      go r (inr (skipped kn q)) = record { more = []; completed = rw q (skip-completed p w kn) }
 
   -- an all-of group: one stage, of all the children
   grow-all : (n : ℕ) → p .tree .kind n ≡ all-of
@@ -90,6 +91,7 @@ module _ (p : Plan) (w : WellFormed p) where
           go task k = grow-task h k f
           go all-of k = grow-all n k ih h f
           go any-of k = grow-pick h (picks-any k) (first-any l k ih) ih f
+          go optional k = grow-pick h (picks-optional k) (record { more = skip n ∷ []; completed = skip-completed p w k }) ih f
 
   -- so every node has a completed execution
   pub completed-execution : (n : ℕ) → Node p n → (h : History) × Completed p n h

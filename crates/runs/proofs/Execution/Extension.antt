@@ -3,7 +3,7 @@ use Rattle.runs.proofs.Base.{_≡_, sym, ap, _∙_, [], _∷_, _++_, �
 use Rattle.runs.specs.Plan.{all-of, Plan, Child, WellFormed}
 use Rattle.runs.specs.Execution.{waiting, running, done, Event, History, nodeOf, statusAfter, Complete, Enabled}
 use Rattle.runs.specs.Execution.{can-start, can-finish}
-use Rattle.runs.specs.Execution.{Execution, one-more, Completed}
+use Rattle.runs.specs.Execution.{can-skip, Execution, one-more, Completed}
 use Rattle.runs.proofs.Reflect.{clash}
 use Rattle.runs.proofs.Execution.Histories.{after-other, after-cong}
 use Rattle.runs.proofs.Execution.Locality.{Agree, complete-local, enabled-local, enabled-up}
@@ -19,6 +19,7 @@ module _ (p : Plan) (w : WellFormed p) where
       not-done : {e : Event} → Enabled p n (statusAfter h) e → statusAfter h (nodeOf e) ≡ done → ⊥
       not-done (can-start {t = t} s) q = let a : statusAfter h t ≡ waiting = s .waits in clash cc
       not-done (can-finish {t = t} s) q = let a : statusAfter h t ≡ running = s .runs in clash cc
+      not-done (can-skip {g = g} s) q = let a : statusAfter h g ≡ waiting = s .waits in clash cc
 
       go : Dec (x ≡ nodeOf e) → statusAfter (e ∷ h) x ≡ done
       go (yes q) = absurd (not-done m (ap (statusAfter h) (sym q) ∙ d))

@@ -1,10 +1,10 @@
 -- A completed execution cannot be extended; what stands before a child is completed before the child begins.
 use Rattle.runs.proofs.Base.{_≡_, refl, ap, _∙_, _≢_, _⊎_, inl, inr, [], _∷_, ℕ, arith, ℕ-discrete, T}
-use Rattle.runs.specs.Plan.{Kind, task, all-of, any-of, Picks, Plan, itself, Node, Child, Under, Before, direct}
+use Rattle.runs.specs.Plan.{Kind, task, all-of, any-of, optional, Picks, Plan, itself, Node, Child, Under, Before, direct}
 use Rattle.runs.specs.Plan.{chain, WellFormed}
 use Rattle.runs.specs.Execution.{waiting, running, done, Event, History, nodeOf, Begins, statusAfter, Complete}
-use Rattle.runs.specs.Execution.{Begun, Enabled, can-start}
-use Rattle.runs.specs.Execution.{can-finish, Execution, none-yet, one-more, Completed}
+use Rattle.runs.specs.Execution.{Begun, by-skip, Enabled}
+use Rattle.runs.specs.Execution.{can-start, can-finish, can-skip, Execution, none-yet, one-more, Completed}
 use Rattle.runs.proofs.Reflect.{clash}
 use Rattle.runs.proofs.Plan.{child-under, Branch, branch, one-branch, from-leaves, order-child, before-child}
 use Rattle.runs.proofs.Plan.{before-rank}
@@ -12,14 +12,14 @@ use Rattle.runs.proofs.Execution.Histories.{after-nil, after-other}
 use Rattle.runs.proofs.Execution.Locality.{begun-local, enabled-ready, branch-of}
 use Rattle.runs.proofs.Execution.Parts.{part, part-in, part-out, after-part, part-execution, part-complete}
 use Rattle.runs.proofs.Execution.Parts.{execution-tail, execution-last}
-use Rattle.runs.proofs.Execution.AnyOf.{begun-last, other-not-begun, OneOf, through, begins, pick-split}
+use Rattle.runs.proofs.Execution.AnyOf.{begun-last, other-not-begun, nothing-done, no-rival, OneOf, through, skipped, begins, pick-split}
 use Rattle.runs.proofs.Execution.Extension.{done-stays}
-use Rattle.runs.proofs.Execution.Completeness.{complete-all, picks-any, PickDone, branch-done, complete-pick}
-use Rattle.runs.proofs.Execution.Completeness.{complete-task, complete-begun}
-use Rattle.runs.proofs.Execution.Completeness.{complete-mono}
+use Rattle.runs.proofs.Execution.Completeness.{complete-all, picks-any, picks-optional, PickDone, branch-done, group-skipped}
+use Rattle.runs.proofs.Execution.Completeness.{complete-pick}
+use Rattle.runs.proofs.Execution.Completeness.{complete-task, complete-begun, complete-mono}
 
 module _ (p : Plan) (w : WellFormed p) where
-  -- once a task under b has moved, what is ordered before b is complete
+  -- once something under b has moved, what is ordered before b is complete
   order-complete : {n b : ℕ} {h : History} (a : ℕ) → Execution p n h → Child p n b → T (p .order a b) → (x : ℕ)
       → Under p b x
       → statusAfter h x ≢ waiting → Complete p (statusAfter h) a
@@ -71,6 +71,8 @@ module _ (p : Plan) (w : WellFormed p) where
       go (can-finish {t = t} s) q = let x : n ≡ t = under-task k (s .beneath) in
           let y : statusAfter h t ≡ running = s .runs in
           clash cc
+      go (can-skip {g = g} s) q = let x : n ≡ g = under-task k (s .beneath) in let y : statusAfter h g ≡ waiting = s .waits in
+          clash cc
 
   final-all : (n : ℕ) → p .tree .kind n ≡ all-of → ((c : ℕ) → Child p n c → Final c) → Final n
   final-all n k ih e h f d =
@@ -90,6 +92,8 @@ module _ (p : Plan) (w : WellFormed p) where
 
       go : PickDone p (statusAfter h) n → OneOf p w n (e ∷ h) → ⊥
       go (branch-done c hc dc) (through b hb fb) = at b hb fb c hc dc (ℕ-discrete c b)
+      go (group-skipped kn dn) (through b hb fb) = no-rival p w hb (execution-tail p w fb) (by-skip kn dn)
+      go x (skipped kn q) = let z : h ≡ [] = cc in nothing-done p w (rw z at x)
 
   -- a completed execution of a node cannot be extended
   pub final : (n : ℕ) → Node p n → Final n
@@ -102,6 +106,7 @@ module _ (p : Plan) (w : WellFormed p) where
           go task k = final-task n k
           go all-of k = final-all n k ih
           go any-of k = final-pick n (picks-any k) ih
+          go optional k = final-pick n (picks-optional k) ih
 
   -- if something of a history falls under c, c has begun
   pub part-begun : {n c : ℕ} {e : Event} {k : History} (h : History) → Under p n c → Execution p n h

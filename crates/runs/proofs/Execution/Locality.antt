@@ -1,10 +1,10 @@
 -- Locality: what is enabled at a node, and whether it is complete, depends on what is under it alone; and it splits
 -- along the children.
-use Rattle.runs.proofs.Base.{_≡_, sym, _∙_, _↔_, _⊎_, inl, inr, ℕ, arith, T}
-use Rattle.runs.specs.Plan.{task, all-of, Picks, Plan, itself, Child, Under, WellFormed}
-use Rattle.runs.specs.Execution.{State, Event, nodeOf, Begins, task-done, all-done, any-done, Complete, Begun}
-use Rattle.runs.specs.Execution.{Rival, by-branch, Ready, Enabled}
-use Rattle.runs.specs.Execution.{can-start, can-finish}
+use Rattle.runs.proofs.Base.{_≡_, sym, ap, _∙_, _↔_, _⊎_, inl, inr, ℕ, arith, T}
+use Rattle.runs.specs.Plan.{task, all-of, optional, Picks, Moves, Plan, itself, Child, Under, WellFormed}
+use Rattle.runs.specs.Execution.{State, Event, start, finish, skip, nodeOf, Begins, task-done, all-done}
+use Rattle.runs.specs.Execution.{any-done, skip-done, Complete, Begun}
+use Rattle.runs.specs.Execution.{Rival, by-branch, by-skip, Ready, Enabled, can-start, can-finish, can-skip}
 use Rattle.runs.proofs.Reflect.{clash}
 use Rattle.runs.proofs.Plan.{under-trans, child-under, Branch, branch, under-le, child-lt, one-branch}
 
@@ -26,11 +26,12 @@ module _ (p : Plan) where
       all-done k (λ c hc. complete-local s r (agree-child s r (child-under p hc) a) (f c hc))
   complete-local s r {n} a (any-done c k hc d) =
       any-done c k hc (complete-local s r (agree-child s r (child-under p hc) a) d)
+  complete-local s r {n} a (skip-done k d) = skip-done k (sym (a n itself) ∙ d)
 
   pub begun-local : (s r : State) {n : ℕ} → Agree n s r → Begun p s n → Begun p r n
   begun-local s r a t = record {
     who = t .who;
-    is-task = t .is-task;
+    moves = t .moves;
     beneath = t .beneath;
     begun = λ e. t .begun (a (t .who) (t .beneath) ∙ e);
   }
@@ -38,6 +39,7 @@ module _ (p : Plan) where
   rival-local : (s r : State) {n g b : ℕ} → Agree n s r → Under p n g → Rival p s g b → Rival p r g b
   rival-local s r a u (by-branch c hc ne t) =
       by-branch c hc ne (begun-local s r (agree-child s r (under-trans p u (child-under p hc)) a) t)
+  rival-local s r {g = g} a u (by-skip k d) = by-skip k (sym (a g u) ∙ d)
 
   ready-local : (s r : State) {n t : ℕ} → Agree n s r → Ready p n s t → Ready p n r t
   ready-local s r {n} a m = record {
@@ -56,18 +58,34 @@ module _ (p : Plan) where
   }
   enabled-local s r {n} a (can-finish {t = t} m) =
       can-finish record { is-task = m .is-task; beneath = m .beneath; runs = sym (a t (m .beneath)) ∙ m .runs }
+  enabled-local s r {n} a (can-skip {g = g} m) = can-skip record {
+    is-optional = m .is-optional;
+    beneath = m .beneath;
+    waits = sym (a g (m .beneath)) ∙ m .waits;
+    untaken = λ c hc t. m .untaken c hc (begun-local r s (agree-child r s (under-trans p (m .beneath) (child-under p hc)) (agree-sym n s r a)) t);
+    ready = ready-local s r a (m .ready);
+  }
 
   pub enabled-under : {n : ℕ} {s : State} {e : Event} → Enabled p n s e → Under p n (nodeOf e)
   enabled-under (can-start m) = m .beneath
   enabled-under (can-finish m) = m .beneath
+  enabled-under (can-skip m) = m .beneath
 
-  -- the event is a task's
-  abbrev pub OfTask : Event → Type 0
-  OfTask e = p .tree .kind (nodeOf e) ≡ task
+  -- the event's node is of the kind that it asks for
+  abbrev pub OfKind : Event → Type 0
+  OfKind (start t) = p .tree .kind t ≡ task
+  OfKind (finish t) = p .tree .kind t ≡ task
+  OfKind (skip g) = p .tree .kind g ≡ optional
 
-  pub enabled-of-task : {n : ℕ} {s : State} {e : Event} → Enabled p n s e → OfTask e
-  enabled-of-task (can-start m) = m .is-task
-  enabled-of-task (can-finish m) = m .is-task
+  pub enabled-of-kind : {n : ℕ} {s : State} {e : Event} → Enabled p n s e → OfKind e
+  enabled-of-kind (can-start m) = m .is-task
+  enabled-of-kind (can-finish m) = m .is-task
+  enabled-of-kind (can-skip m) = m .is-optional
+
+  pub enabled-moves : {n : ℕ} {s : State} {e : Event} → Enabled p n s e → Moves (p .tree .kind (nodeOf e))
+  enabled-moves (can-start m) = rw (m .is-task) tt
+  enabled-moves (can-finish m) = rw (m .is-task) tt
+  enabled-moves (can-skip m) = rw (m .is-optional) tt
 
   -- what is allowed at n is allowed at each node under n that the task is under
   ready-down : (s : State) {n c t : ℕ} → Under p n c → Ready p n s t → Ready p c s t
@@ -78,11 +96,17 @@ module _ (p : Plan) where
 
   pub enabled-down : (s : State) {n c : ℕ} {e : Event} → Under p n c → Under p c (nodeOf e) → Enabled p n s e
       → Enabled p c s e
-  enabled-down s u v (can-start m) =
-      can-start record { is-task = m .is-task; beneath = v; waits = m .waits; ready = ready-down s u (m .ready) }
+  enabled-down s u v (can-start m) = can-start record { is-task = m .is-task; beneath = v; waits = m .waits; ready = ready-down s u (m .ready) }
   enabled-down s u v (can-finish m) = can-finish record { is-task = m .is-task; beneath = v; runs = m .runs }
+  enabled-down s u v (can-skip m) = can-skip record {
+    is-optional = m .is-optional;
+    beneath = v;
+    waits = m .waits;
+    untaken = m .untaken;
+    ready = ready-down s u (m .ready);
+  }
 
-  -- what n itself asks of a start under its child c, beside what c asks
+  -- what n itself asks of a start or a skip under its child c, beside what c asks
   pub record Admits (n c : ℕ) (s : State) : Type 0 where
     pub choice : Picks (p .tree .kind n) → ¬ Rival p s n c
     pub ordered : (a : ℕ) → Child p n a → T (p .order a c) → Complete p s a
@@ -97,6 +121,7 @@ module _ (p : Plan) where
   pub enabled-ready : {n : ℕ} {s : State} {e : Event} → Begins e → Enabled p n s e → Ready p n s (nodeOf e)
   enabled-ready b (can-start m) = m .ready
   enabled-ready b (can-finish m) = absurd b
+  enabled-ready b (can-skip m) = m .ready
 
   pub admits-of : (s : State) {n c : ℕ} {e : Event} → Child p n c → Under p c (nodeOf e) → Enabled p n s e
       → AdmitsEvent n c s e
@@ -138,12 +163,14 @@ module _ (p : Plan) where
       waits = m .waits;
       ready = ready-up s hc (m .beneath) (m .ready) (q tt);
     }
-    enabled-up s hc (can-finish m) q =
-        can-finish record {
-          is-task = m .is-task;
-          beneath = under-trans p (child-under p hc) (m .beneath);
-          runs = m .runs;
-        }
+    enabled-up s hc (can-finish m) q = can-finish record { is-task = m .is-task; beneath = under-trans p (child-under p hc) (m .beneath); runs = m .runs }
+    enabled-up s hc (can-skip m) q = can-skip record {
+      is-optional = m .is-optional;
+      beneath = under-trans p (child-under p hc) (m .beneath);
+      waits = m .waits;
+      untaken = m .untaken;
+      ready = ready-up s hc (m .beneath) (m .ready) (q tt);
+    }
 
     -- decomposition: an event under the child c is enabled at n exactly if it is enabled at c and n lets it begin
     pub enabled-at-child : (s : State) {n c : ℕ} {e : Event} → Child p n c → Under p c (nodeOf e)
@@ -163,17 +190,21 @@ module _ (p : Plan) where
         no-group-above : {A : Type 0} {n g b : ℕ} → Under p n g → Child p g b → Under p b n → A
         no-group-above u hb v = absurd (omega (arith, under-le p w u, child-lt p w hb, under-le p w v))
 
-    -- no event is an all-of group's, none a choice's
-    pub all-of-rests : {n : ℕ} (e : Event) → p .tree .kind n ≡ all-of → OfTask e → n ≡ nodeOf e → ⊥
-    all-of-rests e k f q = clash cc
+    -- no event is an all-of group's; a choice's own event is the skip of an optional group
+    pub all-of-rests : {n : ℕ} (e : Event) → p .tree .kind n ≡ all-of → OfKind e → n ≡ nodeOf e → ⊥
+    all-of-rests (start t) k f q = clash cc
+    all-of-rests (finish t) k f q = clash cc
+    all-of-rests (skip g) k f q = clash cc
 
-    pub choice-rests : {n : ℕ} (e : Event) → Picks (p .tree .kind n) → OfTask e → n ≡ nodeOf e → ⊥
-    choice-rests e k f q = rw (q, f) at k
+    pub choice-event : {n : ℕ} (e : Event) → Picks (p .tree .kind n) → OfKind e → n ≡ nodeOf e → (p .tree .kind n ≡ optional) × (e ≡ skip n)
+    choice-event (start t) k f q = absurd (rw (q, f) at k)
+    choice-event (finish t) k f q = absurd (rw (q, f) at k)
+    choice-event (skip g) k f q = (ap (p .tree .kind) q ∙ f, ap skip (sym q))
 
     -- the child of an all-of group that an allowed event falls under
     pub branch-of : (s : State) {n : ℕ} {e : Event} → p .tree .kind n ≡ all-of → Enabled p n s e → Branch p n (nodeOf e)
     branch-of s {n} {e} k m = go (branch p (enabled-under m))
       where
         go : (n ≡ nodeOf e) ⊎ Branch p n (nodeOf e) → Branch p n (nodeOf e)
-        go (inl q) = absurd (all-of-rests e k (enabled-of-task m) q)
+        go (inl q) = absurd (all-of-rests e k (enabled-of-kind m) q)
         go (inr b) = b

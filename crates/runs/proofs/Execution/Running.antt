@@ -1,13 +1,14 @@
--- What has moved is a task under the node; nothing runs under a complete node; what runs has started.
-use Rattle.runs.proofs.Base.{_≡_, ap, sym, _∙_, _≢_, [], _∷_, ℕ, ℕ-discrete}
-use Rattle.runs.specs.Plan.{task, Plan, Node, Under, WellFormed}
-use Rattle.runs.specs.Execution.{Status, waiting, running, done, Event, start, finish, History, nodeOf}
+-- What has moved is a task or an optional group under the node; nothing runs under a complete node; what runs has started.
+use Rattle.runs.proofs.Base.{_≡_, sym, _∙_, _≢_, [], _∷_, ℕ, ℕ-discrete}
+use Rattle.runs.specs.Plan.{task, Moves, Plan, Node, Under, WellFormed}
+use Rattle.runs.specs.Execution.{Status, waiting, running, done, Event, start, finish, skip, History, nodeOf}
 use Rattle.runs.specs.Execution.{statusAfter, Complete, can-finish}
 use Rattle.runs.specs.Execution.{Execution, none-yet, one-more, Earlier, none-later, one-later}
 use Rattle.runs.proofs.Reflect.{clash}
 use Rattle.runs.proofs.Plan.{decUnder}
 use Rattle.runs.proofs.Execution.Histories.{after-nil, after-same, after-other}
-use Rattle.runs.proofs.Execution.Locality.{enabled-of-task}
+use Rattle.runs.proofs.Execution.Locality.{enabled-of-kind, enabled-moves}
+use Rattle.runs.proofs.Execution.Parts.{execution-last, earlier-execution}
 use Rattle.runs.proofs.Execution.AnyOf.{execution-outside}
 use Rattle.runs.proofs.Execution.Final.{final}
 
@@ -23,24 +24,27 @@ running-started (e ∷ h) t q = go e (ℕ-discrete t (nodeOf e)) q (λ y. runnin
     go (start x) (yes k) q ih = (h, rw k none-later)
     go (finish x) (yes k) q ih = let y : statusAfter (finish x ∷ h) x ≡ done = after-same (finish x) h in
         let u : statusAfter (finish x ∷ h) x ≡ running = rw k at q in clash cc
+    go (skip x) (yes k) q ih = let y : statusAfter (skip x ∷ h) x ≡ done = after-same (skip x) h in
+        let u : statusAfter (skip x ∷ h) x ≡ running = rw k at q in clash cc
 
 pub running-moved : {s : Status} → s ≡ running → s ≢ waiting
 running-moved q z = clash cc
 
 module _ (p : Plan) (w : WellFormed p) where
-  -- what has moved is a task
-  pub moved-task : {n : ℕ} {h : History} → Execution p n h → (x : ℕ) → statusAfter h x ≢ waiting
-      → p .tree .kind x ≡ task
-  moved-task none-yet x ne = absurd (ne (after-nil x))
-  moved-task (one-more {e = e} {h = h} f m) x ne = go (ℕ-discrete x (nodeOf e)) (λ z. moved-task f x z)
+  -- what has moved is a task or an optional group
+  pub moved-moves : {n : ℕ} {h : History} → Execution p n h → (x : ℕ) → statusAfter h x ≢ waiting
+      → Moves (p .tree .kind x)
+  moved-moves none-yet x ne = absurd (ne (after-nil x))
+  moved-moves (one-more {e = e} {h = h} f m) x ne = go (ℕ-discrete x (nodeOf e)) (λ z. moved-moves f x z)
     where
-      go : Dec (x ≡ nodeOf e) → (statusAfter h x ≢ waiting → p .tree .kind x ≡ task) → p .tree .kind x ≡ task
-      go (yes q) ih = ap (p .tree .kind) q ∙ enabled-of-task p m
+      go : Dec (x ≡ nodeOf e) → (statusAfter h x ≢ waiting → Moves (p .tree .kind x)) → Moves (p .tree .kind x)
+      go (yes q) ih = rw q (enabled-moves p m)
       go (no k) ih = ih (λ z. ne (after-other e h x k ∙ z))
 
+  -- what runs is a task
   pub running-task : {n : ℕ} {h : History} → Execution p n h → (x : ℕ) → statusAfter h x ≡ running
       → p .tree .kind x ≡ task
-  running-task f x r = moved-task f x (running-moved r)
+  running-task {h = h} f x r = let (k, q) = running-started h x r in enabled-of-kind p (execution-last p w (earlier-execution p w q f))
 
   -- and it is under the node
   pub moved-under : {n : ℕ} {h : History} → Execution p n h → (x : ℕ) → statusAfter h x ≢ waiting → Under p n x

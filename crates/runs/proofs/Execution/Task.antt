@@ -1,9 +1,9 @@
 -- The executions of a task: nothing, its start, its start and its finish.
 use Rattle.runs.proofs.Base.{_≡_, refl, [], _∷_, ℕ}
-use Rattle.runs.specs.Plan.{task, Plan, WellFormed}
+use Rattle.runs.specs.Plan.{task, optional, Plan, WellFormed}
 use Rattle.runs.specs.Execution.{waiting, running, done, Event, start, finish, History, statusAfter, Enabled}
-use Rattle.runs.specs.Execution.{can-start, can-finish, Execution}
-use Rattle.runs.specs.Execution.{none-yet, one-more, Completed}
+use Rattle.runs.specs.Execution.{can-start, can-finish, can-skip}
+use Rattle.runs.specs.Execution.{Execution, none-yet, one-more, Completed}
 use Rattle.runs.proofs.Reflect.{clash}
 use Rattle.runs.proofs.Execution.Histories.{after-nil, after-same}
 use Rattle.runs.proofs.Execution.Completion.{task-start, task-finish}
@@ -19,6 +19,7 @@ pub data TaskExecution (n : ℕ) : History → Type 0 where
 module _ (p : Plan) (w : WellFormed p) where
   task-next : {n : ℕ} {e : Event} {h : History} → p .tree .kind n ≡ task → TaskExecution n h
       → Enabled p n (statusAfter h) e → TaskExecution n (e ∷ h)
+  task-next {n} k x (can-skip {g = g} s) = let y : n ≡ g = under-task p w k (s .beneath) in let z : p .tree .kind g ≡ optional = s .is-optional in clash cc
   task-next {n} k idle (can-start {t = t} s) = rw (← (under-task p w k (s .beneath))) begun
   task-next {n} k idle (can-finish {t = t} s) = let y : statusAfter [] t ≡ running = s .runs in
       let z : statusAfter [] t ≡ waiting = after-nil t in

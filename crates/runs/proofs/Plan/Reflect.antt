@@ -1,12 +1,12 @@
 -- The tests of tree and orders reflect them, so all of it can be decided.
 use Rattle.runs.proofs.Base.{_≡_, refl, _⊎_, inl, inr, Bool, ℕ, zero, suc, _+_, _<_, _≤_, arith, T, ℕ-discrete}
-use Rattle.runs.specs.Plan.{Kind, task, all-of, any-of, Picks, Plan, itself, below, Node, Child, Under, Before}
-use Rattle.runs.specs.Plan.{direct, chain, Unordered}
-use Rattle.runs.specs.Plan.{WellFormed}
-use Rattle.runs.specs.Model.Trees.{kindB, picksB, byKind, childB, someChildB, everyChildB, underIn, underB}
-use Rattle.runs.specs.Model.Trees.{someTaskB, beforeIn, beforeB}
-use Rattle.runs.specs.Model.Trees.{unorderedB}
-use Rattle.runs.proofs.Reflect.{clash, Reflects, r-map, decided, reflection, r-guarded, r-both, r-either}
+use Rattle.runs.specs.Plan.{Kind, task, all-of, any-of, optional, Picks, Moves, Plan, itself, below, Node, Child, Under, Before}
+use Rattle.runs.specs.Plan.{direct, chain}
+use Rattle.runs.specs.Plan.{Unordered, WellFormed}
+use Rattle.runs.specs.Model.Trees.{kindB, picksB, movesB, byKind, childB, someChildB, everyChildB, underIn, underB}
+use Rattle.runs.specs.Model.Trees.{someUnderB, someTaskB, beforeIn}
+use Rattle.runs.specs.Model.Trees.{beforeB, unorderedB}
+use Rattle.runs.proofs.Reflect.{Reflects, r-map, decided, reflection, r-guarded, r-both, r-either}
 use Rattle.runs.proofs.Reflect.{r-implies, r-negate, r-any, r-all}
 use Rattle.runs.proofs.Reflect.{r-T, r-eq, r-lt, r-decide}
 use Rattle.runs.proofs.Plan.Trees.{under-node}
@@ -25,26 +25,27 @@ r-kind k j = r-decide _
 
 pub r-picks : (k : Kind) → Reflects (picksB k) (Picks k)
 unfolding picksB
-r-picks k = r-map (at k, back k) (r-kind k any-of)
-  where
-    at : (k : Kind) → k ≡ any-of → Picks k
-    at task q = clash cc
-    at all-of q = clash cc
-    at any-of q = tt
+r-picks task = r-T _
+r-picks all-of = r-T _
+r-picks any-of = r-T _
+r-picks optional = r-T _
 
-    back : (k : Kind) → Picks k → k ≡ any-of
-    back task x = absurd x
-    back all-of x = absurd x
-    back any-of x = refl
+pub r-moves : (k : Kind) → Reflects (movesB k) (Moves k)
+unfolding movesB
+r-moves task = r-T _
+r-moves all-of = r-T _
+r-moves any-of = r-T _
+r-moves optional = r-T _
 
 -- a test with a case for each kind
-pub r-by-kind : {A : Type 0} (k : Kind) (x y z : Unit {0} → Bool) → (k ≡ task → Reflects (x tt) A)
+pub r-by-kind : {A : Type 0} (k : Kind) (x y z o : Unit {0} → Bool) → (k ≡ task → Reflects (x tt) A)
     → (k ≡ all-of → Reflects (y tt) A)
-    → (k ≡ any-of → Reflects (z tt) A) → Reflects (byKind k x y z) A
+    → (k ≡ any-of → Reflects (z tt) A) → (k ≡ optional → Reflects (o tt) A) → Reflects (byKind k x y z o) A
 unfolding byKind
-r-by-kind task x y z rx ry rz = rx refl
-r-by-kind all-of x y z rx ry rz = ry refl
-r-by-kind any-of x y z rx ry rz = rz refl
+r-by-kind task x y z o rx ry rz ro = rx refl
+r-by-kind all-of x y z o rx ry rz ro = ry refl
+r-by-kind any-of x y z o rx ry rz ro = rz refl
+r-by-kind optional x y z o rx ry rz ro = ro refl
 
 module _ (p : Plan) where
   pub r-child : (g c : ℕ) → Reflects (childB p g c) (Child p g c)
@@ -103,16 +104,21 @@ module _ (p : Plan) where
     pub decUnder : (a n : ℕ) → Dec (Under p a n)
     decUnder a n = decided (r-under a n)
 
-    -- some task under c
+    -- some node under c; some task
+    pub r-some-under : {c : ℕ} (P : ℕ → Type 0) (q : ℕ → Bool) → Node p c → ((t : ℕ) → Reflects (q t) (P t))
+        → Reflects (someUnderB p c q) ((t : ℕ) × Under p c t × P t)
+    unfolding someUnderB
+    r-some-under {c} P q l r = r-map (
+      λ x. (x .0, x .2 .0, x .2 .1),
+      λ x. (x .0, w .node-below (x .0) (under-node p l (x .1)), (x .1, x .2)),
+    )
+        (r-any (λ t. Under p c t × P t) _ _ (λ t. r-both _ _ (r-under c t) (r t)))
+
     pub r-some-task : {c : ℕ} (P : ℕ → Type 0) (q : ℕ → Bool) → Node p c → ((t : ℕ) → Reflects (q t) (P t))
         → Reflects (someTaskB p c q) ((t : ℕ) × Under p c t × (p .tree .kind t ≡ task) × P t)
     unfolding someTaskB
-    r-some-task {c} P q l r = r-map (
-      λ x. (x .0, x .2 .0, x .2 .1 .0, x .2 .1 .1),
-      λ x. (x .0, w .node-below (x .0) (under-node p l (x .1)), (x .1, (x .2, x .3))),
-    )
-        (r-any (λ t. Under p c t × ((p .tree .kind t ≡ task) × P t)) _ _
-        (λ t. r-both _ _ (r-under c t) (r-both _ _ (r-kind _ _) (r t))))
+    r-some-task P q l r = r-map (λ x. (x .0, x .1, x .2 .0, x .2 .1), λ x. (x .0, x .1, (x .2, x .3)))
+        (r-some-under (λ t. (p .tree .kind t ≡ task) × P t) _ l (λ t. r-both _ _ (r-kind _ _) (r t)))
 
     -- chains of orders
     abbrev Along : ℕ → ℕ → Type 0

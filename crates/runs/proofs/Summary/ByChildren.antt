@@ -1,21 +1,21 @@
 -- The rules by children for the marks of the conditions, each exact: at a task its conditions, at an all-of group a
--- rule for each mark. (At a choice the rule is the same for all of them: MayMust. Clobber and ReflectClobber have marks
--- 6 and 7.)
+-- rule for each mark. (At a choice the rule is the same for all of them: MayMust; at an optional group the skip alone
+-- has none of the conditions. Clobber and ReflectClobber have marks 6 and 7.)
 use Rattle.runs.proofs.Base.{_≡_, refl, _∙_, _⊎_, inl, inr, _↔_, Iff·trans, Bool, Option, none, some, [], _∷_, ℕ}
 use Rattle.runs.specs.Tests.{negate}
 use Rattle.runs.specs.Plan.{all-of, pre, inc, post, Plan, Node, Child, Before, WellFormed}
-use Rattle.runs.specs.Execution.{Event, start, finish, History, lastAssertedOf, lastAsserted, Earlier, none-later}
+use Rattle.runs.specs.Execution.{Event, start, finish, skip, History, lastAssertedOf, lastAsserted, Earlier, none-later}
 use Rattle.runs.specs.Execution.{one-later}
 use Rattle.runs.specs.Summary.{May, Must, ExternalPre, ExternalPost, Incondition}
 use Rattle.runs.specs.Model.Marks.{quietB, beginsIncB}
 use Rattle.runs.proofs.Reflect.{clash, Reflects, decided, r-negate}
 use Rattle.runs.proofs.Plan.{before-child, r-some-child}
-use Rattle.runs.specs.Classes.{Anything, Unasserted, Asserts, PreOn, BeginsInc, MayQuiet}
+use Rattle.runs.specs.Classes.{Anything, Unasserted, Asserts, PreOn, BeginsInc, Neutral, Covers, MayQuiet}
 use Rattle.runs.proofs.Execution.{earlier-inv, earlier-nil}
 use Rattle.runs.proofs.Summary.Events.{r-begins-inc}
 use Rattle.runs.proofs.Summary.Inconditions.{incondition-begun, begun-incondition, may-inc-is-meet, must-inc-is}
 use Rattle.runs.proofs.Summary.Last.{last-all}
-use Rattle.runs.proofs.Summary.MayMust.{whole}
+use Rattle.runs.proofs.Summary.MayMust.{whole, skipOnly}
 use Rattle.runs.proofs.Summary.Meet.{meet-all}
 use Rattle.runs.proofs.Summary.Postconditions.{avoid-is-quiet, may-post-is-last}
 use Rattle.runs.proofs.Summary.Preconditions.{may-pre-is-meet}
@@ -35,6 +35,14 @@ module _ (p : Plan) (w : WellFormed p) where
           first (inl z) = inr cc
           first (inr z) = absurd (earlier-nil z refl)
 
+  -- the one event of a skip alone
+  the-skip : (n : ℕ) {e : Event} {r : History} → Earlier (e ∷ r) (skipOnly n) → e ≡ skip n
+  the-skip n {e} {r} q = at (earlier-inv q)
+    where
+      at : (e ∷ r ≡ skipOnly n) ⊎ Earlier (e ∷ r) [] → e ≡ skip n
+      at (inl z) = cc
+      at (inr z) = absurd (earlier-nil z refl)
+
   module _ (f : ℕ) where
     -- some completed execution does not assert the flag; all-of: every child has one
     abbrev pub Avoids : ℕ → Type 0
@@ -44,7 +52,27 @@ module _ (p : Plan) (w : WellFormed p) where
     avoids-all k = Iff·trans (avoid-is-quiet p f) (Iff·trans (quiet-all p w (Unasserted p f) k)
         (λ g c hc. (avoid-is-quiet p f) .1 (g c hc), λ g c hc. (avoid-is-quiet p f) .0 (g c hc)))
 
+    pub avoids-skip : (n : ℕ) → lastAsserted p (skipOnly n) f ≡ none
+    unfolding lastAssertedOf
+    avoids-skip n = refl
+
     module _ (v : Bool) where
+      -- the skip of an optional group is neutral; alone, it has no condition
+      pub neutral-skip : (n : ℕ) → Neutral p f v (skip n)
+      neutral-skip n = (λ q. clash cc, refl)
+
+      pub covers-skip : (n : ℕ) → ¬ Covers p f v (skip n)
+      covers-skip n x = x .1 refl
+
+      pub pre-skip : (n : ℕ) → ¬ ExternalPre p f v (skipOnly n)
+      pre-skip n x = let z = the-skip n (x .at) in let y : PreOn p f v (skip n) = rw z at (x .needs) in clash cc
+
+      pub post-skip : (n : ℕ) → ¬ ExternalPost p f v (skipOnly n)
+      post-skip n x = let z = avoids-skip n in clash cc
+
+      pub inc-skip : (n : ℕ) → ¬ Incondition p f v (skipOnly n)
+      inc-skip n x = let b = incondition-begun p f v x in rw (the-skip n (b .at)) at (b .begins)
+
       -- at a task: it has the condition
       pub pre-task : (n : ℕ) → ExternalPre p f v (whole n) ↔ (p .cond .sign pre n f ≡ some v)
       unfolding lastAssertedOf

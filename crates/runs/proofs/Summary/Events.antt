@@ -1,7 +1,7 @@
 -- The tests for the classes of events reflect them; and what a history last asserted, by its events.
 use Rattle.runs.proofs.Base.{_≡_, refl, Bool, Option, none, some, [], _∷_, ℕ, _<_}
 use Rattle.runs.specs.Plan.{pre, Plan, WellFormed}
-use Rattle.runs.specs.Execution.{Event, start, finish, History, preOf, lastAssertedOf, asserts, lastAsserted}
+use Rattle.runs.specs.Execution.{Event, start, finish, skip, History, preOf, lastAssertedOf, asserts, lastAsserted}
 use Rattle.runs.specs.Model.Marks.{unassertedB, preB, assertsB, beginsIncB, neutralB, coversB}
 use Rattle.runs.proofs.Reflect.{clash, Reflects, r-none, r-some, r-both, r-negate}
 use Rattle.runs.specs.Classes.{All, all-nil, all-cons, Unasserted, Asserts, PreOn, BeginsInc, Neutral, Covers}
@@ -39,6 +39,7 @@ module _ (p : Plan) (f : ℕ) where
     unfolding beginsIncB
     r-begins-inc (start t) = r-some _ _
     r-begins-inc (finish t) = record { to = λ t. t; from = λ t. t }
+    r-begins-inc (skip g) = record { to = λ t. t; from = λ t. t }
 
     pub r-neutral : (e : Event) → Reflects (neutralB p f v e) (Neutral p f v e)
     unfolding neutralB
@@ -53,3 +54,4 @@ pub pre-flag : (p : Plan) → WellFormed p → {f : ℕ} {v : Bool} (e : Event) 
     → f < p .cond .flags
 pre-flag p w {f} {v} (start t) q = (w .on-task pre t f v q) .2
 pre-flag p w {f} {v} (finish t) q = clash cc
+pre-flag p w {f} {v} (skip g) q = clash cc

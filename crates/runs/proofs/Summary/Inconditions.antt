@@ -2,7 +2,7 @@
 -- begins it.
 use Rattle.runs.proofs.Base.{_⊎_, inl, inr, _↔_, Bool, [], _∷_, _++_, ℕ}
 use Rattle.runs.specs.Plan.{Plan, Node, WellFormed}
-use Rattle.runs.specs.Execution.{Event, start, finish, History, Completed, Earlier, none-later, one-later}
+use Rattle.runs.specs.Execution.{Event, start, finish, skip, History, Completed, Earlier, none-later, one-later}
 use Rattle.runs.specs.Summary.{May, Must, Incondition}
 use Rattle.runs.proofs.Reflect.{decided}
 use Rattle.runs.specs.Classes.{All, all-nil, all-cons, Anything, BeginsInc, MayQuiet, MayMeet}
@@ -28,6 +28,7 @@ module _ (p : Plan) (f : ℕ) (v : Bool) where
       go : (e : Event) (r : History) → Earlier (e ∷ r) h → BeginsInc p f v e → Incondition p f v h
       go (start t) r q b = record { who = t; holds = b; until = start t ∷ r; at = q; runs = after-same (start t) r }
       go (finish t) r q b = absurd b
+      go (skip g) r q b = absurd b
 
   module _ (w : WellFormed p) where
     -- may incondition: meet an event that begins it, whatever is before

@@ -1,8 +1,8 @@
--- Last (`MayLast`): its rules by children. At a choice it is `may-any`.
+-- Last (`MayLast`): its rules by children. At a choice it is `may-any`, `may-optional` with `last-skip`.
 use Rattle.runs.proofs.Base.{_≡_, refl, ap, _∙_, sym, _⊎_, inl, inr, _↔_, Iff·trans, _≢_, [], _∷_, _++_}
 use Rattle.runs.proofs.Base.{append-nil, ℕ, arith, ℕ-discrete, T}
 use Rattle.runs.specs.Plan.{task, all-of, Plan, Child, Under, Before, direct, WellFormed}
-use Rattle.runs.specs.Execution.{Event, start, finish, History, nodeOf, statusAfter, all-done, Complete}
+use Rattle.runs.specs.Execution.{Event, start, finish, skip, History, nodeOf, statusAfter, all-done, Complete}
 use Rattle.runs.specs.Execution.{Execution, Completed}
 use Rattle.runs.proofs.Plan.{Branch, one-branch, before-rank, before-trans, before-irrefl, decBefore}
 use Rattle.runs.specs.Classes.{All, all-nil, all-cons, Anything, MayQuiet, LastIs, here, past, MayLast}
@@ -10,7 +10,7 @@ use Rattle.runs.proofs.Execution.{earlier-append, branch-of, part, part
 use Rattle.runs.proofs.Execution.{execution-last, earlier-execution, execution-under, part-append, part-other}
 use Rattle.runs.proofs.Execution.{part-all, part-completed}
 use Rattle.runs.proofs.Execution.{complete-stays, extend-completed, Staged, stage, apart}
-use Rattle.runs.proofs.Summary.MayMust.{whole, may-task}
+use Rattle.runs.proofs.Summary.MayMust.{whole, skipOnly, may-task}
 use Rattle.runs.proofs.Summary.Quiet.{quiet-stage, quiet-anything}
 
 pub record LastAt (Q H : Event → Type 0) (h : History) : Type 0 where
@@ -55,6 +55,13 @@ module _ (p : Plan) (w : WellFormed p) (Q H : Event → Type 0) where
       from : H (finish n) ⊎ (Q (finish n) × H (start n)) → LastIs Q H (whole n)
       from (inl x) = here x
       from (inr (q, x)) = past q (here x)
+
+  -- optional, the skip alone: it is in H
+  pub last-skip : (n : ℕ) → LastIs Q H (skipOnly n) ↔ H (skip n)
+  last-skip n = (to, here)
+    where
+      to : LastIs Q H (skipOnly n) → H (skip n)
+      to (here x) = x
 
   abbrev pub LastAll : ℕ → Type 0
   LastAll n = (c : ℕ) × Child p n c × MayLast p Q H c × ((b : ℕ) → Child p n b → Before p c b → MayQuiet p Q b)

@@ -3,14 +3,14 @@
 use Rattle.runs.proofs.Base.{_≡_, refl, sym, _≢_, _⊎_, inl, inr, Bool, not, Option, none, some, [], _∷_, ℕ}
 use Rattle.runs.proofs.Base.{ℕ-discrete}
 use Rattle.runs.specs.Plan.{all-of, Plan, Child, Under, Before, Unordered, WellFormed, Node}
-use Rattle.runs.specs.Execution.{Event, History, nodeOf, statusAfter, Execution, Completed, preOf, lastAssertedOf}
-use Rattle.runs.specs.Execution.{asserts, lastAsserted}
-use Rattle.runs.specs.Execution.{Earlier, none-later, one-later}
+use Rattle.runs.specs.Execution.{Event, start, finish, skip, History, nodeOf, statusAfter, Execution, Completed, preOf, lastAssertedOf}
+use Rattle.runs.specs.Execution.{asserts}
+use Rattle.runs.specs.Execution.{lastAsserted, Earlier, none-later, one-later}
 use Rattle.runs.specs.Summary.{Must, ExternalPre, ExternalPost, Silent, MustClobber, by-any-of, by-child, by-pair}
 use Rattle.runs.specs.Summary.{MayClobber, precondition}
 use Rattle.runs.proofs.Reflect.{clash}
 use Rattle.runs.proofs.Plan.{Branch, decUnder, decBefore}
-use Rattle.runs.proofs.Execution.{all-at, earlier-nil, earlier-inv, branch-of, enabled-of-task, part, part-nil}
+use Rattle.runs.proofs.Execution.{all-at, earlier-nil, earlier-inv, branch-of, OfKind, enabled-of-kind, part, part-nil}
 use Rattle.runs.proofs.Execution.{part-in, part-out}
 use Rattle.runs.proofs.Execution.{execution-tail, execution-last, earlier-execution, part-completed}
 use Rattle.runs.proofs.Execution.{any-completed, completed-execution, apart}
@@ -59,6 +59,12 @@ module _ (p : Plan) (w : WellFormed p) where
           → Earlier (e ∷ part p w b s) (part p w b (x ∷ l))
       lift (yes v) y = rw (part-in p w b x l v) (one-later y)
       lift (no k) y = rw (part-out p w b x l k) y
+
+  -- no event under a silent node asserts the flag; a skip never does
+  silent-event : {f b : ℕ} (e : Event) → Silent p f b → OfKind p e → Under p b (nodeOf e) → Unasserted p f e
+  silent-event (start t) x k u = x (start t) k u
+  silent-event (finish t) x k u = x (finish t) k u
+  silent-event (skip g) x k u = refl
 
   -- a part's last assertion is the history's, if no other one comes after the part has begun
   pub last-of-part : (f : ℕ) (u : Bool) (c : ℕ) (r : History)
@@ -132,8 +138,8 @@ module _ (p : Plan) (w : WellFormed p) where
 
               go : (b : ℕ) → Child p n b → Under p b (nodeOf e) → b ≢ c → ¬ Before p b c → Dec (Before p c b) → ⊥
               go b hb ub k y (yes z) = not-yet hb fr (i .beneath) z x ub
-              go b hb ub k y (no z) = nu (un b hb (record { distinct = k; not-before = y; not-after = z }) e
-                  (enabled-of-task p (execution-last p w fe)) ub)
+              go b hb ub k y (no z) = nu (silent-event e (un b hb (record { distinct = k; not-before = y; not-after = z }))
+                  (enabled-of-kind p (execution-last p w fe)) ub)
 
       pair-fails : (c d : ℕ) → Child p n c → Child p n d → Before p d c → Must p d (ExternalPost p f (not v))
           → Must p c (ExternalPre p f v)
@@ -174,7 +180,8 @@ module _ (p : Plan) (w : WellFormed p) where
               go b hb ub k y (yes z) y₁ = nu (all-at {Q = Unasserted p f} (in-part ub z)
                   (rw (i .same) (unasserted-all p f (nx .before) (nx .unasserted))))
               go b hb ub k y (no k′) (yes z) = not-yet hb fr (i .beneath) z x ub
-              go b hb ub k y (no k′) (no z) = nu (others b hb k′ k y z e (enabled-of-task p (execution-last p w fe)) ub)
+              go b hb ub k y (no k′) (no z) = nu (silent-event e (others b hb k′ k y z)
+                  (enabled-of-kind p (execution-last p w fe)) ub)
 
     -- every completed execution of a node that must clobber fails
     pub must-clobber-fails : {n : ℕ} → MustClobber p f v n → (h : History) → Completed p n h → Fails p f v h

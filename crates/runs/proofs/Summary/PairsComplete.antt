@@ -1,7 +1,7 @@
 -- An all-of group that may clobber has a pair: the children are read off the execution by projection.
 use Rattle.runs.proofs.Base.{_≡_, sym, _∙_, _≢_, _⊎_, inl, inr, Bool, not, some, [], _∷_, _++_, append-nil, ℕ}
 use Rattle.runs.specs.Plan.{task, all-of, inc, Plan, Child, Under, Before, WellFormed, pre, post}
-use Rattle.runs.specs.Execution.{running, Event, start, finish, History, nodeOf, statusAfter, Execution}
+use Rattle.runs.specs.Execution.{running, Event, start, finish, skip, History, nodeOf, statusAfter, Execution}
 use Rattle.runs.specs.Execution.{Completed, preOf, asserts}
 use Rattle.runs.specs.Execution.{lastAsserted}
 use Rattle.runs.specs.Summary.{Clobbers, precondition, incondition, TaskWith, ClobberByPairs, in-child}
@@ -10,7 +10,7 @@ use Rattle.runs.proofs.Reflect.{clash}
 use Rattle.runs.proofs.Plan.{child-under, Branch, branch, one-branch, before-irrefl, Standing, same, earlier}
 use Rattle.runs.proofs.Plan.{later, unordered, standing}
 use Rattle.runs.specs.Classes.{All, Unasserted, here}
-use Rattle.runs.proofs.Execution.{after-nil, earlier-append, OfTask, enabled-of-task, all-of-rests, branch-of}
+use Rattle.runs.proofs.Execution.{after-nil, earlier-append, OfKind, enabled-of-kind, all-of-rests, branch-of}
 use Rattle.runs.proofs.Execution.{part, part-in, part-out}
 use Rattle.runs.proofs.Execution.{after-part, part-execution, execution-tail, execution-last, earlier-execution}
 use Rattle.runs.proofs.Execution.{part-append, part-all, apart}
@@ -22,16 +22,18 @@ use Rattle.runs.proofs.Summary.Preconditions.{may-pre-is-meet}
 
 module _ (p : Plan) (w : WellFormed p) where
   -- what an event needs, its task needs
-  need-of : {f : ℕ} {v : Bool} (d : ℕ) (e : Event) → OfTask p e → Under p d (nodeOf e) → preOf (p .cond) e f ≡ some v
+  need-of : {f : ℕ} {v : Bool} (d : ℕ) (e : Event) → OfKind p e → Under p d (nodeOf e) → preOf (p .cond) e f ≡ some v
       → TaskWith p pre inc f v d
   need-of d (start t) k u q = record { who = t; is-task = k; beneath = u; has = inl q }
   need-of d (finish t) k u q = clash cc
+  need-of d (skip g) k u q = clash cc
 
   -- what an event asserts, its task holds or leaves
-  assertion-of : {f : ℕ} {v : Bool} (d : ℕ) (e : Event) → OfTask p e → Under p d (nodeOf e) → asserts p e f ≡ some v
+  assertion-of : {f : ℕ} {v : Bool} (d : ℕ) (e : Event) → OfKind p e → Under p d (nodeOf e) → asserts p e f ≡ some v
       → TaskWith p inc post f v d
   assertion-of d (start t) k u q = record { who = t; is-task = k; beneath = u; has = inl q }
   assertion-of d (finish t) k u q = record { who = t; is-task = k; beneath = u; has = inr q }
+  assertion-of d (skip g) k u q = clash cc
 
   module _ {n : ℕ} (kn : p .tree .kind n ≡ all-of) (f : ℕ) (v : Bool) where
     -- d before b, an event under d: nothing under b has happened
@@ -107,8 +109,8 @@ module _ (p : Plan) (w : WellFormed p) where
               holds = all-unasserted p f (nothing-after g e r hb (be .child) fe (be .beneath) q₁ a);
             })
         go (unordered u) = unordered-pair c d (bt .child) (be .child) u
-            (need-of c ev (enabled-of-task p (execution-last p w fr)) (bt .beneath) nd)
-            (assertion-of d e (enabled-of-task p (execution-last p w fe)) (be .beneath) wr)
+            (need-of c ev (enabled-of-kind p (execution-last p w fr)) (bt .beneath) nd)
+            (assertion-of d e (enabled-of-kind p (execution-last p w fe)) (be .beneath) wr)
 
     inc-to-pairs : (e : Event) (h : History) (t : ℕ) → Execution p n (e ∷ h) → nodeOf e ≢ t
         → p .cond .sign inc t f ≡ some v → statusAfter h t ≡ running
@@ -154,7 +156,7 @@ module _ (p : Plan) (w : WellFormed p) where
         go (later q) = absurd (running-moved runs-c (rw (apart p w fr (bt .child) q (be .beneath)) (after-nil t)))
         go (unordered u) = unordered-pair c d (bt .child) (be .child) u
             (record { who = t; is-task = kt; beneath = bt .beneath; has = inr ho })
-            (assertion-of d e (enabled-of-task p (execution-last p w fr)) (be .beneath) br)
+            (assertion-of d e (enabled-of-kind p (execution-last p w fr)) (be .beneath) br)
 
     -- an all-of group that may clobber has a pair
     pub clobber-to-pairs : MayClobber p f v n → ClobberByPairs p f v n

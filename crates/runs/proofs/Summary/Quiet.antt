@@ -1,8 +1,8 @@
--- Quiet (`MayQuiet`): its rules by children. At a choice it is `may-any`.
+-- Quiet (`MayQuiet`): its rules by children. At a choice it is `may-any`, `may-optional` with `quiet-skip`.
 use Rattle.runs.proofs.Base.{_≡_, inl, _↔_, Iff·trans, [], _++_, append-nil, ℕ, T}
-use Rattle.runs.proofs.Summary.MayMust.{whole, may-task}
+use Rattle.runs.proofs.Summary.MayMust.{whole, skipOnly, may-task}
 use Rattle.runs.specs.Plan.{task, all-of, Plan, Child, WellFormed, Node}
-use Rattle.runs.specs.Execution.{Event, start, finish, all-done, none-yet}
+use Rattle.runs.specs.Execution.{Event, start, finish, skip, all-done, none-yet}
 use Rattle.runs.specs.Classes.{All, all-nil, all-cons, Anything, MayQuiet}
 use Rattle.runs.proofs.Execution.{all-append, all-anything, part, part-nil, part-all, part-completed}
 use Rattle.runs.proofs.Execution.{Staged, stage, completed-execution}
@@ -14,6 +14,13 @@ module _ (p : Plan) (w : WellFormed p) (Q : Event → Type 0) where
     where
       to : All Q (whole n) → Q (start n) × Q (finish n)
       to (all-cons b (all-cons a c)) = (a, b)
+
+  -- optional, the skip alone: it is in Q
+  pub quiet-skip : (n : ℕ) → All Q (skipOnly n) ↔ Q (skip n)
+  quiet-skip n = (to, λ q. all-cons q all-nil)
+    where
+      to : All Q (skipOnly n) → Q (skip n)
+      to (all-cons q a) = q
 
   -- a closed set of children can be completed from nothing, each quietly
   pub quiet-stage : {n : ℕ} → p .tree .kind n ≡ all-of → (D : ℕ → Type 0) → ((c : ℕ) → Dec (D c))

@@ -1,9 +1,9 @@
 -- The test by pairs reflects may clobber; the test by the rule reflects must clobber.
-use Rattle.runs.proofs.Base.{_≡_, _≢_, _⊎_, inl, inr, _↔_, Iff·symm, Bool, false, not, Option, none, some, ℕ}
+use Rattle.runs.proofs.Base.{_≡_, refl, _≢_, _⊎_, inl, inr, _↔_, Iff·symm, Bool, false, not, Option, none, some, ℕ}
 use Rattle.runs.proofs.Base.{zero, suc, _+_, _≤_, arith}
-use Rattle.runs.specs.Plan.{task, all-of, any-of, Place, pre, inc, post, Plan, Node, Child, Under, Before}
+use Rattle.runs.specs.Plan.{task, all-of, any-of, optional, Place, pre, inc, post, Plan, Node, Child, Under, Before}
 use Rattle.runs.specs.Plan.{Unordered, WellFormed}
-use Rattle.runs.specs.Execution.{start, finish, lastAsserted}
+use Rattle.runs.specs.Execution.{start, finish, skip, lastAsserted}
 use Rattle.runs.specs.Summary.{May, Must, ExternalPre, ExternalPost, MayClobber, TaskWith, ClobberByPairs}
 use Rattle.runs.specs.Summary.{in-child, unordered-pair, passed-on}
 use Rattle.runs.specs.Summary.{Silent, MustClobber, by-any-of, by-child, by-pair}
@@ -14,7 +14,7 @@ use Rattle.runs.proofs.Reflect.{clash, Reflects, r-map, decided, r-both
 use Rattle.runs.proofs.Reflect.{r-none, r-some}
 use Rattle.runs.proofs.Plan.{child-lt, r-by-kind, r-some-child, r-every-child, r-some-task, r-before}
 use Rattle.runs.proofs.Plan.{r-unordered}
-use Rattle.runs.proofs.Summary.Clobber.{clobber-all, clobber-any, clobber-task}
+use Rattle.runs.proofs.Summary.Clobber.{clobber-all, clobber-any, clobber-optional, clobber-task}
 use Rattle.runs.proofs.Summary.ReflectConditions.{r-avoid, r-may-pre, r-must-pre, r-may-post, r-must-post}
 
 -- a test that is never true
@@ -49,6 +49,7 @@ module _ (p : Plan) (w : WellFormed p) where
           × ((p .cond .sign inc t f ≢ none) ⊎ (p .cond .sign post t f ≢ none))) → Silent p f c
       quiet k (start t) kt u = given _ (λ ne. k (t, u, kt, inl ne))
       quiet k (finish t) kt u = given _ (λ ne. k (t, u, kt, inr ne))
+      quiet k (skip t) kt u = refl
 
       loud : Silent p f c → (t : ℕ) → Under p c t → p .tree .kind t ≡ task
           → (p .cond .sign inc t f ≢ none) ⊎ (p .cond .sign post t f ≢ none) → ⊥
@@ -94,7 +95,7 @@ module _ (p : Plan) (w : WellFormed p) where
         → Reflects (mayClobberIn p f v k n) (MayClobber p f v n)
     unfolding mayClobberIn
     r-may-clobber-in zero n l b = absurd (omega (arith, w .node-below n l))
-    r-may-clobber-in (suc k) n l b = r-by-kind (p .tree .kind n) _ _ _ (λ kn. r-false (clobber-task p w f v kn))
+    r-may-clobber-in (suc k) n l b = r-by-kind (p .tree .kind n) _ _ _ _ (λ kn. r-false (clobber-task p w f v kn))
         (λ kn. r-map (Iff·symm (clobber-all p w kn f v)) (r-map some-pair (r-either _ _
         (r-some-child p w (MayClobber p f v) _
         (λ c hc. r-may-clobber-in k c (hc .node) (omega (arith, child-lt p w hc))))
@@ -103,6 +104,8 @@ module _ (p : Plan) (w : WellFormed p) where
         (λ kn. r-map (Iff·symm (clobber-any p w f v kn))
         (r-some-child p w (MayClobber p f v) _
         (λ c hc. r-may-clobber-in k c (hc .node) (omega (arith, child-lt p w hc)))))
+        (λ kn. r-map (Iff·symm (clobber-optional p w f v kn))
+        (r-some-child p w (MayClobber p f v) _ (λ c hc. r-may-clobber-in k c (hc .node) (omega (arith, child-lt p w hc)))))
 
     pub r-may-clobber : (n : ℕ) → Node p n → Reflects (mayClobberB p n f v) (MayClobber p f v n)
     unfolding mayClobberB
@@ -140,6 +143,11 @@ module _ (p : Plan) (w : WellFormed p) where
     must-clobber-task k (by-child k′ c hc d l) = clash cc
     must-clobber-task k (by-pair k′ c d hc hd q ml mn g) = clash cc
 
+    pub must-clobber-optional : {n : ℕ} → p .tree .kind n ≡ optional → ¬ MustClobber p f v n
+    must-clobber-optional k (by-any-of k′ a) = clash cc
+    must-clobber-optional k (by-child k′ c hc d l) = clash cc
+    must-clobber-optional k (by-pair k′ c d hc hd q ml mn g) = clash cc
+
     pub must-clobber-any : {n : ℕ} → p .tree .kind n ≡ any-of
         → MustClobber p f v n ↔ ((c : ℕ) → Child p n c → MustClobber p f v c)
     must-clobber-any {n} k = (to, by-any-of k)
@@ -165,7 +173,7 @@ module _ (p : Plan) (w : WellFormed p) where
         → Reflects (mustClobberIn p f v k n) (MustClobber p f v n)
     unfolding mustClobberIn
     r-must-clobber-in zero n l b = absurd (omega (arith, w .node-below n l))
-    r-must-clobber-in (suc k) n l b = r-by-kind (p .tree .kind n) _ _ _ (λ kn. r-false (must-clobber-task kn))
+    r-must-clobber-in (suc k) n l b = r-by-kind (p .tree .kind n) _ _ _ _ (λ kn. r-false (must-clobber-task kn))
         (λ kn. r-map (Iff·symm (must-clobber-all kn)) (r-either _ _
         (r-some-child p w (λ c. MustClobber p f v c × Alone n c) _
         (λ c hc. r-both _ _ (r-must-clobber-in k c (hc .node) (omega (arith, child-lt p w hc))) (r-alone n c)))
@@ -175,6 +183,7 @@ module _ (p : Plan) (w : WellFormed p) where
         (r-both _ _ (r-must-pre p w c f (hc .node) v) (r-undisturbed n c d))))))))
         (λ kn. r-map (Iff·symm (must-clobber-any kn)) (r-every-child p w (MustClobber p f v) _
         (λ c hc. r-must-clobber-in k c (hc .node) (omega (arith, child-lt p w hc)))))
+        (λ kn. r-false (must-clobber-optional kn))
 
     pub r-must-clobber : (n : ℕ) → Node p n → Reflects (mustClobberB p n f v) (MustClobber p f v n)
     unfolding mustClobberB

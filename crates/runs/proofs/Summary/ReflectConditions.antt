@@ -2,7 +2,7 @@
 use Rattle.runs.proofs.Base.{_≡_, Iff·symm, Bool, not, none, ℕ, zero, suc, _+_, _≤_, arith}
 use Rattle.runs.specs.Tests.{implies}
 use Rattle.runs.specs.Plan.{Plan, Node, Child, Before, WellFormed}
-use Rattle.runs.specs.Execution.{Event, lastAsserted}
+use Rattle.runs.specs.Execution.{Event, skip, lastAsserted}
 use Rattle.runs.specs.Summary.{May, Must, ExternalPre, ExternalPost, Incondition}
 use Rattle.runs.specs.Model.Marks.{quietIn, meetIn, lastIn, quietB, meetB, lastB, avoidB, mayPreB, mustPreB}
 use Rattle.runs.specs.Model.Marks.{mayPostB, mustPostB, mayIncB}
@@ -13,24 +13,27 @@ use Rattle.runs.proofs.Plan.{child-lt, before-child, r-by-kind, r-some-
 use Rattle.runs.specs.Classes.{All, Anything, MayQuiet, MayMeet, LastIs, MayLast}
 use Rattle.runs.proofs.Summary.Events.{r-unasserted, r-asserts, r-pre, r-begins-inc, r-neutral, r-covers}
 use Rattle.runs.proofs.Summary.Inconditions.{may-inc-is-meet, must-inc-is}
-use Rattle.runs.proofs.Summary.Last.{last-task, last-all}
-use Rattle.runs.proofs.Summary.MayMust.{may-any}
-use Rattle.runs.proofs.Summary.Meet.{meet-task, meet-any, meet-all}
+use Rattle.runs.proofs.Summary.Last.{last-task, last-skip, last-all}
+use Rattle.runs.proofs.Summary.MayMust.{may-any, may-optional}
+use Rattle.runs.proofs.Summary.Meet.{meet-task, meet-any, meet-optional, meet-all}
 use Rattle.runs.proofs.Summary.Postconditions.{avoid-is-quiet, may-post-is-last, must-post-is}
 use Rattle.runs.proofs.Summary.Preconditions.{may-pre-is-meet, must-pre-is}
-use Rattle.runs.proofs.Summary.Quiet.{quiet-task, quiet-all}
+use Rattle.runs.proofs.Summary.Quiet.{quiet-task, quiet-skip, quiet-all}
 
 module _ (p : Plan) (w : WellFormed p) where
   module _ (Q : Event → Type 0) (q : Event → Bool) (rq : (e : Event) → Reflects (q e) (Q e)) where
     r-quiet-in : (k n : ℕ) → Node p n → p .tree .size ≤ n + k → Reflects (quietIn p q k n) (MayQuiet p Q n)
     unfolding quietIn
     r-quiet-in zero n l b = absurd (omega (arith, w .node-below n l))
-    r-quiet-in (suc k) n l b = r-by-kind (p .tree .kind n) _ _ _
+    r-quiet-in (suc k) n l b = r-by-kind (p .tree .kind n) _ _ _ _
         (λ kn. r-map (Iff·symm (quiet-task p w Q kn)) (r-both _ _ (rq _) (rq _)))
         (λ kn. r-map (Iff·symm (quiet-all p w Q kn))
         (r-every-child p w (MayQuiet p Q) _ (λ c hc. r-quiet-in k c (hc .node) (omega (arith, child-lt p w hc)))))
         (λ kn. r-map (Iff·symm (may-any p w (All Q) kn))
         (r-some-child p w (MayQuiet p Q) _ (λ c hc. r-quiet-in k c (hc .node) (omega (arith, child-lt p w hc)))))
+        (λ kn. r-map (Iff·symm (may-optional p w (All Q) kn)) (r-either _ _
+        (r-some-child p w (MayQuiet p Q) _ (λ c hc. r-quiet-in k c (hc .node) (omega (arith, child-lt p w hc))))
+        (r-map (Iff·symm (quiet-skip p w Q n)) (rq (skip n)))))
 
     pub r-quiet : (n : ℕ) → Node p n → Reflects (quietB p q n) (MayQuiet p Q n)
     unfolding quietB
@@ -47,7 +50,7 @@ module _ (p : Plan) (w : WellFormed p) where
       r-meet-in : (k n : ℕ) → Node p n → p .tree .size ≤ n + k → Reflects (meetIn p q m k n) (MayMeet p Q H n)
       unfolding meetIn
       r-meet-in zero n l b = absurd (omega (arith, w .node-below n l))
-      r-meet-in (suc k) n l b = r-by-kind (p .tree .kind n) _ _ _
+      r-meet-in (suc k) n l b = r-by-kind (p .tree .kind n) _ _ _ _
           (λ kn. r-map (Iff·symm (meet-task p w Q H kn)) (r-either _ _ (rm _) (r-both _ _ (rq _) (rm _))))
           (λ kn. let e = meet-all p w Q H kn in
           r-map (
@@ -60,6 +63,8 @@ module _ (p : Plan) (w : WellFormed p) where
           (r-others k n (λ a. Before p a c) _ (λ a. r-before p w a c) b))))
           (λ kn. r-map (Iff·symm (meet-any p w Q H kn))
           (r-some-child p w (MayMeet p Q H) _ (λ c hc. r-meet-in k c (hc .node) (omega (arith, child-lt p w hc)))))
+          (λ kn. r-map (Iff·symm (meet-optional p w Q H kn)) (r-either _ _
+          (r-some-child p w (MayMeet p Q H) _ (λ c hc. r-meet-in k c (hc .node) (omega (arith, child-lt p w hc)))) (rm (skip n))))
 
       pub r-meet : (n : ℕ) → Node p n → Reflects (meetB p q m n) (MayMeet p Q H n)
       unfolding meetB
@@ -68,7 +73,7 @@ module _ (p : Plan) (w : WellFormed p) where
       r-last-in : (k n : ℕ) → Node p n → p .tree .size ≤ n + k → Reflects (lastIn p q m k n) (MayLast p Q H n)
       unfolding lastIn
       r-last-in zero n l b = absurd (omega (arith, w .node-below n l))
-      r-last-in (suc k) n l b = r-by-kind (p .tree .kind n) _ _ _
+      r-last-in (suc k) n l b = r-by-kind (p .tree .kind n) _ _ _ _
           (λ kn. r-map (Iff·symm (last-task p w Q H kn)) (r-either _ _ (rm _) (r-both _ _ (rq _) (rm _))))
           (λ kn. let e = last-all p w Q H kn in
           r-map (λ x. e .1 (x .0, x .1, x .2 .0, x .2 .1), λ y. let x = e .0 y in (x .0, x .1, (x .2, x .3)))
@@ -77,6 +82,9 @@ module _ (p : Plan) (w : WellFormed p) where
           (r-others k n (Before p c) _ (r-before p w c) b))))
           (λ kn. r-map (Iff·symm (may-any p w (LastIs Q H) kn))
           (r-some-child p w (MayLast p Q H) _ (λ c hc. r-last-in k c (hc .node) (omega (arith, child-lt p w hc)))))
+          (λ kn. r-map (Iff·symm (may-optional p w (LastIs Q H) kn)) (r-either _ _
+          (r-some-child p w (MayLast p Q H) _ (λ c hc. r-last-in k c (hc .node) (omega (arith, child-lt p w hc))))
+          (r-map (Iff·symm (last-skip p w Q H n)) (rm (skip n)))))
 
       pub r-last : (n : ℕ) → Node p n → Reflects (lastB p q m n) (MayLast p Q H n)
       unfolding lastB

@@ -4,7 +4,7 @@ use Prim.Native.Nat.{ℕ, zero, suc}
 use lib.Dec.{eqb}
 use Rattle.runs.specs.Tests.{both, either, implies, negate, isNone, isSome}
 use Rattle.runs.specs.Plan.{Place, pre, inc, post, Plan}
-use Rattle.runs.specs.Execution.{Event, start, finish, preOf, asserts}
+use Rattle.runs.specs.Execution.{Event, start, finish, skip, preOf, asserts}
 use Rattle.runs.specs.Summary.{Mark, may-pre, must-pre, may-post, must-post, may-inc, must-inc, may-clobber}
 use Rattle.runs.specs.Summary.{must-clobber}
 use Rattle.runs.specs.Model.Trees.{byKind, someChildB, everyChildB, someTaskB, beforeB, unorderedB}
@@ -17,7 +17,7 @@ module _ (p : Plan) (q : Event → Bool) where
   quietIn zero n = false
   quietIn (suc k) n = byKind (p .tree .kind n) (λ u. both (q (start n)) (λ u. q (finish n)))
       (λ u. everyChildB p n (λ c. quietIn k c))
-      (λ u. someChildB p n (λ c. quietIn k c))
+      (λ u. someChildB p n (λ c. quietIn k c)) (λ u. either (someChildB p n (λ c. quietIn k c)) (λ u. q (skip n)))
 
   module _ (m : Event → Bool) where
     -- some execution comes to an event in m with only q before it
@@ -27,7 +27,7 @@ module _ (p : Plan) (q : Event → Bool) where
         (λ u. either (m (start n)) (λ u. both (q (start n)) (λ u. m (finish n))))
         (λ u. someChildB p n (λ c. both (meetIn k c)
         (λ u. everyChildB p n (λ a. implies (beforeB p a c) (λ u. quietIn k a)))))
-        (λ u. someChildB p n (λ c. meetIn k c))
+        (λ u. someChildB p n (λ c. meetIn k c)) (λ u. either (someChildB p n (λ c. meetIn k c)) (λ u. m (skip n)))
 
     -- some completed execution has an event in m with only q after it
     unfoldable pub lastIn : ℕ → ℕ → Bool
@@ -36,7 +36,7 @@ module _ (p : Plan) (q : Event → Bool) where
         (λ u. either (m (finish n)) (λ u. both (q (finish n)) (λ u. m (start n))))
         (λ u. someChildB p n (λ c. both (lastIn k c)
         (λ u. everyChildB p n (λ a. implies (beforeB p c a) (λ u. quietIn k a)))))
-        (λ u. someChildB p n (λ c. lastIn k c))
+        (λ u. someChildB p n (λ c. lastIn k c)) (λ u. either (someChildB p n (λ c. lastIn k c)) (λ u. m (skip n)))
 
 module _ (p : Plan) where
   unfoldable pub quietB : (Event → Bool) → ℕ → Bool
@@ -62,6 +62,7 @@ module _ (p : Plan) where
   unfoldable pub beginsIncB : ℕ → Bool → Event → Bool
   beginsIncB f v (start t) = isSome (p .cond .sign inc t f) v
   beginsIncB f v (finish t) = false
+  beginsIncB f v (skip g) = false
 
   -- it neither has the precondition nor asserts the flag; it asserts the flag and has not the precondition
   unfoldable pub neutralB : ℕ → Bool → Event → Bool
@@ -117,7 +118,7 @@ module _ (p : Plan) where
   mayClobberIn f v (suc k) n = byKind (p .tree .kind n) (λ u. false)
       (λ u. either (someChildB p n (λ c. mayClobberIn f v k c))
       (λ u. someChildB p n (λ c. someChildB p n (λ d. pairB n f v c d))))
-      (λ u. someChildB p n (λ c. mayClobberIn f v k c))
+      (λ u. someChildB p n (λ c. mayClobberIn f v k c)) (λ u. someChildB p n (λ c. mayClobberIn f v k c))
 
   unfoldable pub mayClobberB : ℕ → ℕ → Bool → Bool
   mayClobberB n f v = mayClobberIn f v (p .tree .size) n
@@ -137,7 +138,7 @@ module _ (p : Plan) where
       (λ u. either (someChildB p n (λ c. both (mustClobberIn f v k c) (λ u. aloneB n f c)))
       (λ u. someChildB p n (λ c. someChildB p n (λ d. both (beforeB p d c)
       (λ u. both (mustPostB d f (not v)) (λ u. both (mustPreB c f v) (λ u. undisturbedB n f c d)))))))
-      (λ u. everyChildB p n (λ c. mustClobberIn f v k c))
+      (λ u. everyChildB p n (λ c. mustClobberIn f v k c)) (λ u. false)
 
   unfoldable pub mustClobberB : ℕ → ℕ → Bool → Bool
   mustClobberB n f v = mustClobberIn f v (p .tree .size) n

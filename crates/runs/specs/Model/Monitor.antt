@@ -5,14 +5,14 @@ use mathlib.Core.Option.{Option, none, some}
 use mathlib.Core.List.{List, [], _∷_}
 use Prim.Native.Nat.{ℕ, zero, suc}
 use lib.Dec.{eqb}
-use Rattle.runs.specs.Tests.{both, negate, anyBelow, isSome}
-use Rattle.runs.specs.Plan.{task, inc, Plan}
-use Rattle.runs.specs.Execution.{Status, waiting, running, done, Status-discrete, State, Event, nodeOf, preOf}
+use Rattle.runs.specs.Tests.{both, either, negate, anyBelow, isSome}
+use Rattle.runs.specs.Plan.{task, optional, inc, Plan}
+use Rattle.runs.specs.Execution.{Status, waiting, running, done, Status-discrete, State, Event, start, finish, skip, nodeOf, preOf}
 use Rattle.runs.specs.Execution.{asserts}
 use Rattle.runs.specs.Calls.{Call, one, events, World, happenAll, Refusal, no-task, wrong-status, branch-begun}
 use Rattle.runs.specs.Calls.{order-open, pre-unmet}
-use Rattle.runs.specs.Calls.{inc-broken, number, asks, checks}
-use Rattle.runs.specs.Model.Trees.{kindB, picksB, byKind, someChildB, everyChildB, underB, someTaskB}
+use Rattle.runs.specs.Calls.{inc-broken, no-optional, number, asks, checks}
+use Rattle.runs.specs.Model.Trees.{kindB, picksB, movesB, byKind, someChildB, everyChildB, underB, someUnderB}
 
 unfoldable pub statusB : Status → Status → Bool
 statusB s r = decide (Status-discrete s r)
@@ -26,21 +26,31 @@ module _ (p : Plan) where
   unfoldable pub taskB : ℕ → Bool
   taskB t = both (p .tree .here t) (λ u. kindB (p .tree .kind t) task)
 
+  unfoldable pub optionalB : ℕ → Bool
+  optionalB g = both (p .tree .here g) (λ u. kindB (p .tree .kind g) optional)
+
   module _ (s : State) where
     -- k: more than the levels under n
     unfoldable pub completeIn : ℕ → ℕ → Bool
     completeIn zero n = false
     completeIn (suc k) n = byKind (p .tree .kind n) (λ u. statusB (s n) done)
         (λ u. everyChildB p n (λ c. completeIn k c)) (λ u. someChildB p n (λ c. completeIn k c))
+        (λ u. either (someChildB p n (λ c. completeIn k c)) (λ u. statusB (s n) done))
 
     unfoldable pub completeB : ℕ → Bool
     completeB n = completeIn (p .tree .size) n
 
     unfoldable pub begunB : ℕ → Bool
-    begunB b = someTaskB p b (λ t. negate (statusB (s t) waiting))
+    begunB b = someUnderB p b (λ t. both (movesB (p .tree .kind t)) (λ u. negate (statusB (s t) waiting)))
 
     unfoldable pub rivalB : ℕ → ℕ → Bool
-    rivalB g b = someChildB p g (λ c. both (negate (eqb c b)) (λ u. begunB c))
+    rivalB g b = either (someChildB p g (λ c. both (negate (eqb c b)) (λ u. begunB c)))
+        (λ u. both (kindB (p .tree .kind g) optional) (λ u. statusB (s g) done))
+
+    unfoldable pub wrongStatusB : Event → Bool
+    wrongStatusB (start t) = negate (statusB (s t) (asks (start t)))
+    wrongStatusB (finish t) = negate (statusB (s t) (asks (finish t)))
+    wrongStatusB (skip g) = either (negate (statusB (s g) (asks (skip g)))) (λ u. someChildB p g begunB)
 
     unfoldable pub branchBegunB : ℕ → Bool
     branchBegunB t = anyBelow (p .tree .size)
@@ -59,11 +69,12 @@ module _ (p : Plan) where
 
   unfoldable pub appliesB : World → Call → Refusal → Bool
   appliesB a (one e) no-task = negate (taskB (nodeOf e))
-  appliesB a (one e) wrong-status = negate (statusB (a .status (nodeOf e)) (asks e))
+  appliesB a (one e) wrong-status = wrongStatusB (a .status) e
   appliesB a (one e) branch-begun = branchBegunB (a .status) (nodeOf e)
   appliesB a (one e) order-open = orderOpenB (a .status) (nodeOf e)
   appliesB a (one e) pre-unmet = preUnmetB (a .flag) e
   appliesB a (one e) inc-broken = incBrokenB (a .status) e
+  appliesB a (one e) no-optional = negate (optionalB (nodeOf e))
 
 abbrev pub orElse : Bool → Refusal → (Unit {0} → Option Refusal) → Option Refusal
 orElse true r k = some r

@@ -1,22 +1,33 @@
 -- The tree and the chains of orders as tests. Definitions only.
-use mathlib.Core.Bool.{Bool, decide}
+use mathlib.Core.Bool.{Bool, true, false, decide}
 use Prim.Native.Nat.{ℕ, zero, suc}
 use lib.Dec.{eqb, ltb}
 use Rattle.runs.specs.Tests.{both, either, implies, negate, anyBelow, allBelow}
-use Rattle.runs.specs.Plan.{Kind, task, all-of, any-of, Kind-discrete, Plan}
+use Rattle.runs.specs.Plan.{Kind, task, all-of, any-of, optional, Kind-discrete, Plan}
 
 unfoldable pub kindB : Kind → Kind → Bool
 kindB k j = decide (Kind-discrete k j)
 
 -- the groups of which one branch is taken
 unfoldable pub picksB : Kind → Bool
-picksB k = kindB k any-of
+picksB task = false
+picksB all-of = false
+picksB any-of = true
+picksB optional = true
+
+-- the nodes that events move
+unfoldable pub movesB : Kind → Bool
+movesB task = true
+movesB all-of = false
+movesB any-of = false
+movesB optional = true
 
 -- a case for each kind
-unfoldable pub byKind : Kind → (Unit {0} → Bool) → (Unit {0} → Bool) → (Unit {0} → Bool) → Bool
-byKind task x y z = x tt
-byKind all-of x y z = y tt
-byKind any-of x y z = z tt
+unfoldable pub byKind : Kind → (Unit {0} → Bool) → (Unit {0} → Bool) → (Unit {0} → Bool) → (Unit {0} → Bool) → Bool
+byKind task x y z o = x tt
+byKind all-of x y z o = y tt
+byKind any-of x y z o = z tt
+byKind optional x y z o = o tt
 
 module _ (p : Plan) where
   unfoldable pub childB : ℕ → ℕ → Bool
@@ -37,10 +48,13 @@ module _ (p : Plan) where
   unfoldable pub underB : ℕ → ℕ → Bool
   underB a n = underIn n a n
 
-  -- some task under c that passes the test
+  -- some node under c that passes the test; some task
+  unfoldable pub someUnderB : ℕ → (ℕ → Bool) → Bool
+  someUnderB c q = anyBelow (p .tree .size)
+      (λ t. both (underB c t) (λ u. q t))
+
   unfoldable pub someTaskB : ℕ → (ℕ → Bool) → Bool
-  someTaskB c q = anyBelow (p .tree .size)
-      (λ t. both (underB c t) (λ u. both (kindB (p .tree .kind t) task) (λ u. q t)))
+  someTaskB c q = someUnderB c (λ t. both (kindB (p .tree .kind t) task) (λ u. q t))
 
   -- a before c, by chains of at most k + 1 orders
   unfoldable pub beforeIn : ℕ → ℕ → ℕ → Bool

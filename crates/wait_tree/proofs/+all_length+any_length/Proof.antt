@@ -1,7 +1,7 @@
 -- `all_length` and `any_length` meet their contracts, the distance from the node to the number of nodes falling: the
 -- children before i are worked out, with all under them.
 -- Assumes nothing.
-use mathlib.Core.Path.{_∙_}
+use mathlib.Core.Path.{sym, _∙_}
 use mathlib.Core.Logic.{⊎-elim}
 use Prim.Native.Nat.{ℕ, _-_, _<_}
 use native.Mathlib.Omega.{arith}
@@ -13,8 +13,8 @@ use Rattle.marks_row.specs.Segments.{Reached}
 use Rattle.marks_row.proofs.Turns.{at-segment, first-turn, position-small, kid-later, nearer, position, next-turn}
 use Rattle.marks_row.proofs.Turns.{last-turn}
 use Rattle.wait_group.proofs.Children.{at-group}
-use Rattle.wait_tree.proofs.Groups.{ChildrenTo, children-none, child-more, child-group, task-worked}
-use Rattle.wait_tree.proofs.Groups.{child-lengths, all-worked, any-worked}
+use Rattle.wait_tree.proofs.Groups.{ChildrenTo, children-none, child-more, task-worked, all-group}
+use Rattle.wait_tree.proofs.Groups.{any-group, child-lengths, all-worked, any-worked}
 use borrow.Fn.Kinds.{In}
 use borrow.Fn.PlainCycle.{Measures, is, falls, and}
 use Rattle.wait_tree.proofs.all_length.Reads as all-length
@@ -110,12 +110,12 @@ all-length-all-length-requires : (t : ℕ)
 all-length-all-length-requires t c κs =
     let l = c .before .before .before .before .before .before .before .before in
     let s = l .before .before .before in
-    let here = l .before .children .ensures in
     let at = position (l .loop .inv .0) (c .before .before .before .before .before .before .if1 .taken) in
-    let e = c .before .before .before .before .wide .ensures .0 in (
-      nearer (s .pre .0) (kid-later (at-group (s .pre .1 .0)) here at e),
+    let later = kid-later (at-group (s .pre .1 .0)) (l .before .children .ensures) at
+    (c .before .before .before .before .wide .ensures .0) in (
+      nearer (s .pre .0) later,
       (
-        child-group (s .pre .1 .0) here at e (c .before .before .before .kind .ensures)
+        all-group (s .pre .1 .0 .accepted) (s .pre .1 .0 .tree) (later .1) (c .before .before .before .kind .ensures)
             (c .before .before .if2 .taken),
         l .loop .inv .1 .tables,
       ),
@@ -127,12 +127,13 @@ all-length-any-length-requires : (t : ℕ)
 all-length-any-length-requires t c κs =
     let l = c .before .before .before .before .before .before .before .before .before in
     let s = l .before .before .before in
-    let here = l .before .children .ensures in
     let at = position (l .loop .inv .0) (c .before .before .before .before .before .before .before .if1 .taken) in
-    let e = c .before .before .before .before .before .wide .ensures .0 in (
-      nearer (s .pre .0) (kid-later (at-group (s .pre .1 .0)) here at e),
+    let later = kid-later (at-group (s .pre .1 .0)) (l .before .children .ensures) at
+    (c .before .before .before .before .before .wide .ensures .0) in (
+      nearer (s .pre .0) later,
       (
-        child-group (s .pre .1 .0) here at e (c .before .before .before .before .kind .ensures)
+        any-group (s .pre .1 .0 .accepted) (s .pre .1 .0 .tree) (later .1)
+            (c .before .before .before .before .kind .ensures) (c .before .before .before .if2 .left)
             (c .before .before .if3 .taken),
         l .loop .inv .1 .tables,
       ),
@@ -155,8 +156,7 @@ all-length-loop-again t c =
           (λ w.
           let below = kid-later (at-group (s .pre .1 .0)) (l .before .children .ensures) at e .1 in
           child-more e at (l .loop .inv .1) (w .2) (w .3)
-          (task-worked (s .pre .1 .0 .accepted) below (λ z. w .0 .left (k ∙ z)) (λ z. w .1 .left (k ∙ z))
-          (l .loop .inv .1 .tables))))
+          (task-worked (s .pre .1 .0 .accepted) below (sym k ∙ w .1 .left) (l .loop .inv .1 .tables))))
           (c .if2 .came),
     )
 
@@ -252,12 +252,12 @@ any-length-all-length-requires : (t : ℕ)
 any-length-all-length-requires t c κs =
     let l = c .before .before .before .before .before .before .before .before in
     let s = l .before .before .before in
-    let here = l .before .children .ensures in
     let at = position (l .loop .inv .0) (c .before .before .before .before .before .before .if1 .taken) in
-    let e = c .before .before .before .before .wide .ensures .0 in (
-      nearer (s .pre .0) (kid-later (at-group (s .pre .1 .0)) here at e),
+    let later = kid-later (at-group (s .pre .1 .0)) (l .before .children .ensures) at
+    (c .before .before .before .before .wide .ensures .0) in (
+      nearer (s .pre .0) later,
       (
-        child-group (s .pre .1 .0) here at e (c .before .before .before .kind .ensures)
+        all-group (s .pre .1 .0 .accepted) (s .pre .1 .0 .tree) (later .1) (c .before .before .before .kind .ensures)
             (c .before .before .if2 .taken),
         l .loop .inv .1 .tables,
       ),
@@ -269,12 +269,13 @@ any-length-any-length-requires : (t : ℕ)
 any-length-any-length-requires t c κs =
     let l = c .before .before .before .before .before .before .before .before .before in
     let s = l .before .before .before in
-    let here = l .before .children .ensures in
     let at = position (l .loop .inv .0) (c .before .before .before .before .before .before .before .if1 .taken) in
-    let e = c .before .before .before .before .before .wide .ensures .0 in (
-      nearer (s .pre .0) (kid-later (at-group (s .pre .1 .0)) here at e),
+    let later = kid-later (at-group (s .pre .1 .0)) (l .before .children .ensures) at
+    (c .before .before .before .before .before .wide .ensures .0) in (
+      nearer (s .pre .0) later,
       (
-        child-group (s .pre .1 .0) here at e (c .before .before .before .before .kind .ensures)
+        any-group (s .pre .1 .0 .accepted) (s .pre .1 .0 .tree) (later .1)
+            (c .before .before .before .before .kind .ensures) (c .before .before .before .if2 .left)
             (c .before .before .if3 .taken),
         l .loop .inv .1 .tables,
       ),
@@ -297,8 +298,7 @@ any-length-loop-again t c =
           (λ w.
           let below = kid-later (at-group (s .pre .1 .0)) (l .before .children .ensures) at e .1 in
           child-more e at (l .loop .inv .1) (w .2) (w .3)
-          (task-worked (s .pre .1 .0 .accepted) below (λ z. w .0 .left (k ∙ z)) (λ z. w .1 .left (k ∙ z))
-          (l .loop .inv .1 .tables))))
+          (task-worked (s .pre .1 .0 .accepted) below (sym k ∙ w .1 .left) (l .loop .inv .1 .tables))))
           (c .if2 .came),
     )
 
