@@ -13,7 +13,7 @@ use Rattle.runs.specs.Execution.{lastAsserted, skip}
 use Rattle.runs.specs.Summary.{TaskWith, ExternalPre, ExternalPost, Incondition}
 use Rattle.runs.proofs.Reflect.{clash}
 use Rattle.runs.proofs.Plan.Trees.{Branch, branch, child-under, under-trans}
-use Rattle.runs.specs.Classes.{All, all-nil, all-cons, Neutral, Covers, MayMeet}
+use Rattle.runs.specs.Classes.{All, all-nil, all-cons, Neutral, Covers}
 use Rattle.runs.proofs.Summary.Meet.{meet-any, meet-optional}
 use Rattle.runs.proofs.Summary.MayMust.{may-any, must-any, may-optional, may-branch, must-never}
 use Rattle.runs.proofs.Summary.ByChildren.{avoids-skip, neutral-skip, covers-skip, pre-skip, post-skip, inc-skip}

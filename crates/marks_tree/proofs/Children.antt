@@ -160,7 +160,8 @@ module _ {kind conds rows : List ℕ} where
       at p w k c t l n q (no ne) = h .right p w k c t (omega arith) n q
 
 -- all nodes, once the root is worked out
-pub all-nodes : {kind from kids order conds rows rows′ : List ℕ} {n : ℕ} {K : Kind → Type 0} → TasksFilled kind conds rows n
+pub all-nodes : {kind from kids order conds rows rows′ : List ℕ} {n : ℕ} {K : Kind → Type 0}
+    → TasksFilled kind conds rows n
     → OfKind kind 0 K
     → Filled K kind from kids order rows rows′ n 0 → AllFilled kind from kids order conds rows′ n
 all-nodes {kind} {from} {kids} {order} {conds} {rows} {n = n} t is x = record {

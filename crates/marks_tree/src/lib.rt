@@ -97,7 +97,8 @@ fn all_of(
     node: usize,
 )
     requires { ⌜ AtGroup (now from) (now kids) n node × (length (now rows) ≡ 2688) ⌝ }
-    ensures { λ r. ⌜ Filled (λ k. k ≡ all-of) (now (kind .entry)) (now (from .entry)) (now (kids .entry)) (now (order .entry))
+    ensures { λ r. ⌜ Filled (λ k. k ≡ all-of) (now (kind .entry)) (now (from .entry)) (now (kids .entry))
+        (now (order .entry))
         (now (rows .entry)) (now (rows .exit)) n node ⌝ }
 {
     let segment = children(from, node);

@@ -1,7 +1,7 @@
 -- The plan that accepted bytes mean: its conditions and orders are those of the bytes, and it is `Accepted`. Assumes
 -- nothing.
 use mathlib.Core.Path.{_≡_, refl, ap, _∙_, sym}
-use mathlib.Core.Logic.{_⊎_, inl, inr, ⊎-elim, by-cases, _≢_}
+use mathlib.Core.Logic.{⊎-elim, by-cases, _≢_}
 use mathlib.Core.Bool.{Bool, true, false, cond, not, _&&_, _||_, true≢false, or-true}
 use mathlib.Core.List.{List}
 use mathlib.Core.Option.{some, none}

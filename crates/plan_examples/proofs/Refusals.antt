@@ -1,5 +1,5 @@
--- Refusals of small plans (01: trial books), computed. Most rows change single bytes of book B; in some its choice is an
--- optional group, of kind 3 (02). Assumes nothing.
+-- Refusals of small plans (01: trial books), computed. Most rows change single bytes of book B; in some its choice is
+-- an optional group, of kind 3 (02). Assumes nothing.
 use mathlib.Core.Path.{_≡_, refl}
 use mathlib.Core.Bool.{Bool, true, _&&_}
 use mathlib.Core.List.{List, [], _∷_, _++_}

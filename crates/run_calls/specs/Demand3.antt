@@ -33,8 +33,8 @@ Bytes b = (i : ℕ) → getD b i 0 < 256
 abbrev pub GroupByte : List ℕ → List ℕ → ℕ → Type 0
 GroupByte b z g = (nodeByte z g ≡ 0) ⊎ ((isKind b g 3 ≡ true) × (nodeByte z g ≡ 2))
 
--- the bytes z show the states a: they pass all checks, the first 8 + 3N are those of a, with 0 at each group that is not
--- skipped, and each later byte is as it was in s, before fresh
+-- the bytes z show the states a: they pass all checks, the first 8 + 3N are those of a, with 0 at each group that is
+-- not skipped, and each later byte is as it was in s, before fresh
 pub record Shows (b s : List ℕ) (a : World) (z : List ℕ) : Type 0 where
   pub well-formed : stateRefusal b z ≡ 0
   pub states : worldOf b z ≡ a

@@ -7,7 +7,7 @@ use mathlib.Core.Option.{Option, some, none, Option·getD}
 use Prim.Native.Nat.{ℕ}
 use native.Mathlib.Decide.{ℕ-discrete}
 use Rattle.plan_check.specs.Meaning.{planOf}
-use Rattle.runs.specs.Execution.{Event, nodeOf, moved, asserts}
+use Rattle.runs.specs.Execution.{Event, moved, asserts}
 use Rattle.runs.specs.Calls.{one, counted, numbered, Refusal, World}
 use Rattle.runs.specs.Model.Monitor.{returned, refusalOf, step, code, settle}
 use Rattle.runs.proofs.Calls.First.{code-inj}
@@ -25,8 +25,8 @@ settled : (o : Option Refusal) (old new : World) → (code o ≡ 0 → ⊥) → 
 settled none old new h = absurd (h refl)
 settled (some r) old new h = refl
 
--- after a start, a finish or a skip, accepted or refused, the state passes all checks and shows the states that 01 works
--- out
+-- after a start, a finish or a skip, accepted or refused, the state passes all checks and shows the states that 01
+-- works out
 pub record Stepped (b s : List ℕ) (e : Event) : Type 0 where
   pub well-formed : stateRefusal b (eventState b s e) ≡ 0
   pub shows : worldOf b (eventState b s e) ≡ step (planOf b) (worldOf b s) (one e)

@@ -7,7 +7,8 @@ use mathlib.Core.List.{List, _++_}
 use mathlib.Core.Option.{Option, some, none, Option·getD}
 use Prim.Native.Nat.{ℕ, zero, suc, _+_, _-_, _/_, _<_, _≤_}
 use native.Mathlib.Omega.{arith}
-use lib.ListN.{length, getD, take, drop, set, length-set, length-append, length-drop, List·getD-append, take-append-drop}
+use lib.ListN.{length, getD, take, drop, set, length-set, length-append, length-drop, List·getD-append}
+use lib.ListN.{take-append-drop}
 use lib.Seq.{getD-set-same, getD-set-other, getD-append-add, getD-drop, length-take-le}
 use Rattle.run_flags.specs.Flags.{flagIn}
 use Rattle.run_flags.proofs.Laws.{same-byte, in-first}

@@ -1,5 +1,5 @@
--- What the pass over the nodes counts: children that are begun; incomplete children of an all-of group, complete ones of
--- another.
+-- What the pass over the nodes counts: children that are begun; incomplete children of an all-of group, complete ones
+-- of another.
 use Prim.Native.Nat.{ℕ, _<_}
 use mathlib.Core.Path.{_≡_}
 use mathlib.Core.Bool.{Bool, not, _&&_}

@@ -98,7 +98,8 @@ finish-chain false false true = refl
 finish-chain false false false = refl
 
 skip-chain : (a b c d : Bool) → code
-    (orElse a no-optional (λ u. orElse b wrong-status (λ u. orElse c branch-begun (λ u. orElse d order-open (λ u. none)))))
+    (orElse a no-optional (λ u. orElse b wrong-status
+    (λ u. orElse c branch-begun (λ u. orElse d order-open (λ u. none)))))
     ≡ cond a 27 (cond b 18 (cond c 19 (cond d 20 0)))
 skip-chain true b c d = refl
 skip-chain false true c d = refl
@@ -120,7 +121,8 @@ module _ (b s : List ℕ) (ok : stateRefusal b s ≡ 0) where
   }
 
   task-is : (t : ℕ) → isKind b t 0 ≡ taskB (planOf b) t
-  task-is t = same-test _ _ (r-map (λ x. record { node = x .0; is-task = x .1 }, λ x. (x .node, x .is-task)) (r-kind t task))
+  task-is t =
+      same-test _ _ (r-map (λ x. record { node = x .0; is-task = x .1 }, λ x. (x .node, x .is-task)) (r-kind t task))
       (r-task (planOf b) (well-formed b s ok) t)
 
   optional-is : (g : ℕ) → isKind b g 3 ≡ optionalB (planOf b) g
@@ -205,7 +207,8 @@ module _ (b s : List ℕ) (ok : stateRefusal b s ≡ 0) where
     skip-27 y = sym (skips ∙ rw y)
 
     -- 18: the group is begun
-    wrong-is : isKind b g 3 ≡ true → wrongStatusB (planOf b) (statusIn b s) (skip g) ≡ begunB (planOf b) (statusIn b s) g
+    wrong-is : isKind b g 3 ≡ true → wrongStatusB (planOf b) (statusIn b s) (skip g) ≡ begunB (planOf b)
+        (statusIn b s) g
     unfolding appliesB worldOf
     wrong-is y = let x = r-kind g optional .to (true-T _ y) in
         same-test _ _ (r-map (skip-begun (planOf b) (x .1))

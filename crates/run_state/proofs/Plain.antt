@@ -1,18 +1,18 @@
 -- Plans without optional groups (no node of kind 3), those of 01: what the tests of their bytes and of their states say
 -- is what 01 says. Assumes nothing.
-use mathlib.Core.Path.{_≡_, refl, sym, ap, _∙_}
+use mathlib.Core.Path.{_≡_, sym, ap, _∙_}
 use mathlib.Core.Logic.{by-cases}
-use mathlib.Core.Bool.{Bool, true, false, cond, not, _&&_, _||_, true≢false, or-false}
+use mathlib.Core.Bool.{false, cond, not, _&&_, _||_, or-false}
 use mathlib.Core.List.{List}
 use Prim.Native.Nat.{ℕ, _<_, _≤_}
 use native.Mathlib.Decide.{decLt}
 use native.Mathlib.Omega.{arith}
 use lib.Dec.{eqb, ltb}
-use borrow.Author.Tests.{lt-ltb, le-ltb, not-true}
+use borrow.Author.Tests.{lt-ltb, le-ltb}
 use Rattle.plan_format.specs.Format.{nodeCount, kindOf, minutesOf, isKind, isGroup, isChoice}
 use Rattle.plan_rules.specs.Rules.{badEntry}
 use Rattle.plan_check.specs.Meaning.{planOf}
-use Rattle.plan_check.proofs.Meaning.{kind-of, kind-number}
+use Rattle.plan_check.proofs.Meaning.{kind-number}
 use Rattle.plan_check.proofs.Nodes.{node-is, plan-kind, other-kind}
 use Rattle.runs.specs.Plan.{optional, kindNumber}
 use Rattle.runs.specs.Execution.{waiting}
@@ -54,4 +54,5 @@ module _ (b : List ℕ) (plain : (n : ℕ) → isKind b n 3 ≡ false) where
   pub plain-plan : ((n : ℕ) → n < nodeCount b → kindOf b n ≤ 3) → Plain (planOf b)
   plain-plan limit n l k =
       let m = node-is b n l in
-      other-kind b n 3 m (plain n) (sym (kind-number (kindOf b n) (limit n m)) ∙ ap kindNumber (sym (plan-kind b n) ∙ k))
+      other-kind b n 3 m (plain n) (sym (kind-number (kindOf b n) (limit n m)) ∙ ap kindNumber
+      (sym (plan-kind b n) ∙ k))

@@ -1,7 +1,7 @@
 -- What the fresh state shows, and that it is well formed. Assumes nothing.
 use mathlib.Core.Path.{_≡_, refl, sym, _∙_, fun-ext}
 use mathlib.Core.Logic.{by-cases, ⊎-elim}
-use mathlib.Core.Bool.{Bool, true, false, cond, and-false, true≢false}
+use mathlib.Core.Bool.{Bool, true, false, cond, and-false}
 use mathlib.Core.List.{List}
 use Prim.Native.Nat.{ℕ, _+_, _*_, _/_, _<_, _≤_}
 use native.Mathlib.Decide.{decLt}

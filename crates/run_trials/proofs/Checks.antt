@@ -85,7 +85,8 @@ word-of UNFINISHED false e = refl
 unfoldable pub allWordedB : List Worded → Bool
 allWordedB [] = true
 allWordedB (c ∷ l) = both (eqb (stateRefusal (bytesOf (c .plan)) (c .state)) 0)
-    (λ u. both (sameB (completeIs (c .word)) (completeB (planOf (bytesOf (c .plan))) (statusIn (bytesOf (c .plan)) (c .state)) 0))
+    (λ u. both (sameB (completeIs (c .word))
+    (completeB (planOf (bytesOf (c .plan))) (statusIn (bytesOf (c .plan)) (c .state)) 0))
     (λ u. allWordedB l))
 
 pub all-worded : (l : List Worded) → T (allWordedB l) → AllWorded l

@@ -309,9 +309,11 @@ of-skips =
     ∷ [])
     (stateBytes none-set (waits 6) (none 6))
     -- a choice of a task and an optional group
-    ∷ trial (nested any-of optional) CLEAR [] (drop 2 ∷ begin 1 ∷ begin 3 ∷ []) (ok ∷ number branch-begun ∷ number branch-begun ∷ [])
+    ∷ trial (nested any-of optional) CLEAR [] (drop 2 ∷ begin 1 ∷ begin 3 ∷ [])
+    (ok ∷ number branch-begun ∷ number branch-begun ∷ [])
     (stateBytes none-set (waiting ∷ waiting ∷ done ∷ waiting ∷ []) (none 4))
-    ∷ trial (nested any-of optional) CLEAR [] (begin 1 ∷ drop 2 ∷ drop 0 ∷ []) (ok ∷ number branch-begun ∷ number no-optional ∷ [])
+    ∷ trial (nested any-of optional) CLEAR [] (begin 1 ∷ drop 2 ∷ drop 0 ∷ [])
+    (ok ∷ number branch-begun ∷ number no-optional ∷ [])
     (stateBytes none-set (waiting ∷ running ∷ waiting ∷ waiting ∷ []) (0 ∷ 1 ∷ 0 ∷ 0 ∷ []))
     -- an optional root
     ∷ trial (nested optional any-of) CLEAR [] (drop 0 ∷ begin 1 ∷ begin 3 ∷ drop 0 ∷ drop 2 ∷ [])
@@ -330,7 +332,8 @@ of-skips =
     (stateBytes (only 0) (waiting ∷ done ∷ done ∷ waiting ∷ []) (0 ∷ 1 ∷ 0 ∷ 0 ∷ []))
     ∷ []
 
--- 16 on states of the dive after LOWR: x is the byte of the calibration, y that of the root, k the place of the calibration
+-- 16 on states of the dive after LOWR: x is the byte of the calibration, y that of the root, k the place of the
+-- calibration
 abbrev dived : ℕ → ℕ → ℕ → ℕ → Checked
 dived x y k r = record {
   plan = dive;

@@ -1,7 +1,8 @@
--- Plans without optional groups, those of 01: their free runs, whole free runs and refusals are the ones that 01 defines
--- without 02's skips, and a skip call changes nothing.
-use Rattle.runs.proofs.Base.{_≡_, refl, sym, _∙_, _≢_, _⊎_, inl, inr, _↔_, [], _∷_, ℕ, T}
-use Rattle.runs.specs.Plan.{Kind, task, all-of, any-of, optional, Picks, Moves, Plan, Node, Child, Under, WellFormed}
+-- Plans without optional groups, those of 01: their free runs, whole free runs and refusals are the ones that 01
+-- defines without 02's skips, and a skip call changes nothing.
+use Rattle.runs.proofs.Base.{_≡_, refl, sym, _≢_, inl, inr, _↔_, [], _∷_, ℕ, T}
+use Rattle.runs.specs.Plan.{Kind, task, all-of, any-of, optional, Picks, Moves, Plan, Node, Child, Under}
+use Rattle.runs.specs.Plan.{WellFormed}
 use Rattle.runs.specs.Execution.{waiting, running, done, State, Event, start, finish, skip, History, statusAfter}
 use Rattle.runs.specs.Execution.{task-done, all-done, any-done, skip-done, Complete, Begun, Rival, by-branch}
 use Rattle.runs.specs.Execution.{by-skip, Ready, Enabled, can-start, can-finish, can-skip, Execution, none-yet}

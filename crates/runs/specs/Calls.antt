@@ -8,8 +8,8 @@ use mathlib.Core.List.{List, [], _∷_, _++_}
 use Prim.Native.Nat.{ℕ, suc}
 use lib.Dec.{T, eqb}
 use Rattle.runs.specs.Plan.{task, optional, Picks, inc, Plan, Node, Child, Under}
-use Rattle.runs.specs.Execution.{Status, waiting, running, done, State, Event, start, finish, skip, History, nodeOf}
-use Rattle.runs.specs.Execution.{moved, Complete, Begun, Rival, preOf, asserts}
+use Rattle.runs.specs.Execution.{Status, waiting, running, done, State, Event, start, finish, skip, History}
+use Rattle.runs.specs.Execution.{nodeOf, moved, Complete, Begun, Rival, preOf, asserts}
 
 -- a call asks for an event of any number
 pub data Call : Type 0 where
@@ -19,9 +19,9 @@ pub data Call : Type 0 where
 abbrev pub events : Call → History
 events (one e) = e ∷ []
 
--- the states that 01 works out from the book and the calls: the status of each task, the value of each flag; 02: which optional groups are
--- skipped, and the order of starts: how many there were, and the ordinal (02: place) of each node's start among them,
--- from 1, or 0 for a node not started
+-- the states that 01 works out from the book and the calls: the status of each task, the value of each flag; 02: which
+-- optional groups are skipped, and the order of starts: how many there were, and the ordinal (02: place) of each node's
+-- start among them, from 1, or 0 for a node not started
 pub record World : Type 0 where
   pub status : State
   pub flag : ℕ → Bool
@@ -32,7 +32,8 @@ pub record World : Type 0 where
 abbrev pub fresh : (ℕ → Bool) → World
 fresh F = record { status = λ x. waiting; flag = F; starts = 0; ordinal = λ x. 0 }
 
--- the number of starts after one event more, and the ordinals: a start takes the next one, a finish or a skip takes none
+-- the number of starts after one event more, and the ordinals: a start takes the next one, a finish or a skip takes
+-- none
 abbrev pub counted : ℕ → Event → ℕ
 counted n (start t) = suc n
 counted n (finish t) = n

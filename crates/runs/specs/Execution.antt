@@ -119,7 +119,8 @@ module _ (p : Plan) where
     pub complete : Complete (statusAfter h) n
 
 -- the sign of an event's precondition on a flag, and of what it asserts there: a start makes its inconditions true, a
--- finish its postconditions (01's need, hold, leaving; to touch a flag is to assert something of it); a skip has neither
+-- finish its postconditions (01's need, hold, leaving; to touch a flag is to assert something of it); a skip has
+-- neither
 abbrev pub preOf : Conditions → Event → ℕ → Option Bool
 preOf c (start t) f = c .sign pre t f
 preOf c (finish t) f = none

@@ -82,8 +82,8 @@ module _ (p : Plan) where
   abbrev pub Silent : ℕ → ℕ → Type 0
   Silent f b = (e : Event) → p .tree .kind (nodeOf e) ≡ task → Under p b (nodeOf e) → asserts p e f ≡ none
 
-  -- mark 7, "doom", a rule: it suffices for every whole free run to fail, and is not necessary for it (an optional group never has it, for its branch
-  -- without tasks has not)
+  -- mark 7, "doom", a rule: it suffices for every whole free run to fail, and is not necessary for it (an optional
+  -- group never has it, for its branch without tasks has not)
   pub data MustClobber (f : ℕ) (v : Bool) : ℕ → Type 0 where
     by-any-of : {n : ℕ} → p .tree .kind n ≡ any-of → ((c : ℕ) → Child p n c → MustClobber f v c) → MustClobber f v n
     by-child : {n : ℕ} → p .tree .kind n ≡ all-of → (c : ℕ) → Child p n c → MustClobber f v c

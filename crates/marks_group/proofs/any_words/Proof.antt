@@ -46,7 +46,8 @@ loop-again c =
 returns : tie.Need-returns Inv-loop μ-loop
 returns c = let l = c .before .before .before .before in
     λ p n g m e. optional-row g (is-optional _ (sym (c .before .if2 .taken) ∙ e))
-    (rw (last-turn (l .loop .inv .0) (c .before .before .if1 .left)) at (l .loop .inv .1 p n g)) (c .with-empty .ensures)
+    (rw (last-turn (l .loop .inv .0) (c .before .before .if1 .left)) at (l .loop .inv .1 p n g))
+    (c .with-empty .ensures)
 
 returns-2 : tie.Need-returns-2 Inv-loop μ-loop
 returns-2 c = let l = c .before .before .before in

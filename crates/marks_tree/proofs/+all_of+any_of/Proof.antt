@@ -122,7 +122,8 @@ all-of-loop-again t c =
     let e = c .before .before .wide .ensures .0 in (
       next-turn turn test,
       ⊎-elim (λ w. child-more _ _ _ _ _ _ _ z e at (l .loop .inv .1) (w .3) (is-all _ _ (w .0 .taken)) (w .2 .ensures))
-          (⊎-elim (λ w. child-more _ _ _ _ _ _ _ z e at (l .loop .inv .1) (w .4) (is-choice _ _ (w .0 .left) (w .1 .taken)) (w .3 .ensures))
+          (⊎-elim (λ w. child-more _ _ _ _ _ _ _ z e at (l .loop .inv .1) (w .4)
+          (is-choice _ _ (w .0 .left) (w .1 .taken)) (w .3 .ensures))
           (λ w. child-more _ _ _ _ _ _ _ z e at (l .loop .inv .1) (w .2) (is-task _ _ (w .1 .left))
           (task-filled (l .loop .inv .1 .long))))
           (c .if2 .came),
@@ -227,14 +228,16 @@ any-of-loop-again t c =
     let e = c .before .before .wide .ensures .0 in (
       next-turn turn test,
       ⊎-elim (λ w. child-more _ _ _ _ _ _ _ z e at (l .loop .inv .1) (w .3) (is-all _ _ (w .0 .taken)) (w .2 .ensures))
-          (⊎-elim (λ w. child-more _ _ _ _ _ _ _ z e at (l .loop .inv .1) (w .4) (is-choice _ _ (w .0 .left) (w .1 .taken)) (w .3 .ensures))
+          (⊎-elim (λ w. child-more _ _ _ _ _ _ _ z e at (l .loop .inv .1) (w .4)
+          (is-choice _ _ (w .0 .left) (w .1 .taken)) (w .3 .ensures))
           (λ w. child-more _ _ _ _ _ _ _ z e at (l .loop .inv .1) (w .2) (is-task _ _ (w .1 .left))
           (task-filled (l .loop .inv .1 .long))))
           (c .if2 .came),
     )
 
 any-of-element-copy-out-kind : (t : ℕ)
-    → any-of-lts.Need-element-copy-out-any-words (any-of-claims t) (any-of-at t) any-of.Post any-of-Inv-loop any-of-μ-loop
+    → any-of-lts.Need-element-copy-out-any-words (any-of-claims t)
+    (any-of-at t) any-of.Post any-of-Inv-loop any-of-μ-loop
 any-of-element-copy-out-kind t c =
     let s = c .before .before .before .before in
     omega (arith, s .pre .1 .0 .shaped .small, s .pre .1 .0 .below)

@@ -5,7 +5,8 @@ use Rattle.marks_tree.proofs.node_rows.Statement.{statement}
 use Rattle.marks_tree.proofs.node_rows.Tie as tie
 
 returns : tie.Need-returns
-returns c = all-nodes (c .before .before .before .before .task-rows .ensures) (is-all _ _ (c .before .before .if1 .taken))
+returns c =
+    all-nodes (c .before .before .before .before .task-rows .ensures) (is-all _ _ (c .before .before .if1 .taken))
     (c .all-of .ensures)
 
 returns-2 : tie.Need-returns-2

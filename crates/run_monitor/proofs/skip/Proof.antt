@@ -19,12 +19,14 @@ passed : (c : tie.Else1) → stateRefusal (now (c .before .before .before .befor
     (now (c .before .before .before .before .before .args .state)) ≡ 0
 passed c = sym (c .before .check-state .ensures) ∙ c .if1 .left
 
-none : (c : tie.Else2) → eventRefusal (now (c .before .before .before .before .before .before .before .before .args .plan))
+none : (c : tie.Else2) → eventRefusal (now
+    (c .before .before .before .before .before .before .before .before .args .plan))
     (now (c .before .before .before .before .before .before .before .before .args .state))
     (execution.skip (c .before .before .before .before .before .before .before .before .args .group)) ≡ 0
 none c = sym (c .before .skip-refused .ensures) ∙ c .if2 .left
 
-group-below : (c : tie.Else2) → c .before .before .before .before .before .before .before .before .args .group < nodeCount
+group-below : (c : tie.Else2)
+    → c .before .before .before .before .before .before .before .before .args .group < nodeCount
     (now (c .before .before .before .before .before .before .before .before .args .plan))
 group-below c = kind-is _ _ 3 (skip-optional _ _ (passed (c .before .before .before)) _ (none c)) .0
 

@@ -1,7 +1,6 @@
 -- `skip_refused` meets its contract. Assumes nothing.
 use mathlib.Core.Path.{_≡_, sym, _∙_}
 use mathlib.Core.Bool.{true}
-use Prim.Native.Nat.{_<_}
 use denote.Ref.{now}
 use borrow.Author.Needs.{needs}
 use borrow.Author.Tests.{not-true, not-false}
@@ -27,7 +26,8 @@ is-begun-requires c κs =
     (l, (s .pre, c .before .children .ensures .1 _ (node-small _ _ (s .pre) _ l)))
 
 returns-2 : tie.Need-returns-2
-returns-2 c = skip-18 _ _ (c .before .before .before .before .before .before .before .before .pre) _ (is-optional (c .before .before .before .before))
+returns-2 c = skip-18 _ _ (c .before .before .before .before .before .before .before .before .pre) _
+    (is-optional (c .before .before .before .before))
     (sym (c .before .is-begun .ensures) ∙ c .if2 .taken)
 
 tree-refused-requires : tie.Need-tree-refused-requires
@@ -38,7 +38,8 @@ tree-refused-requires c κs =
     )
 
 returns-3 : tie.Need-returns-3
-returns-3 c = skip-tree _ _ (c .before .before .before .before .before .before .before .before .before .before .pre) _ (is-optional (c .before .before .before .before .before .before))
+returns-3 c = skip-tree _ _ (c .before .before .before .before .before .before .before .before .before .before .pre) _
+    (is-optional (c .before .before .before .before .before .before))
     (sym (c .before .before .before .is-begun .ensures) ∙ c .before .before .if2 .left) _ (c .tree-refused .ensures)
 
 pub skip-refused-spec : {M : Type 1} → statement M

@@ -17,7 +17,8 @@ opens : (c : tie.After-order-open)
     (statusIn (now (c .before .before .before .before .before .before .before .before .before .args .plan))
     (now (c .before .before .before .before .before .before .before .before .before .args .state)))
     (c .before .before .before .before .before .before .before .before .before .args .node)
-opens c = c .order-open .ensures ∙ open-is _ _ (c .before .before .before .before .before .before .before .before .before .pre .0 .passed) _
+opens c = c .order-open .ensures ∙ open-is _ _
+    (c .before .before .before .before .before .before .before .before .before .pre .0 .passed) _
     _ (c .before .before .before .path .ensures .1)
 
 returns : tie.Need-returns
@@ -28,11 +29,13 @@ path-requires c κs = let s = c .before .before .before .before .before in
     (s .pre .0 .node, has-room _ _ (s .pre .0 .passed) .accepted)
 
 returns-2 : tie.Need-returns-2
-returns-2 c = tree-20 _ _ _ (sym (c .before .before .before .before .before .before .before .branch-begun .ensures) ∙ c .before .before .before .before .before .before .if1 .left)
+returns-2 c = tree-20 _ _ _ (sym (c .before .before .before .before .before .before .before .branch-begun .ensures)
+    ∙ c .before .before .before .before .before .before .if1 .left)
     (sym (opens (c .before)) ∙ c .if2 .taken)
 
 returns-3 : tie.Need-returns-3
-returns-3 c = tree-none _ _ _ (sym (c .before .before .before .before .before .before .before .branch-begun .ensures) ∙ c .before .before .before .before .before .before .if1 .left)
+returns-3 c = tree-none _ _ _ (sym (c .before .before .before .before .before .before .before .branch-begun .ensures)
+    ∙ c .before .before .before .before .before .before .if1 .left)
     (sym (opens (c .before)) ∙ c .if2 .left)
 
 pub tree-refused-spec : {M : Type 1} → statement M

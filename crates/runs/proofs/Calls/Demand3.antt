@@ -1,10 +1,9 @@
 -- Demand 3 holds of every well-formed plan, whatever flags are set at the start; and the same for what computes.
-use Rattle.runs.proofs.Base.{_≡_, refl, sym, ap, _∙_, _≢_, _⊎_, inl, inr, _↔_, Bool, Option, none, some, List, []}
-use Rattle.runs.proofs.Base.{_∷_, Among, ℕ, _≤_, arith}
+use Rattle.runs.proofs.Base.{_≡_, refl, sym, ap, _∙_, _≢_, _⊎_, inl, inr, _↔_, Bool, Option, none, some, List}
+use Rattle.runs.proofs.Base.{[], _∷_, Among, ℕ, _≤_, arith}
 use Rattle.runs.specs.Plan.{Kind, task, all-of, any-of, optional, Moves, Place, inc, post, Plan, Node, WellFormed}
-use Rattle.runs.specs.Execution.{Status, waiting, running, done, Event, start, finish, skip, History, statusAfter, Complete}
-use Rattle.runs.specs.Execution.{lastAssertedOf, asserts}
-use Rattle.runs.specs.Execution.{Execution, lastAsserted}
+use Rattle.runs.specs.Execution.{Status, waiting, running, done, Event, start, finish, skip, History, statusAfter}
+use Rattle.runs.specs.Execution.{Complete, lastAssertedOf, asserts, Execution, lastAsserted}
 use Rattle.runs.specs.Verdict.{Clear, Doomed}
 use Rattle.runs.specs.Calls.{Call, World, fresh, Refusal, pre-unmet, inc-broken, number, Task, Optional, Worked}
 use Rattle.runs.specs.Demand3.{NoViolation, WaitsOrSkipped, Demand3}
@@ -80,7 +79,8 @@ module _ (p : Plan) (w : WellFormed p) (F : ℕ → Bool) where
           at : (s : Status) → statusAfter h x ≡ s → WaitsOrSkipped p x (statusAfter h)
           at waiting q = inl q
           at running q = absurd (n (record { node = is-node (running-moved q); is-task = running-task p w f x q }))
-          at done q = let k = done-moved q in inr (skipped (p .tree .kind x) refl (moved-moves p w f x k) (is-node k), q)
+          at done q =
+              let k = done-moved q in inr (skipped (p .tree .kind x) refl (moved-moves p w f x k) (is-node k), q)
 
   -- a flag past the plan's keeps its start bit
   pub others-keep : (cs : List Call) (f : ℕ) → p .cond .flags ≤ f → states p (fresh F) cs .flag f ≡ F f

@@ -6,9 +6,8 @@ use Rattle.runs.proofs.Base.{_∷_, _++_, ℕ, T, eqb}
 use Rattle.runs.specs.Tests.{either}
 use Rattle.runs.specs.Plan.{Plan, WellFormed}
 use Rattle.runs.specs.Calls.{Call, events, World, happenAll, Refusal, no-task, wrong-status, branch-begun}
-use Rattle.runs.specs.Calls.{order-open, pre-unmet, inc-broken}
-use Rattle.runs.specs.Calls.{no-optional, number, Applies, checks, First, None, Answered, accepted, refused, Worked, no-calls}
-use Rattle.runs.specs.Calls.{next-call, Refusal-discrete}
+use Rattle.runs.specs.Calls.{order-open, pre-unmet, inc-broken, no-optional, number, Applies, checks, First, None}
+use Rattle.runs.specs.Calls.{Answered, accepted, refused, Worked, no-calls, next-call, Refusal-discrete}
 use Rattle.runs.specs.Model.Monitor.{appliesB, orElse, firstOf, code, settle, refusalOf, returned, step, returns}
 use Rattle.runs.specs.Model.Monitor.{states}
 use Rattle.runs.proofs.Reflect.{r-either, r-decide, r-T, clash, Reflects}

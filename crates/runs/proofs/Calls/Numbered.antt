@@ -1,7 +1,8 @@
 -- The ordinals of starts: after any list of calls, a task's ordinal is the position of its start among the accepted
 -- starts of the list.
-use Rattle.runs.proofs.Base.{_≡_, refl, sym, ap, _∙_, _≢_, _⊎_, inl, inr, _↔_, Bool, false, none, some, List, [], _∷_, _++_, append-nil}
-use Rattle.runs.proofs.Base.{append-assoc, ℕ, suc, _<_, arith, ℕ-discrete, eqb, getD, length}
+use Rattle.runs.proofs.Base.{_≡_, refl, sym, ap, _∙_, _≢_, _⊎_, inl, inr, _↔_, Bool, false, none, some, List, []}
+use Rattle.runs.proofs.Base.{_∷_, _++_, append-nil, append-assoc, ℕ, suc, _<_, arith, ℕ-discrete, eqb, getD}
+use Rattle.runs.proofs.Base.{length}
 use mathlib.Core.Logic.{by-cases}
 use native.Mathlib.Decide.{decLt}
 use lib.ListN.{length-append, List·getD-append}
@@ -119,7 +120,8 @@ module _ (p : Plan) where
   worked-numbered l (next-call {a = a} {c = one (finish t)} (accepted k) w) h =
       worked-numbered l w (finish-numbered p l a h t (k .0) (found (Status-discrete _ _) (k .1 .0)))
   worked-numbered l (next-call {a = a} {c = one (skip g)} (accepted k) w) h =
-      worked-numbered l w (skip-numbered p l a h g (λ y. k .0 (λ o. let q = sym (y .is-task) ∙ o .is-optional in clash cc)))
+      worked-numbered l w (skip-numbered p l a h g
+      (λ y. k .0 (λ o. let q = sym (y .is-task) ∙ o .is-optional in clash cc)))
   worked-numbered l (next-call (refused r k) w) h = rw (number-some r) (worked-numbered l w h)
 
   -- and after no start

@@ -1,7 +1,6 @@
 -- The tests for the refusals reflect the rows of 01's and 02's table, on any states.
-use Rattle.runs.proofs.Base.{_≡_, refl, sym, ap, _∙_, _≢_, _⊎_, inl, inr, Bool, true, false, not, Option, none, some, ℕ, zero}
-use Rattle.runs.proofs.Base.{suc, _+_, _<_, _≤_}
-use Rattle.runs.proofs.Base.{arith, T}
+use Rattle.runs.proofs.Base.{_≡_, refl, sym, ap, _∙_, _≢_, _⊎_, inl, inr, Bool, true, false, not, Option, none}
+use Rattle.runs.proofs.Base.{some, ℕ, zero, suc, _+_, _<_, _≤_, arith, T}
 use Rattle.runs.specs.Plan.{any-of, optional, Picks, Moves, inc, Plan, Node, Child, Under, WellFormed}
 use Rattle.runs.specs.Execution.{Status, waiting, running, done, State, Event, start, finish, skip, nodeOf}
 use Rattle.runs.specs.Execution.{task-done, all-done, any-done, skip-done}
@@ -12,11 +11,12 @@ use Rattle.runs.specs.Calls.{Task, Optional, WrongStatus, BranchBegun, O
 use Rattle.runs.specs.Model.Monitor.{statusB, oppositeB, taskB, optionalB, completeIn, completeB, begunB, rivalB}
 use Rattle.runs.specs.Model.Monitor.{wrongStatusB, branchBegunB, orderOpenB}
 use Rattle.runs.specs.Model.Monitor.{preUnmetB, incBrokenB, appliesB}
-use Rattle.runs.proofs.Reflect.{clash, Reflects, r-map, r-both, r-either, r-guarded, r-negate, r-any, r-T, r-decide, r-eq}
-use Rattle.runs.proofs.Reflect.{r-some}
-use Rattle.runs.proofs.Plan.{child-lt, r-kind, r-picks, r-moves, r-by-kind, r-some-child, r-every-child, r-some-under}
-use Rattle.runs.proofs.Plan.{r-under}
-use Rattle.runs.proofs.Execution.{picks-any, picks-optional, complete-task, complete-all, PickDone, branch-done, group-skipped, complete-pick}
+use Rattle.runs.proofs.Reflect.{clash, Reflects, r-map, r-both, r-either, r-guarded, r-negate, r-any, r-T}
+use Rattle.runs.proofs.Reflect.{r-decide, r-eq, r-some}
+use Rattle.runs.proofs.Plan.{child-lt, r-kind, r-picks, r-moves, r-by-kind, r-some-child, r-every-child}
+use Rattle.runs.proofs.Plan.{r-some-under, r-under}
+use Rattle.runs.proofs.Execution.{picks-any, picks-optional, complete-task, complete-all, PickDone, branch-done}
+use Rattle.runs.proofs.Execution.{group-skipped, complete-pick}
 use Rattle.runs.proofs.Summary.{pre-flag}
 
 pub r-status : (s r : Status) → Reflects (statusB s r) (s ≡ r)
@@ -47,7 +47,8 @@ module _ (p : Plan) (w : WellFormed p) where
 
   pub r-optional : (g : ℕ) → Reflects (optionalB p g) (Optional p g)
   unfolding optionalB
-  r-optional g = r-map (λ x. record { node = x .0; is-optional = x .1 }, λ x. (x .node, x .is-optional)) (r-both _ _ (r-T _) (r-kind _ _))
+  r-optional g = r-map (λ x. record { node = x .0; is-optional = x .1 }, λ x. (x .node, x .is-optional))
+      (r-both _ _ (r-T _) (r-kind _ _))
 
   module _ (s : State) where
     r-complete-in : (k n : ℕ) → Node p n → p .tree .size ≤ n + k → Reflects (completeIn p s k n) (Complete p s n)
@@ -63,7 +64,8 @@ module _ (p : Plan) (w : WellFormed p) where
         )
         (r-some-child p w (Complete p s) _ (λ c hc. r-complete-in k c (hc .node) (omega (arith, child-lt p w hc)))))
         (λ kn. r-map (complete-so kn, λ d. way (complete-pick p (picks-optional kn) d)) (r-either _ _
-        (r-some-child p w (Complete p s) _ (λ c hc. r-complete-in k c (hc .node) (omega (arith, child-lt p w hc)))) (r-status _ _)))
+        (r-some-child p w (Complete p s) _ (λ c hc. r-complete-in k c (hc .node) (omega (arith, child-lt p w hc))))
+        (r-status _ _)))
       where
         through : p .tree .kind n ≡ any-of → PickDone p s n → (c : ℕ) × Child p n c × Complete p s c
         through kn (branch-done c hc x) = (c, hc, x)
@@ -89,12 +91,14 @@ module _ (p : Plan) (w : WellFormed p) where
     r-begun b l = r-map (
       λ x. record { who = x .0; beneath = x .1; moves = x .2 .0; begun = x .2 .1 },
       λ x. (x .who, x .beneath, (x .moves, x .begun)),
-    ) (r-some-under p w (λ t. Moves (p .tree .kind t) × (s t ≢ waiting)) _ l (λ t. r-both _ _ (r-moves _) (r-negate _ (r-status _ _))))
+    ) (r-some-under p w (λ t. Moves (p .tree .kind t) × (s t ≢ waiting)) _ l
+        (λ t. r-both _ _ (r-moves _) (r-negate _ (r-status _ _))))
 
     r-rival : (g b : ℕ) → Reflects (rivalB p s g b) (Rival p s g b)
     unfolding rivalB
     r-rival g b = r-map (to, from) (r-either _ _
-        (r-some-child p w (λ c. (c ≢ b) × Begun p s c) _ (λ c hc. r-both _ _ (r-negate _ (r-eq _ _)) (r-begun c (hc .node))))
+        (r-some-child p w (λ c. (c ≢ b) × Begun p s c) _
+        (λ c hc. r-both _ _ (r-negate _ (r-eq _ _)) (r-begun c (hc .node))))
         (r-both _ _ (r-kind _ _) (r-status _ _)))
       where
         Other : Type 0
@@ -112,7 +116,8 @@ module _ (p : Plan) (w : WellFormed p) where
     unfolding wrongStatusB
     r-wrong-status (start t) = r-negate _ (r-status _ _)
     r-wrong-status (finish t) = r-negate _ (r-status _ _)
-    r-wrong-status (skip g) = r-either _ _ (r-negate _ (r-status _ _)) (r-some-child p w (Begun p s) _ (λ c hc. r-begun c (hc .node)))
+    r-wrong-status (skip g) =
+        r-either _ _ (r-negate _ (r-status _ _)) (r-some-child p w (Begun p s) _ (λ c hc. r-begun c (hc .node)))
 
     r-branch-begun : (t : ℕ) → Reflects (branchBegunB p s t) (BranchBegun p s t)
     unfolding branchBegunB

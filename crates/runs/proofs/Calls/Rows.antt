@@ -105,7 +105,10 @@ module _ (p : Plan) (w : WellFormed p) (a : World) where
           }
 
       from : Enabled p 0 (a .status) (finish t) → None (Applies p a (one (finish t))) (enabledChecks (one (finish t)))
-      from (can-finish m) = (λ k. k (record { node = under-node p (w .root-node) (m .beneath); is-task = m .is-task }), (λ k. k (m .runs), tt))
+      from (can-finish m) = (
+        λ k. k (record { node = under-node p (w .root-node) (m .beneath); is-task = m .is-task }),
+        (λ k. k (m .runs), tt),
+      )
   enabled-is (one (skip g)) = (to, from)
     where
       to : None (Applies p a (one (skip g))) (enabledChecks (one (skip g))) → Enabled p 0 (a .status) (skip g)

@@ -1,17 +1,18 @@
--- Decomposition, choices: an execution of the group is empty, or one of a single branch, or the skip of an optional group alone.
+-- Decomposition, choices: an execution of the group is empty, or one of a single branch, or the skip of an optional
+-- group alone.
 use Rattle.runs.proofs.Base.{_≡_, refl, sym, ap, _∙_, _≢_, _⊎_, inl, inr, _↔_, [], _∷_, ℕ, arith, ℕ-discrete, T}
 use Rattle.runs.specs.Plan.{any-of, optional, Picks, Plan, itself, Child, Under, WellFormed}
-use Rattle.runs.specs.Execution.{waiting, running, done, State, Event, start, finish, skip, History, nodeOf, statusOf, Begins}
-use Rattle.runs.specs.Execution.{statusAfter}
-use Rattle.runs.specs.Execution.{any-done, skip-done, Complete, Begun, Rival, by-branch, by-skip, Enabled, can-start, can-finish, can-skip}
-use Rattle.runs.specs.Execution.{Execution}
+use Rattle.runs.specs.Execution.{waiting, running, done, State, Event, start, finish, skip, History, nodeOf}
+use Rattle.runs.specs.Execution.{statusOf, Begins, statusAfter, any-done, skip-done, Complete, Begun, Rival}
+use Rattle.runs.specs.Execution.{by-branch, by-skip, Enabled, can-start, can-finish, can-skip, Execution}
 use Rattle.runs.specs.Execution.{none-yet, one-more, Completed}
 use Rattle.runs.proofs.Reflect.{clash}
 use Rattle.runs.proofs.Plan.{child-under, Branch, branch, one-branch, under-le, child-lt}
 use Rattle.runs.proofs.Execution.Histories.{after-nil, after-same, after-other}
-use Rattle.runs.proofs.Execution.Locality.{enabled-under, enabled-of-kind, enabled-moves, enabled-down, enabled-ready}
-use Rattle.runs.proofs.Execution.Locality.{enabled-up, own-ready, choice-event}
-use Rattle.runs.proofs.Execution.Completeness.{PickDone, picks-any, picks-optional, done-moved, branch-done, group-skipped, complete-begun, complete-pick}
+use Rattle.runs.proofs.Execution.Locality.{enabled-under, enabled-of-kind, enabled-moves, enabled-down}
+use Rattle.runs.proofs.Execution.Locality.{enabled-ready, enabled-up, own-ready, choice-event}
+use Rattle.runs.proofs.Execution.Completeness.{PickDone, picks-any, picks-optional, done-moved, branch-done}
+use Rattle.runs.proofs.Execution.Completeness.{group-skipped, complete-begun, complete-pick}
 
 module _ (p : Plan) (w : WellFormed p) where
   moved-not-waiting : (e : Event) → statusOf e ≢ waiting
@@ -57,7 +58,8 @@ module _ (p : Plan) (w : WellFormed p) where
   -- no branch rivals the one that runs, nor is the group skipped
   pub no-rival : {n c : ℕ} {h : History} → Child p n c → Execution p c h → ¬ Rival p (statusAfter h) n c
   no-rival hc f (by-branch b hb ne t) = other-not-begun hb hc ne f t
-  no-rival {n} hc f (by-skip k d) = done-moved d (execution-outside f n (λ u. omega (arith, child-lt p w hc, under-le p w u)))
+  no-rival {n} hc f (by-skip k d) =
+      done-moved d (execution-outside f n (λ u. omega (arith, child-lt p w hc, under-le p w u)))
 
   pub pick-join : {n c : ℕ} {h : History} → Picks (p .tree .kind n) → Child p n c → Execution p c h → Execution p n h
   pick-join k hc none-yet = none-yet
@@ -100,10 +102,12 @@ module _ (p : Plan) (w : WellFormed p) where
       again (can-skip s) = done-moved is-done (s .waits)
 
       inside : Branch p n (nodeOf e) → Begins e ⊎ (statusAfter (skip n ∷ []) (nodeOf e) ≡ running) → ⊥
-      inside b (inl be) = (enabled-ready p be m) .choice n (b .via) (picks-optional k) itself (b .child) (b .beneath) (by-skip k is-done)
+      inside b (inl be) = (enabled-ready p be m) .choice n (b .via) (picks-optional k) itself (b .child) (b .beneath)
+          (by-skip k is-done)
       inside b (inr busy) =
           let other : nodeOf e ≢ n = λ q. omega (arith, q, child-lt p w (b .child), under-le p w (b .beneath)) in
-          let idle : statusAfter (skip n ∷ []) (nodeOf e) ≡ waiting = after-other (skip n) [] (nodeOf e) other ∙ after-nil (nodeOf e) in
+          let idle : statusAfter (skip n ∷ []) (nodeOf e) ≡ waiting = after-other (skip n) [] (nodeOf e) other
+          ∙ after-nil (nodeOf e) in
           clash cc
 
       go : (n ≡ nodeOf e) ⊎ Branch p n (nodeOf e) → ⊥

@@ -65,4 +65,9 @@ module _ (p : Plan) where
       begun-up (child-under p hc) (complete-begun w (hc .not-root) (hc .node) (f c hc))
   complete-begun {s} {n} w z l (any-done c k hc d) =
       begun-up (child-under p hc) (complete-begun w (hc .not-root) (hc .node) d)
-  complete-begun {s} {n} w z l (skip-done k d) = record { who = n; moves = rw k tt; beneath = itself; begun = done-moved d }
+  complete-begun {s} {n} w z l (skip-done k d) = record {
+    who = n;
+    moves = rw k tt;
+    beneath = itself;
+    begun = done-moved d;
+  }

@@ -1,9 +1,9 @@
 -- Every execution extends to a completed one, so every node has one.
 use Rattle.runs.proofs.Base.{_≡_, refl, _⊎_, inl, inr, [], _∷_, _++_, ℕ}
 use Rattle.runs.specs.Plan.{Kind, task, all-of, any-of, optional, Picks, Plan, itself, Node, Child, WellFormed}
-use Rattle.runs.specs.Execution.{Status, waiting, running, done, start, finish, skip, History, statusAfter, task-done}
-use Rattle.runs.specs.Execution.{all-done, any-done}
-use Rattle.runs.specs.Execution.{can-start, can-finish, Execution, none-yet, one-more, Completed}
+use Rattle.runs.specs.Execution.{Status, waiting, running, done, start, finish, skip, History, statusAfter}
+use Rattle.runs.specs.Execution.{task-done, all-done, any-done, can-start, can-finish, Execution, none-yet}
+use Rattle.runs.specs.Execution.{one-more, Completed}
 use Rattle.runs.proofs.Plan.{child-under, from-leaves}
 use Rattle.runs.specs.Classes.{Anything}
 use Rattle.runs.proofs.Execution.Histories.{after-same, all-anything}
@@ -91,7 +91,8 @@ module _ (p : Plan) (w : WellFormed p) where
           go task k = grow-task h k f
           go all-of k = grow-all n k ih h f
           go any-of k = grow-pick h (picks-any k) (first-any l k ih) ih f
-          go optional k = grow-pick h (picks-optional k) (record { more = skip n ∷ []; completed = skip-completed p w k }) ih f
+          go optional k =
+              grow-pick h (picks-optional k) (record { more = skip n ∷ []; completed = skip-completed p w k }) ih f
 
   -- so every node has a completed execution
   pub completed-execution : (n : ℕ) → Node p n → (h : History) × Completed p n h

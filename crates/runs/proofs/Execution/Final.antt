@@ -1,7 +1,7 @@
 -- A completed execution cannot be extended; what stands before a child is completed before the child begins.
 use Rattle.runs.proofs.Base.{_≡_, refl, ap, _∙_, _≢_, _⊎_, inl, inr, [], _∷_, ℕ, arith, ℕ-discrete, T}
-use Rattle.runs.specs.Plan.{Kind, task, all-of, any-of, optional, Picks, Plan, itself, Node, Child, Under, Before, direct}
-use Rattle.runs.specs.Plan.{chain, WellFormed}
+use Rattle.runs.specs.Plan.{Kind, task, all-of, any-of, optional, Picks, Plan, itself, Node, Child, Under, Before}
+use Rattle.runs.specs.Plan.{direct, chain, WellFormed}
 use Rattle.runs.specs.Execution.{waiting, running, done, Event, History, nodeOf, Begins, statusAfter, Complete}
 use Rattle.runs.specs.Execution.{Begun, by-skip, Enabled}
 use Rattle.runs.specs.Execution.{can-start, can-finish, can-skip, Execution, none-yet, one-more, Completed}
@@ -12,11 +12,12 @@ use Rattle.runs.proofs.Execution.Histories.{after-nil, after-other}
 use Rattle.runs.proofs.Execution.Locality.{begun-local, enabled-ready, branch-of}
 use Rattle.runs.proofs.Execution.Parts.{part, part-in, part-out, after-part, part-execution, part-complete}
 use Rattle.runs.proofs.Execution.Parts.{execution-tail, execution-last}
-use Rattle.runs.proofs.Execution.AnyOf.{begun-last, other-not-begun, nothing-done, no-rival, OneOf, through, skipped, begins, pick-split}
+use Rattle.runs.proofs.Execution.AnyOf.{begun-last, other-not-begun, nothing-done, no-rival, OneOf, through}
+use Rattle.runs.proofs.Execution.AnyOf.{skipped, begins, pick-split}
 use Rattle.runs.proofs.Execution.Extension.{done-stays}
-use Rattle.runs.proofs.Execution.Completeness.{complete-all, picks-any, picks-optional, PickDone, branch-done, group-skipped}
-use Rattle.runs.proofs.Execution.Completeness.{complete-pick}
-use Rattle.runs.proofs.Execution.Completeness.{complete-task, complete-begun, complete-mono}
+use Rattle.runs.proofs.Execution.Completeness.{complete-all, picks-any, picks-optional, PickDone, branch-done}
+use Rattle.runs.proofs.Execution.Completeness.{group-skipped, complete-pick, complete-task, complete-begun}
+use Rattle.runs.proofs.Execution.Completeness.{complete-mono}
 
 module _ (p : Plan) (w : WellFormed p) where
   -- once something under b has moved, what is ordered before b is complete
@@ -71,7 +72,8 @@ module _ (p : Plan) (w : WellFormed p) where
       go (can-finish {t = t} s) q = let x : n ≡ t = under-task k (s .beneath) in
           let y : statusAfter h t ≡ running = s .runs in
           clash cc
-      go (can-skip {g = g} s) q = let x : n ≡ g = under-task k (s .beneath) in let y : statusAfter h g ≡ waiting = s .waits in
+      go (can-skip {g = g} s) q =
+          let x : n ≡ g = under-task k (s .beneath) in let y : statusAfter h g ≡ waiting = s .waits in
           clash cc
 
   final-all : (n : ℕ) → p .tree .kind n ≡ all-of → ((c : ℕ) → Child p n c → Final c) → Final n

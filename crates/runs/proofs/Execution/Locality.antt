@@ -62,7 +62,8 @@ module _ (p : Plan) where
     is-optional = m .is-optional;
     beneath = m .beneath;
     waits = sym (a g (m .beneath)) ∙ m .waits;
-    untaken = λ c hc t. m .untaken c hc (begun-local r s (agree-child r s (under-trans p (m .beneath) (child-under p hc)) (agree-sym n s r a)) t);
+    untaken = λ c hc t. m .untaken c hc (begun-local r s
+        (agree-child r s (under-trans p (m .beneath) (child-under p hc)) (agree-sym n s r a)) t);
     ready = ready-local s r a (m .ready);
   }
 
@@ -96,7 +97,12 @@ module _ (p : Plan) where
 
   pub enabled-down : (s : State) {n c : ℕ} {e : Event} → Under p n c → Under p c (nodeOf e) → Enabled p n s e
       → Enabled p c s e
-  enabled-down s u v (can-start m) = can-start record { is-task = m .is-task; beneath = v; waits = m .waits; ready = ready-down s u (m .ready) }
+  enabled-down s u v (can-start m) = can-start record {
+    is-task = m .is-task;
+    beneath = v;
+    waits = m .waits;
+    ready = ready-down s u (m .ready);
+  }
   enabled-down s u v (can-finish m) = can-finish record { is-task = m .is-task; beneath = v; runs = m .runs }
   enabled-down s u v (can-skip m) = can-skip record {
     is-optional = m .is-optional;
@@ -163,7 +169,12 @@ module _ (p : Plan) where
       waits = m .waits;
       ready = ready-up s hc (m .beneath) (m .ready) (q tt);
     }
-    enabled-up s hc (can-finish m) q = can-finish record { is-task = m .is-task; beneath = under-trans p (child-under p hc) (m .beneath); runs = m .runs }
+    enabled-up s hc (can-finish m) q = can-finish record {
+      is-task = m .is-task;
+      beneath = under-trans p
+          (child-under p hc) (m .beneath);
+      runs = m .runs;
+    }
     enabled-up s hc (can-skip m) q = can-skip record {
       is-optional = m .is-optional;
       beneath = under-trans p (child-under p hc) (m .beneath);
@@ -196,7 +207,8 @@ module _ (p : Plan) where
     all-of-rests (finish t) k f q = clash cc
     all-of-rests (skip g) k f q = clash cc
 
-    pub choice-event : {n : ℕ} (e : Event) → Picks (p .tree .kind n) → OfKind e → n ≡ nodeOf e → (p .tree .kind n ≡ optional) × (e ≡ skip n)
+    pub choice-event : {n : ℕ} (e : Event) → Picks (p .tree .kind n) → OfKind e → n ≡ nodeOf e →
+        (p .tree .kind n ≡ optional) × (e ≡ skip n)
     choice-event (start t) k f q = absurd (rw (q, f) at k)
     choice-event (finish t) k f q = absurd (rw (q, f) at k)
     choice-event (skip g) k f q = (ap (p .tree .kind) q ∙ f, ap skip (sym q))

@@ -1,4 +1,5 @@
--- What has moved is a task or an optional group under the node; nothing runs under a complete node; what runs has started.
+-- What has moved is a task or an optional group under the node; nothing runs under a complete node; what runs has
+-- started.
 use Rattle.runs.proofs.Base.{_≡_, sym, _∙_, _≢_, [], _∷_, ℕ, ℕ-discrete}
 use Rattle.runs.specs.Plan.{task, Moves, Plan, Node, Under, WellFormed}
 use Rattle.runs.specs.Execution.{Status, waiting, running, done, Event, start, finish, skip, History, nodeOf}
@@ -44,7 +45,8 @@ module _ (p : Plan) (w : WellFormed p) where
   -- what runs is a task
   pub running-task : {n : ℕ} {h : History} → Execution p n h → (x : ℕ) → statusAfter h x ≡ running
       → p .tree .kind x ≡ task
-  running-task {h = h} f x r = let (k, q) = running-started h x r in enabled-of-kind p (execution-last p w (earlier-execution p w q f))
+  running-task {h = h} f x r =
+      let (k, q) = running-started h x r in enabled-of-kind p (execution-last p w (earlier-execution p w q f))
 
   -- and it is under the node
   pub moved-under : {n : ℕ} {h : History} → Execution p n h → (x : ℕ) → statusAfter h x ≢ waiting → Under p n x

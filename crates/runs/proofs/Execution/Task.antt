@@ -19,7 +19,8 @@ pub data TaskExecution (n : ℕ) : History → Type 0 where
 module _ (p : Plan) (w : WellFormed p) where
   task-next : {n : ℕ} {e : Event} {h : History} → p .tree .kind n ≡ task → TaskExecution n h
       → Enabled p n (statusAfter h) e → TaskExecution n (e ∷ h)
-  task-next {n} k x (can-skip {g = g} s) = let y : n ≡ g = under-task p w k (s .beneath) in let z : p .tree .kind g ≡ optional = s .is-optional in clash cc
+  task-next {n} k x (can-skip {g = g} s) =
+      let y : n ≡ g = under-task p w k (s .beneath) in let z : p .tree .kind g ≡ optional = s .is-optional in clash cc
   task-next {n} k idle (can-start {t = t} s) = rw (← (under-task p w k (s .beneath))) begun
   task-next {n} k idle (can-finish {t = t} s) = let y : statusAfter [] t ≡ running = s .runs in
       let z : statusAfter [] t ≡ waiting = after-nil t in

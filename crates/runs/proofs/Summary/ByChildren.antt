@@ -4,8 +4,8 @@
 use Rattle.runs.proofs.Base.{_≡_, refl, _∙_, _⊎_, inl, inr, _↔_, Iff·trans, Bool, Option, none, some, [], _∷_, ℕ}
 use Rattle.runs.specs.Tests.{negate}
 use Rattle.runs.specs.Plan.{all-of, pre, inc, post, Plan, Node, Child, Before, WellFormed}
-use Rattle.runs.specs.Execution.{Event, start, finish, skip, History, lastAssertedOf, lastAsserted, Earlier, none-later}
-use Rattle.runs.specs.Execution.{one-later}
+use Rattle.runs.specs.Execution.{Event, start, finish, skip, History, lastAssertedOf, lastAsserted, Earlier}
+use Rattle.runs.specs.Execution.{none-later, one-later}
 use Rattle.runs.specs.Summary.{May, Must, ExternalPre, ExternalPost, Incondition}
 use Rattle.runs.specs.Model.Marks.{quietB, beginsIncB}
 use Rattle.runs.proofs.Reflect.{clash, Reflects, decided, r-negate}

@@ -5,9 +5,9 @@ use Rattle.runs.specs.Execution.{Event, skip, History, Execution, preOf,
 use Rattle.runs.specs.Summary.{Clobbers, precondition, incondition, Clobbered, ClobberByPairs, in-child}
 use Rattle.runs.specs.Summary.{unordered-pair, passed-on, MayClobber}
 use Rattle.runs.proofs.Reflect.{clash}
-use Rattle.runs.proofs.Execution.{enabled-under, execution-tail, execution-last, pick-join, pick-split}
-use Rattle.runs.proofs.Execution.{OneOf, through, skipped, under-task}
-use Rattle.runs.proofs.Execution.{TaskExecution, begun, ended, task-execution, picks-any, picks-optional, running-moved, moved-under}
+use Rattle.runs.proofs.Execution.{enabled-under, execution-tail, execution-last, pick-join, pick-split, OneOf}
+use Rattle.runs.proofs.Execution.{through, skipped, under-task, TaskExecution, begun, ended, task-execution}
+use Rattle.runs.proofs.Execution.{picks-any, picks-optional, running-moved, moved-under}
 use Rattle.runs.proofs.Summary.PairsComplete.{clobber-to-pairs}
 use Rattle.runs.proofs.Summary.PairsSound.{passed-on-clobbers, in-child-clobbers, unordered-clobbers}
 
@@ -23,10 +23,17 @@ module _ (p : Plan) (w : WellFormed p) where
     clobber-all = (clobber-to-pairs p w kn f v, pairs-to-clobber)
 
   -- a choice clobbers exactly if some branch does; a skip does not
-  clobber-pick : {n : ℕ} (f : ℕ) (v : Bool) → Picks (p .tree .kind n) → MayClobber p f v n ↔ ((c : ℕ) × Child p n c × MayClobber p f v c)
+  clobber-pick : {n : ℕ} (f : ℕ) (v : Bool) → Picks (p .tree .kind n) → MayClobber p f v n ↔
+      ((c : ℕ) × Child p n c × MayClobber p f v c)
   clobber-pick {n} f v k = (
     λ x. to x (pick-split p w k (x .execution)),
-    λ y. let x = y .2 in record { history = x .history; event = x .event; execution = pick-join p w k (y .1) (x .execution); clobbers = x .clobbers },
+    λ y. let x = y .2 in record {
+      history = x .history;
+      event = x .event;
+      execution = pick-join p w k (y .1)
+          (x .execution);
+      clobbers = x .clobbers;
+    },
   )
     where
       harmless : {h : History} → Clobbers p f v h (skip n) → ⊥
@@ -34,13 +41,19 @@ module _ (p : Plan) (w : WellFormed p) where
       harmless (incondition t ne ho ru br) = clash cc
 
       to : (x : MayClobber p f v n) → OneOf p w n (x .event ∷ x .history) → (c : ℕ) × Child p n c × MayClobber p f v c
-      to x (through c hc g) = (c, hc, record { history = x .history; event = x .event; execution = g; clobbers = x .clobbers })
+      to x (through c hc g) = (
+        c,
+        hc,
+        record { history = x .history; event = x .event; execution = g; clobbers = x .clobbers },
+      )
       to x (skipped kn q) = let z : x .event ≡ skip n = cc in absurd (harmless (rw z at (x .clobbers)))
 
-  pub clobber-any : {n : ℕ} (f : ℕ) (v : Bool) → p .tree .kind n ≡ any-of → MayClobber p f v n ↔ ((c : ℕ) × Child p n c × MayClobber p f v c)
+  pub clobber-any : {n : ℕ} (f : ℕ) (v : Bool) → p .tree .kind n ≡ any-of → MayClobber p f v n ↔
+      ((c : ℕ) × Child p n c × MayClobber p f v c)
   clobber-any f v k = clobber-pick f v (picks-any k)
 
-  pub clobber-optional : {n : ℕ} (f : ℕ) (v : Bool) → p .tree .kind n ≡ optional → MayClobber p f v n ↔ ((c : ℕ) × Child p n c × MayClobber p f v c)
+  pub clobber-optional : {n : ℕ} (f : ℕ) (v : Bool) → p .tree .kind n ≡ optional → MayClobber p f v n ↔
+      ((c : ℕ) × Child p n c × MayClobber p f v c)
   clobber-optional f v k = clobber-pick f v (picks-optional k)
 
   -- no task does

@@ -5,10 +5,9 @@ use Rattle.runs.specs.Execution.{Event, start, finish, skip, History, no
 use Rattle.runs.proofs.Plan.{child-under, Branch, before-rank, decBefore}
 use Rattle.runs.specs.Classes.{All, all-nil, all-cons, MayQuiet, MayMeet}
 use Rattle.runs.proofs.Execution.{completed-before, all-append, branch-of, part, part-nil, part-in}
-use Rattle.runs.proofs.Execution.{part-execution}
-use Rattle.runs.proofs.Execution.{execution-last, part-all, pick-join, any-split, extend, Staged, TaskExecution}
-use Rattle.runs.proofs.Execution.{begun, ended, task-execution}
-use Rattle.runs.proofs.Execution.{task-begun, task-ended, picks-any, picks-optional, pick-split, OneOf, through, skipped, skip-completed}
+use Rattle.runs.proofs.Execution.{part-execution, execution-last, part-all, pick-join, any-split, extend, Staged}
+use Rattle.runs.proofs.Execution.{TaskExecution, begun, ended, task-execution, task-begun, task-ended, picks-any}
+use Rattle.runs.proofs.Execution.{picks-optional, pick-split, OneOf, through, skipped, skip-completed}
 use Rattle.runs.proofs.Summary.Quiet.{quiet-stage}
 
 module _ (p : Plan) (w : WellFormed p) (Q H : Event → Type 0) where
@@ -49,11 +48,17 @@ module _ (p : Plan) (w : WellFormed p) (Q H : Event → Type 0) where
   )
 
   -- optional: some branch, or the skip is in H
-  pub meet-optional : {n : ℕ} → p .tree .kind n ≡ optional → MayMeet p Q H n ↔ (((c : ℕ) × Child p n c × MayMeet p Q H c) ⊎ H (skip n))
+  pub meet-optional : {n : ℕ} → p .tree .kind n ≡ optional → MayMeet p Q H n ↔
+      (((c : ℕ) × Child p n c × MayMeet p Q H c) ⊎ H (skip n))
   meet-optional {n} k = (λ m. to m (pick-split p w (picks-optional k) (m .execution)), from)
     where
-      to : (m : MayMeet p Q H n) → OneOf p w n (m .event ∷ m .before) → ((c : ℕ) × Child p n c × MayMeet p Q H c) ⊎ H (skip n)
-      to m (through c hc x) = inl (c, hc, record { event = m .event; before = m .before; execution = x; hit = m .hit; quiet = m .quiet })
+      to : (m : MayMeet p Q H n) → OneOf p w n (m .event ∷ m .before)
+          → ((c : ℕ) × Child p n c × MayMeet p Q H c) ⊎ H (skip n)
+      to m (through c hc x) = inl (
+        c,
+        hc,
+        record { event = m .event; before = m .before; execution = x; hit = m .hit; quiet = m .quiet },
+      )
       to m (skipped kn q) = let z : m .event ≡ skip n = cc in inr (rw z at (m .hit))
 
       from : ((c : ℕ) × Child p n c × MayMeet p Q H c) ⊎ H (skip n) → MayMeet p Q H n
@@ -64,7 +69,13 @@ module _ (p : Plan) (w : WellFormed p) (Q H : Event → Type 0) where
         hit = m .hit;
         quiet = m .quiet;
       }
-      from (inr h) = record { event = skip n; before = []; execution = skip-completed p w k .execution; hit = h; quiet = all-nil }
+      from (inr h) = record {
+        event = skip n;
+        before = [];
+        execution = skip-completed p w k .execution;
+        hit = h;
+        quiet = all-nil;
+      }
 
   abbrev MeetAll : ℕ → Type 0
   MeetAll n = (c : ℕ) × Child p n c × MayMeet p Q H c × ((a : ℕ) → Before p a c → MayQuiet p Q a)

@@ -3,18 +3,15 @@
 use Rattle.runs.proofs.Base.{_≡_, refl, sym, _≢_, _⊎_, inl, inr, Bool, not, Option, none, some, [], _∷_, ℕ}
 use Rattle.runs.proofs.Base.{ℕ-discrete}
 use Rattle.runs.specs.Plan.{all-of, Plan, Child, Under, Before, Unordered, WellFormed, Node}
-use Rattle.runs.specs.Execution.{Event, start, finish, skip, History, nodeOf, statusAfter, Execution, Completed, preOf, lastAssertedOf}
-use Rattle.runs.specs.Execution.{asserts}
-use Rattle.runs.specs.Execution.{lastAsserted, Earlier, none-later, one-later}
+use Rattle.runs.specs.Execution.{Event, start, finish, skip, History, nodeOf, statusAfter, Execution, Completed}
+use Rattle.runs.specs.Execution.{preOf, lastAssertedOf, asserts, lastAsserted, Earlier, none-later, one-later}
 use Rattle.runs.specs.Summary.{Must, ExternalPre, ExternalPost, Silent, MustClobber, by-any-of, by-child, by-pair}
 use Rattle.runs.specs.Summary.{MayClobber, precondition}
 use Rattle.runs.proofs.Reflect.{clash}
 use Rattle.runs.proofs.Plan.{Branch, decUnder, decBefore}
-use Rattle.runs.proofs.Execution.{all-at, earlier-nil, earlier-inv, branch-of, OfKind, enabled-of-kind, part, part-nil}
-use Rattle.runs.proofs.Execution.{part-in, part-out}
-use Rattle.runs.proofs.Execution.{execution-tail, execution-last, earlier-execution, part-completed}
-use Rattle.runs.proofs.Execution.{any-completed, completed-execution, apart}
-use Rattle.runs.proofs.Execution.{completed-before}
+use Rattle.runs.proofs.Execution.{all-at, earlier-nil, earlier-inv, branch-of, OfKind, enabled-of-kind, part}
+use Rattle.runs.proofs.Execution.{part-nil, part-in, part-out, execution-tail, execution-last, earlier-execution}
+use Rattle.runs.proofs.Execution.{part-completed, any-completed, completed-execution, apart, completed-before}
 use Rattle.runs.specs.Classes.{Unasserted}
 use Rattle.runs.proofs.Summary.Events.{unasserted-all}
 
@@ -138,7 +135,8 @@ module _ (p : Plan) (w : WellFormed p) where
 
               go : (b : ℕ) → Child p n b → Under p b (nodeOf e) → b ≢ c → ¬ Before p b c → Dec (Before p c b) → ⊥
               go b hb ub k y (yes z) = not-yet hb fr (i .beneath) z x ub
-              go b hb ub k y (no z) = nu (silent-event e (un b hb (record { distinct = k; not-before = y; not-after = z }))
+              go b hb ub k y (no z) =
+                  nu (silent-event e (un b hb (record { distinct = k; not-before = y; not-after = z }))
                   (enabled-of-kind p (execution-last p w fe)) ub)
 
       pair-fails : (c d : ℕ) → Child p n c → Child p n d → Before p d c → Must p d (ExternalPost p f (not v))

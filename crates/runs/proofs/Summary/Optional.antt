@@ -1,5 +1,5 @@
--- The marks of an optional group: may need, leave and hold where some branch may, for the skip alone shows none of them;
--- may clash where some branch may; must and doom never.
+-- The marks of an optional group: may need, leave and hold where some branch may, for the skip alone shows none of
+-- them; may clash where some branch may; must and doom never.
 use Rattle.runs.proofs.Base.{_≡_, _↔_, Bool, ℕ}
 use Rattle.runs.specs.Plan.{optional, Plan, Child, WellFormed}
 use Rattle.runs.specs.Summary.{ExternalPre, ExternalPost, Incondition, Mark, may-pre, must-pre, may-post}

@@ -39,8 +39,10 @@ module _ (p : Plan) (w : WellFormed p) where
           go any-of kn (inl q) = let (ko, z) = choice-event p w e (picks-any kn) k q in clash cc
           go any-of kn (inr b) = (meet-any p w Anything (λ x. x ≡ e) kn) .1
               (b .via, b .child, ih (b .via) (b .child) e k (b .beneath))
-          go optional kn (inl q) = (meet-optional p w Anything (λ x. x ≡ e) kn) .1 (inr (sym ((choice-event p w e (picks-optional kn) k q) .1)))
-          go optional kn (inr b) = (meet-optional p w Anything (λ x. x ≡ e) kn) .1 (inl (b .via, b .child, ih (b .via) (b .child) e k (b .beneath)))
+          go optional kn (inl q) = (meet-optional p w Anything (λ x. x ≡ e) kn) .1
+              (inr (sym ((choice-event p w e (picks-optional kn) k q) .1)))
+          go optional kn (inr b) = (meet-optional p w Anything (λ x. x ≡ e) kn) .1
+              (inl (b .via, b .child, ih (b .via) (b .child) e k (b .beneath)))
 
   pub reached : {n : ℕ} → Node p n → (e : Event) → OfKind p e → Under p n (nodeOf e)
       → (r : History) × Execution p n (e ∷ r)

@@ -1,8 +1,8 @@
 -- The test by pairs reflects may clobber; the test by the rule reflects must clobber.
-use Rattle.runs.proofs.Base.{_≡_, refl, _≢_, _⊎_, inl, inr, _↔_, Iff·symm, Bool, false, not, Option, none, some, ℕ}
-use Rattle.runs.proofs.Base.{zero, suc, _+_, _≤_, arith}
-use Rattle.runs.specs.Plan.{task, all-of, any-of, optional, Place, pre, inc, post, Plan, Node, Child, Under, Before}
-use Rattle.runs.specs.Plan.{Unordered, WellFormed}
+use Rattle.runs.proofs.Base.{_≡_, refl, _≢_, _⊎_, inl, inr, _↔_, Iff·symm, Bool, false, not, Option, none, some}
+use Rattle.runs.proofs.Base.{ℕ, zero, suc, _+_, _≤_, arith}
+use Rattle.runs.specs.Plan.{task, all-of, any-of, optional, Place, pre, inc, post, Plan, Node, Child, Under}
+use Rattle.runs.specs.Plan.{Before, Unordered, WellFormed}
 use Rattle.runs.specs.Execution.{start, finish, skip, lastAsserted}
 use Rattle.runs.specs.Summary.{May, Must, ExternalPre, ExternalPost, MayClobber, TaskWith, ClobberByPairs}
 use Rattle.runs.specs.Summary.{in-child, unordered-pair, passed-on}
@@ -105,7 +105,8 @@ module _ (p : Plan) (w : WellFormed p) where
         (r-some-child p w (MayClobber p f v) _
         (λ c hc. r-may-clobber-in k c (hc .node) (omega (arith, child-lt p w hc)))))
         (λ kn. r-map (Iff·symm (clobber-optional p w f v kn))
-        (r-some-child p w (MayClobber p f v) _ (λ c hc. r-may-clobber-in k c (hc .node) (omega (arith, child-lt p w hc)))))
+        (r-some-child p w (MayClobber p f v) _
+        (λ c hc. r-may-clobber-in k c (hc .node) (omega (arith, child-lt p w hc)))))
 
     pub r-may-clobber : (n : ℕ) → Node p n → Reflects (mayClobberB p n f v) (MayClobber p f v n)
     unfolding mayClobberB

@@ -64,7 +64,8 @@ module _ (p : Plan) (w : WellFormed p) where
           (λ kn. r-map (Iff·symm (meet-any p w Q H kn))
           (r-some-child p w (MayMeet p Q H) _ (λ c hc. r-meet-in k c (hc .node) (omega (arith, child-lt p w hc)))))
           (λ kn. r-map (Iff·symm (meet-optional p w Q H kn)) (r-either _ _
-          (r-some-child p w (MayMeet p Q H) _ (λ c hc. r-meet-in k c (hc .node) (omega (arith, child-lt p w hc)))) (rm (skip n))))
+          (r-some-child p w (MayMeet p Q H) _ (λ c hc. r-meet-in k c (hc .node) (omega (arith, child-lt p w hc))))
+          (rm (skip n))))
 
       pub r-meet : (n : ℕ) → Node p n → Reflects (meetB p q m n) (MayMeet p Q H n)
       unfolding meetB

@@ -9,21 +9,18 @@ use Rattle.runs.specs.Model.Marks.{silentB, avoidedB, pairB}
 use Rattle.runs.specs.Model.Marks.{mayClobberIn, mayClobberB, aloneB, undisturbedB, mustClobberIn, mustClobberB}
 use Rattle.runs.specs.Model.Marks.{markedB}
 use Rattle.runs.specs.Model.Monitor.{statusB, oppositeB, taskB, optionalB, completeIn, completeB, begunB, rivalB}
-use Rattle.runs.specs.Model.Monitor.{wrongStatusB, branchBegunB, orderOpenB}
-use Rattle.runs.specs.Model.Monitor.{incBrokenB, preUnmetB, appliesB, firstOf, refusalOf, returned, step, returns, states}
-use Rattle.runs.specs.Model.Trees.{kindB, picksB, movesB, byKind, childB, someChildB, everyChildB, underIn, underB}
-use Rattle.runs.specs.Model.Trees.{someUnderB, someTaskB, beforeIn}
-use Rattle.runs.specs.Model.Trees.{beforeB, unorderedB}
+use Rattle.runs.specs.Model.Monitor.{wrongStatusB, branchBegunB, orderOpenB, incBrokenB, preUnmetB, appliesB}
+use Rattle.runs.specs.Model.Monitor.{firstOf, refusalOf, returned, step, returns, states}
+use Rattle.runs.specs.Model.Trees.{kindB, picksB, movesB, byKind, childB, someChildB, everyChildB, underIn}
+use Rattle.runs.specs.Model.Trees.{underB, someUnderB, someTaskB, beforeIn, beforeB, unorderedB}
 use Rattle.runs.specs.Model.Verdicts.{failsB, someLiteralB, mayFailB, mustFailB, judge, verdict}
 
 unfoldable pub computing : Unit {0}
-unfolding decide both either implies negate anyBelow allBelow sameB sameList isNone isSome kindB picksB movesB byKind childB
-    someChildB everyChildB underIn underB
-    someUnderB someTaskB beforeIn beforeB unorderedB quietIn meetIn lastIn quietB meetB lastB unassertedB preB assertsB beginsIncB neutralB
-    coversB avoidB mayPreB mustPreB mayPostB
-    mustPostB mayIncB mustIncB conditionB silentB avoidedB pairB mayClobberIn mayClobberB aloneB undisturbedB
-    mustClobberIn mustClobberB markedB failsB
-    someLiteralB mayFailB mustFailB judge verdict statusB oppositeB taskB optionalB completeIn completeB begunB rivalB wrongStatusB
-    branchBegunB orderOpenB
-    incBrokenB preUnmetB appliesB firstOf refusalOf returned step returns states
+unfolding decide both either implies negate anyBelow allBelow sameB sameList isNone isSome kindB picksB movesB byKind
+    childB someChildB everyChildB underIn underB someUnderB someTaskB beforeIn beforeB unorderedB quietIn meetIn lastIn
+    quietB meetB lastB unassertedB preB assertsB beginsIncB neutralB coversB avoidB mayPreB mustPreB mayPostB mustPostB
+    mayIncB mustIncB conditionB silentB avoidedB pairB mayClobberIn mayClobberB aloneB undisturbedB mustClobberIn
+    mustClobberB markedB failsB someLiteralB mayFailB mustFailB judge verdict statusB oppositeB taskB optionalB
+    completeIn completeB begunB rivalB wrongStatusB branchBegunB orderOpenB incBrokenB preUnmetB appliesB firstOf
+    refusalOf returned step returns states
 computing = tt

@@ -7,8 +7,8 @@ use Prim.Native.Nat.{ℕ, zero, suc}
 use lib.Dec.{eqb}
 use Rattle.runs.specs.Tests.{both, either, negate, anyBelow, isSome}
 use Rattle.runs.specs.Plan.{task, optional, inc, Plan}
-use Rattle.runs.specs.Execution.{Status, waiting, running, done, Status-discrete, State, Event, start, finish, skip, nodeOf, preOf}
-use Rattle.runs.specs.Execution.{asserts}
+use Rattle.runs.specs.Execution.{Status, waiting, running, done, Status-discrete, State, Event, start, finish}
+use Rattle.runs.specs.Execution.{skip, nodeOf, preOf, asserts}
 use Rattle.runs.specs.Calls.{Call, one, events, World, happenAll, Refusal, no-task, wrong-status, branch-begun}
 use Rattle.runs.specs.Calls.{order-open, pre-unmet}
 use Rattle.runs.specs.Calls.{inc-broken, no-optional, number, asks, checks}
