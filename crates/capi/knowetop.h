@@ -24,15 +24,21 @@ uint32_t knowetop_verdict(const uint8_t *plan, size_t plan_len);
 uint32_t knowetop_summary(const uint8_t *plan, size_t plan_len, size_t node, uint8_t *out, size_t out_len);
 
 /* A state is 8 bytes of flags, then a byte for each node, then 2 bytes for each node, the low one first: the place of its start among the accepted starts, from 1, or 0 if it has not
-   been started. That is 8 + 3 N bytes, N the plan's number of nodes, and 392 at most; later bytes are never changed. Writes the state of a run that has not begun. Returns 0, or 1 to
-   14 or 15 (state_len under 8 + 3 N). */
+   been started. The byte of a task is 0 while it waits, 1 while it runs and 2 when it is done; that of an optional group is 2 once it is skipped, and 0 till then; that of another
+   group is 0. That is 8 + 3 N bytes, N the plan's number of nodes, and 392 at most; later bytes are never changed. Writes the state of a run that has not begun. Returns 0, or 1 to 14
+   or 15 (state_len under 8 + 3 N). */
 uint32_t knowetop_fresh(const uint8_t *plan, size_t plan_len, uint8_t *state, size_t state_len);
 
 /* Start and finish of a task. Returns 0, and the task's byte and its literals are written, for a start its place too; or 1 to 15, 16 (malformed state), 17 (no task), 18 (start: not
-   waiting; finish: not running), for a start 19 (another branch of a choice above is taken), 20 (an order's earlier node is not complete), 21 (a need is unmet), and 22 (a hold of
-   another running task would be broken). */
+   waiting; finish: not running), for a start 19 (another branch of a choice above is taken, or an optional group above is skipped), 20 (an order's earlier node is not complete), 21 (a
+   need is unmet), and 22 (a hold of another running task would be broken). */
 uint32_t knowetop_start(const uint8_t *plan, size_t plan_len, uint8_t *state, size_t state_len, size_t task);
 uint32_t knowetop_finish(const uint8_t *plan, size_t plan_len, uint8_t *state, size_t state_len, size_t task);
+
+/* Skip of an optional group, which completes it. Returns 0, and the group's byte is written; or 1 to 15, 16 (malformed state), 27 (no optional group), 18 (skipped already, or a branch
+   of it is taken), 19 (another branch of a choice above is taken, or an optional group above is skipped) or 20 (an order's earlier node is not complete). A branch is taken when a task
+   in it runs or is done, or an optional group that is it or stands in it is skipped. */
+uint32_t knowetop_skip(const uint8_t *plan, size_t plan_len, uint8_t *state, size_t state_len, size_t group);
 
 /* Whether the root is complete: a refusal, 1 to 16, or one of these. */
 #define KNOWETOP_COMPLETE 128

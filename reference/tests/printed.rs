@@ -43,6 +43,7 @@ fn prints_each_sample() {
         ("b", "CLEAR 17"),
         ("b-without-order", "OPEN 12"),
         ("b-flag-set", "DOOMED 17"),
+        ("calibration-optional", "CLEAR 63"),
         ("equal-waits", "CLEAR 18"),
         ("large", "DOOMED 393546"),
         ("nodes-128", "CLEAR 0"),
@@ -92,7 +93,7 @@ fn prints_drawn_plans() {
         assert_eq!(run(&bytes), printed(&bytes));
     }
     for _ in 0..40 {
-        let bytes = plan(&mut random, LIMITS, Shape::Bushy).bytes();
+        let bytes = plan(&mut random, LIMITS, Shape::BUSHY).bytes();
         assert_eq!(run(&bytes), printed(&bytes));
     }
 }

@@ -6,6 +6,7 @@ use std::process::{Command, Stdio};
 const TEXT: &[u8] = include_bytes!("../../samples/b.txt");
 const PLAN: &[u8] = include_bytes!("../../samples/b.plan");
 const STATE: &[u8] = include_bytes!("../../samples/b.state");
+const SKIPPED: &[u8] = include_bytes!("../../samples/calibration-optional.state");
 
 /// Whether it succeeds, what it prints, and what it says on standard error.
 fn run(arguments: &[&str], input: &[u8]) -> (bool, Vec<u8>, String) {
@@ -50,6 +51,18 @@ fn draws_what_it_shows() {
     let (shown, text, _) = run(&["show"], &plan);
     assert!(drawn && shown);
     assert_eq!(run(&["make"], &text), (true, plan, String::new()));
+}
+
+#[test]
+fn shows_a_skipped_group() {
+    let path = concat!(
+        env!("CARGO_MANIFEST_DIR"),
+        "/../samples/calibration-optional.plan"
+    );
+    let shown = "set 0 1\n0 DOWN unfinished\n1 LOWR done\n2 CALI skipped\n3 TONE waiting\n\
+         4 QUIK waiting\n5 PING running\nplace 1 task 1 LOWR\nplace 2 task 5 PING\n";
+    let want = (true, shown.as_bytes().to_vec(), String::new());
+    assert_eq!(run(&["state", path], SKIPPED), want);
 }
 
 #[test]

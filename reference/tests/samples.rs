@@ -6,16 +6,17 @@ use std::fs;
 use std::path::{Path, PathBuf};
 
 use reference::model::calls::Call;
-use reference::model::events::Event;
+use reference::model::events::Event::{Finish, Skip, Start};
 use reference::model::rules::refusal;
 use reference::tools::archive;
 use reference::tools::text::{make, show, Error, Source};
 
 /// Each sample with its length and its refusal.
-const SAMPLES: [(&str, usize, u32); 19] = [
+const SAMPLES: [(&str, usize, u32); 20] = [
     ("b", 82, 0),
     ("b-flag-set", 82, 0),
     ("b-without-order", 80, 0),
+    ("calibration-optional", 104, 0),
     ("equal-waits", 90, 0),
     ("fifteen-bytes", 15, 1),
     ("incondition-broken", 49, 0),
@@ -72,15 +73,23 @@ fn lengths_and_refusals() {
     }
 }
 
-/// B's state is that after start 1, finish 1 and start 4.
+/// The states are those after these calls.
 #[test]
-fn state_of_calls() {
-    let (mut plan, mut state) = (plan_of("b"), [7; 23]);
-    let events = [Event::Start(1), Event::Finish(1), Event::Start(4)];
-    for call in [Call::Fresh].into_iter().chain(events.map(Call::Event)) {
-        assert_eq!(archive::make(call, &mut plan, &mut state), 0, "{call:?}");
+fn states_of_calls() {
+    let of_b = [Start(1), Finish(1), Start(4)];
+    let of_calibration = [Start(1), Finish(1), Skip(2), Start(5)];
+    for (name, len, events) in [
+        ("b", 23, &of_b[..]),
+        ("calibration-optional", 26, &of_calibration),
+    ] {
+        let (mut plan, mut state) = (plan_of(name), vec![7; len]);
+        let events = events.iter().map(|&event| Call::Event(event));
+        for call in [Call::Fresh].into_iter().chain(events) {
+            assert_eq!(archive::make(call, &mut plan, &mut state), 0, "{call:?}");
+        }
+        let path = folder().join(format!("{name}.state"));
+        assert_eq!(fs::read(path).unwrap(), state, "{name}");
     }
-    assert_eq!(fs::read(folder().join("b.state")).unwrap(), state);
 }
 
 #[test]

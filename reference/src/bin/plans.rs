@@ -57,7 +57,7 @@ fn shown_state(path: &str) -> Result<Vec<u8>, String> {
 
 fn drawn(seed: &str) -> Result<Vec<u8>, String> {
     let seed = seed.parse().map_err(|_| USAGE.to_string())?;
-    Ok(plan(&mut Random::new(seed), LIMITS, Shape::Bushy).bytes())
+    Ok(plan(&mut Random::new(seed), LIMITS, Shape::BUSHY).bytes())
 }
 
 fn input() -> Result<Vec<u8>, String> {

@@ -20,7 +20,7 @@ pub enum Call {
     /// Of this node.
     Summary(usize),
     Fresh,
-    /// Start or finish.
+    /// Start, finish or skip.
     Event(Event),
     Status,
     Listing,
@@ -35,6 +35,7 @@ impl Call {
             Call::Fresh => "fresh",
             Call::Event(Event::Start(_)) => "start",
             Call::Event(Event::Finish(_)) => "finish",
+            Call::Event(Event::Skip(_)) => "skip",
             Call::Status => "status",
             Call::Listing => "listing",
         }

@@ -1,13 +1,15 @@
-//! Events, the statuses of tasks, and refusals 17 to 20.
+//! Events, the statuses of nodes, and refusals 17 to 20 and 27.
 
-use crate::model::format::{Plan, ALL_OF, ANY_OF, INCONDITION, POSTCONDITION, TASK};
+use crate::model::format::{Plan, ALL_OF, ANY_OF, INCONDITION, OPTIONAL, POSTCONDITION, TASK};
 use crate::model::literal::Literal;
 
-/// Start or finish of the task with this number; a call may name any number.
+/// Start or finish of the task with this number, or skip of the optional group with it; a call may
+/// name any number.
 #[derive(Clone, Copy, Debug, PartialEq, Eq)]
 pub enum Event {
     Start(usize),
     Finish(usize),
+    Skip(usize),
 }
 
 #[derive(Clone, Copy, Debug, PartialEq, Eq, Hash)]
@@ -15,25 +17,46 @@ pub enum Status {
     Waiting,
     Running,
     Done,
+    /// Of an optional group whose branch without tasks is taken.
+    Skipped,
 }
 
-/// The status of every node; groups are always waiting.
+/// The status of every node: an optional group is waiting or skipped, other groups are always
+/// waiting.
 #[derive(Clone, Debug, PartialEq, Eq, Hash)]
 pub struct Statuses(pub Vec<Status>);
 
 impl Event {
-    pub fn task(self) -> usize {
+    /// Every event with this number.
+    pub fn each(number: usize) -> [Event; 3] {
+        [Event::Start, Event::Finish, Event::Skip].map(|event| event(number))
+    }
+
+    /// The starts and finishes of the tasks, and the skips of the optional groups, under the node.
+    pub fn under(plan: &Plan, node: usize) -> impl Iterator<Item = Event> + '_ {
+        let tasks = plan.tasks_under(node);
+        let skips = plan.optional_under(node).map(Event::Skip);
+        tasks
+            .flat_map(|task| [Event::Start(task), Event::Finish(task)])
+            .chain(skips)
+    }
+
+    /// The task or the group.
+    pub fn node(self) -> usize {
         match self {
-            Event::Start(task) | Event::Finish(task) => task,
+            Event::Start(node) | Event::Finish(node) | Event::Skip(node) => node,
         }
     }
 
     /// The literals that the event makes true.
     pub fn asserts(self, plan: &Plan) -> impl Iterator<Item = Literal> + '_ {
-        match self {
-            Event::Start(task) => plan.conditions_of(task, INCONDITION),
-            Event::Finish(task) => plan.conditions_of(task, POSTCONDITION),
-        }
+        let place = match self {
+            Event::Start(_) => Some(INCONDITION),
+            Event::Finish(_) => Some(POSTCONDITION),
+            Event::Skip(_) => None,
+        };
+        let places = place.into_iter();
+        places.flat_map(move |place| plan.conditions_of(self.node(), place))
     }
 }
 
@@ -44,9 +67,10 @@ impl Statuses {
 
     pub fn after(&self, event: Event) -> Statuses {
         let mut after = self.clone();
-        after.0[event.task()] = match event {
+        after.0[event.node()] = match event {
             Event::Start(_) => Status::Running,
             Event::Finish(_) => Status::Done,
+            Event::Skip(_) => Status::Skipped,
         };
         after
     }
@@ -57,12 +81,19 @@ impl Statuses {
 
     /// Whether the node is a task that runs or is done.
     pub fn started(&self, node: usize) -> bool {
-        self.0[node] != Status::Waiting
+        matches!(self.0[node], Status::Running | Status::Done)
     }
 
-    /// Whether a task under the node is started (01: taken).
+    /// Whether the node is a group that is skipped.
+    pub fn skipped(&self, node: usize) -> bool {
+        self.0[node] == Status::Skipped
+    }
+
+    /// Whether a task under the node is started or an optional group under it is skipped (01, 02:
+    /// taken).
     pub fn begun(&self, plan: &Plan, node: usize) -> bool {
-        plan.tasks_under(node).any(|task| self.started(task))
+        let mut moved = (0..self.0.len()).filter(|&node| self.started(node) || self.skipped(node));
+        moved.any(|moved| plan.is_under(moved, node))
     }
 
     pub fn complete(&self, plan: &Plan, node: usize) -> bool {
@@ -70,56 +101,73 @@ impl Statuses {
         match plan.nodes[node].kind {
             TASK => self.0[node] == Status::Done,
             ALL_OF => children.all(|child| self.complete(plan, child)),
-            _ => children.any(|child| self.complete(plan, child)),
+            ANY_OF => children.any(|child| self.complete(plan, child)),
+            OPTIONAL => self.skipped(node) || children.any(|child| self.complete(plan, child)),
+            kind => unreachable!("kind {kind} in an accepted plan"),
         }
     }
 
-    /// The first of refusals 17 to 20 that applies to the event, judged on the node `top` alone:
-    /// only orders among nodes below it and choices at or below it count.
+    /// The first of refusals 17 to 20 that applies to the event, 27 in the place of 17 for a skip,
+    /// judged on the node `top` alone: only orders among nodes below it and choices at or below it
+    /// count.
     pub fn check(&self, plan: &Plan, top: usize, event: Event) -> Result<(), u32> {
-        let task = event.task();
-        if !(plan.is_task(task) && plan.is_under(task, top)) {
-            return Err(17);
-        }
-        let wanted = match event {
-            Event::Start(_) => Status::Waiting,
-            Event::Finish(_) => Status::Running,
+        let node = event.node();
+        let (of_its_kind, number) = match event {
+            Event::Start(_) | Event::Finish(_) => (plan.is_task(node), 17),
+            Event::Skip(_) => (plan.is_optional(node), 27),
         };
-        if self.0[task] != wanted {
+        if !(of_its_kind && plan.is_under(node, top)) {
+            return Err(number);
+        }
+        if !self.awaits(plan, event) {
             return Err(18);
         }
-        if let Event::Start(_) = event {
-            if self.other_branch_begun(plan, top, task) {
+        if let Event::Start(_) | Event::Skip(_) = event {
+            if self.other_branch_begun(plan, top, node) {
                 return Err(19);
             }
-            if self.earlier_incomplete(plan, top, task) {
+            if self.earlier_incomplete(plan, top, node) {
                 return Err(20);
             }
         }
         Ok(())
     }
 
-    /// 19: another branch of an any-of group above the task is begun.
-    fn other_branch_begun(&self, plan: &Plan, top: usize, task: usize) -> bool {
-        below(plan, top, task).any(|branch| match plan.parent(branch) {
-            Some(group) if plan.nodes[group].kind == ANY_OF => {
+    /// Not 18: the task is waiting for its start or running to its finish; the group is not skipped
+    /// and no branch of it is begun.
+    fn awaits(&self, plan: &Plan, event: Event) -> bool {
+        match event {
+            Event::Start(task) => self.0[task] == Status::Waiting,
+            Event::Finish(task) => self.runs(task),
+            Event::Skip(group) => {
+                let mut branches = plan.children(group);
+                !self.skipped(group) && !branches.any(|branch| self.begun(plan, branch))
+            }
+        }
+    }
+
+    /// 19: another branch of a choice above the node is begun. If that choice is skipped, it is the
+    /// one without tasks.
+    fn other_branch_begun(&self, plan: &Plan, top: usize, node: usize) -> bool {
+        below(plan, top, node).any(|branch| match plan.parent(branch) {
+            Some(group) if plan.is_choice(group) => {
                 let mut others = plan.children(group).filter(|&child| child != branch);
-                others.any(|other| self.begun(plan, other))
+                self.skipped(group) || others.any(|other| self.begun(plan, other))
             }
             _ => false,
         })
     }
 
-    /// 20: the earlier node of an order that applies to the task is not complete.
-    fn earlier_incomplete(&self, plan: &Plan, top: usize, task: usize) -> bool {
+    /// 20: the earlier node of an order that applies to the node is not complete.
+    fn earlier_incomplete(&self, plan: &Plan, top: usize, node: usize) -> bool {
         plan.orders.iter().any(|order| {
-            let applies = below(plan, top, task).any(|node| node == usize::from(order.later));
+            let applies = below(plan, top, node).any(|node| node == usize::from(order.later));
             applies && !self.complete(plan, usize::from(order.earlier))
         })
     }
 }
 
-/// The nodes below `top` that the task is under.
-fn below(plan: &Plan, top: usize, task: usize) -> impl Iterator<Item = usize> + '_ {
-    plan.upwards(task).take_while(move |&node| node != top)
+/// The nodes below `top` that the node is under.
+fn below(plan: &Plan, top: usize, node: usize) -> impl Iterator<Item = usize> + '_ {
+    plan.upwards(node).take_while(move |&node| node != top)
 }

@@ -11,6 +11,8 @@ pub const NO_PARENT: u8 = 255;
 pub const TASK: u8 = 0;
 pub const ALL_OF: u8 = 1;
 pub const ANY_OF: u8 = 2;
+/// 02: perhaps.
+pub const OPTIONAL: u8 = 3;
 
 /// Signs of a literal.
 pub const CLEAR: u16 = 0;

@@ -1,4 +1,4 @@
-//! The monitor (01: keeper): the calls on a state (01: record) and refusals 15 to 22.
+//! The monitor (01: keeper): the calls on a state (01: record) and refusals 15 to 22 and 27.
 
 use crate::model::events::{Event, Status, Statuses};
 use crate::model::format::{Plan, INCONDITION, PRECONDITION, SET};
@@ -37,8 +37,8 @@ pub fn fresh(plan: &Plan, state: &mut [u8]) -> Result<(), u32> {
     Ok(())
 }
 
-/// The call on an accepted plan: takes in the start or finish of a task, or meets the first of
-/// refusals 15 to 22.
+/// The call on an accepted plan: takes in the start or finish of a task or the skip of an optional
+/// group, or meets the first of refusals 15 to 22, for a skip 27 in the place of 17.
 pub fn happen(plan: &Plan, state: &mut [u8], event: Event) -> Result<(), u32> {
     let before = State::read(plan, state)?;
     before.step(plan, event)?.write(state);
@@ -82,6 +82,7 @@ impl State {
                 0 => Status::Waiting,
                 1 if plan.is_task(node) => Status::Running,
                 2 if plan.is_task(node) => Status::Done,
+                2 if plan.is_optional(node) => Status::Skipped,
                 _ => return Err(16),
             };
         }
@@ -102,7 +103,7 @@ impl State {
         shown.extend(self.statuses.0.iter().map(|status| match status {
             Status::Waiting => 0,
             Status::Running => 1,
-            Status::Done => 2,
+            Status::Done | Status::Skipped => 2,
         }));
         shown.extend(self.places.bytes());
         bytes[..shown.len()].copy_from_slice(&shown);
@@ -116,7 +117,8 @@ impl State {
         }
     }
 
-    /// The state after the event, or the first of refusals 17 to 22.
+    /// The state after the event, or the first of refusals 17 to 22, for a skip 27 in the place of
+    /// 17.
     pub fn step(&self, plan: &Plan, event: Event) -> Result<State, u32> {
         self.statuses.check(plan, 0, event)?;
         if self.precondition_unmet(plan, event) {
@@ -152,7 +154,7 @@ impl State {
                 let mut conditions = plan.conditions_of(task, PRECONDITION);
                 conditions.any(|literal| !self.is_true(literal))
             }
-            Event::Finish(_) => false,
+            Event::Finish(_) | Event::Skip(_) => false,
         }
     }
 
@@ -160,7 +162,7 @@ impl State {
     fn breaks_incondition(&self, plan: &Plan, event: Event) -> bool {
         event.asserts(plan).any(|literal| {
             plan.tasks().any(|other| {
-                other != event.task()
+                other != event.node()
                     && self.statuses.runs(other)
                     && plan.has(other, INCONDITION, literal.opposite())
             })

@@ -2,17 +2,35 @@
 
 use std::iter::successors;
 
-use crate::model::format::{Plan, NO_PARENT, TASK};
+use crate::model::format::{Plan, ANY_OF, NO_PARENT, OPTIONAL, TASK};
 
 impl Plan {
     /// Whether the number, which may be any, is that of a task.
     pub fn is_task(&self, number: usize) -> bool {
+        self.has_kind(number, TASK)
+    }
+
+    /// Whether the number, which may be any, is that of an optional group.
+    pub fn is_optional(&self, number: usize) -> bool {
+        self.has_kind(number, OPTIONAL)
+    }
+
+    /// Whether the node is a group of which one branch is taken.
+    pub fn is_choice(&self, node: usize) -> bool {
+        self.has_kind(node, ANY_OF) || self.is_optional(node)
+    }
+
+    fn has_kind(&self, number: usize, kind: u8) -> bool {
         let node = self.nodes.get(number);
-        node.is_some_and(|node| node.kind == TASK)
+        node.is_some_and(|node| node.kind == kind)
     }
 
     pub fn tasks(&self) -> impl Iterator<Item = usize> + '_ {
         (0..self.nodes.len()).filter(|&node| self.is_task(node))
+    }
+
+    pub fn optional_groups(&self) -> impl Iterator<Item = usize> + '_ {
+        (0..self.nodes.len()).filter(|&node| self.is_optional(node))
     }
 
     pub fn parent(&self, node: usize) -> Option<usize> {
@@ -39,5 +57,10 @@ impl Plan {
 
     pub fn tasks_under(&self, node: usize) -> impl Iterator<Item = usize> + '_ {
         self.tasks().filter(move |&task| self.is_under(task, node))
+    }
+
+    pub fn optional_under(&self, node: usize) -> impl Iterator<Item = usize> + '_ {
+        let groups = self.optional_groups();
+        groups.filter(move |&group| self.is_under(group, node))
     }
 }

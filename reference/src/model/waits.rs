@@ -24,7 +24,7 @@ impl Waits {
             }
             waits.lengths[node] = match plan.nodes[node].kind {
                 TASK => u32::from(plan.nodes[node].minutes),
-                // In an any-of group each wait is 0, so that its longest child has the latest end.
+                // In a choice each wait is 0, so that its longest child has the latest end.
                 _ => greatest(plan.children(node).map(|child| waits.end(child))),
             };
         }

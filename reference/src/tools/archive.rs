@@ -39,6 +39,13 @@ mod c {
             state_len: usize,
             task: usize,
         ) -> u32;
+        pub fn knowetop_skip(
+            plan: *const u8,
+            plan_len: usize,
+            state: *mut u8,
+            state_len: usize,
+            group: usize,
+        ) -> u32;
         pub fn knowetop_status(
             plan: *const u8,
             plan_len: usize,
@@ -70,6 +77,9 @@ pub fn make(call: Call, plan: &mut [u8], lent: &mut [u8]) -> u32 {
             }
             Call::Event(Event::Finish(task)) => {
                 c::knowetop_finish(plan, plan_len, lent, lent_len, task)
+            }
+            Call::Event(Event::Skip(group)) => {
+                c::knowetop_skip(plan, plan_len, lent, lent_len, group)
             }
             Call::Status => c::knowetop_status(plan, plan_len, lent, lent_len),
             Call::Listing => c::knowetop_listing(plan, plan_len, lent, lent_len),

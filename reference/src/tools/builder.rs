@@ -4,7 +4,7 @@
 //! afterwards.
 
 use crate::model::format::{
-    Condition, Node, Order, Plan, ALL_OF, ANY_OF, INCONDITION, NO_PARENT, POSTCONDITION,
+    Condition, Node, Order, Plan, ALL_OF, ANY_OF, INCONDITION, NO_PARENT, OPTIONAL, POSTCONDITION,
     PRECONDITION, TASK,
 };
 
@@ -35,6 +35,10 @@ impl Plan {
 
     pub fn any_of(self, name: &[u8; 4], parent: u8) -> Plan {
         self.node(name, parent, ANY_OF, 0)
+    }
+
+    pub fn optional(self, name: &[u8; 4], parent: u8) -> Plan {
+        self.node(name, parent, OPTIONAL, 0)
     }
 
     pub fn node(mut self, name: &[u8; 4], parent: u8, kind: u8, minutes: u16) -> Plan {

@@ -35,7 +35,7 @@ fn kind_or_minutes(plan: &mut Plan, random: &mut Random) {
     let at = random.below(plan.nodes.len());
     let node = &mut plan.nodes[at];
     if random.below(2) == 0 {
-        node.kind = random.below(4) as u8;
+        node.kind = random.below(5) as u8;
     } else {
         node.minutes = random.pick(&[0, 1, 10_080, 10_081, 65_535]);
     }

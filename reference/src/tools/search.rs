@@ -10,7 +10,7 @@ use crate::model::monitor::{places_begin, state_len};
 /// What the status call returns then.
 const COMPLETE: u32 = 128;
 
-/// What some list of start and finish calls, from the fresh state, can bring about.
+/// What some list of start, finish and skip calls, from the fresh state, can bring about.
 #[derive(Clone, Copy, Debug, PartialEq, Eq)]
 pub struct Outcome {
     /// Some call returns 21 or 22.
@@ -26,7 +26,7 @@ pub fn search(plan: &Plan) -> Outcome {
 }
 
 /// Goes through every state that these calls reach, but for the order of starts: no return depends
-/// on it, and there are too many. Numbers beyond the nodes only ever return 17.
+/// on it, and there are too many. Numbers beyond the nodes only ever return 17 or 27.
 pub fn search_by(plan: &Plan, make: impl Fn(Call, &mut [u8], &mut [u8]) -> u32) -> Outcome {
     let mut outcome = Outcome {
         conflict: false,
@@ -41,14 +41,12 @@ pub fn search_by(plan: &Plan, make: impl Fn(Call, &mut [u8], &mut [u8]) -> u32) 
     let mut open = vec![fresh];
     while let Some(mut state) = open.pop() {
         outcome.completable |= make(Call::Status, &mut state) == COMPLETE;
-        for number in 0..plan.nodes.len() {
-            for event in [Event::Start(number), Event::Finish(number)] {
-                let mut after = state.clone();
-                match make(Call::Event(event), &mut after) {
-                    0 if seen.insert(without_places(&after)) => open.push(after),
-                    21 | 22 => outcome.conflict = true,
-                    _ => {}
-                }
+        for event in (0..plan.nodes.len()).flat_map(Event::each) {
+            let mut after = state.clone();
+            match make(Call::Event(event), &mut after) {
+                0 if seen.insert(without_places(&after)) => open.push(after),
+                21 | 22 => outcome.conflict = true,
+                _ => {}
             }
         }
     }

@@ -9,6 +9,7 @@ use reference::tools::scenario::cases::cases;
 use reference::tools::scenario::tally::Tally;
 
 const B: &[u8] = include_bytes!("../../../samples/b.plan");
+const OPTIONAL: &[u8] = include_bytes!("../../../samples/calibration-optional.plan");
 const LARGE: &[u8] = include_bytes!("../../../samples/large.plan");
 
 /// Every call on these bytes.
@@ -19,10 +20,11 @@ fn every_call(tally: &mut Tally, random: &mut Random, plan: &[u8]) {
     }
 }
 
-/// B with any one byte changed or cut off there, and the largest plan at some of its bytes.
+/// B, and a plan with an optional group, with any one byte changed or cut off there; the largest
+/// plan at some of its bytes.
 pub fn bytes(tally: &mut Tally) {
     let mut random = Random::new(81);
-    for (plan, step) in [(B, 1), (LARGE, 89)] {
+    for (plan, step) in [(B, 1), (OPTIONAL, 1), (LARGE, 89)] {
         for at in (0..plan.len()).step_by(step) {
             let mut bytes = plan.to_vec();
             for value in [0, 255, random.byte(), bytes[at] ^ 64] {

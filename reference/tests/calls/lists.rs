@@ -1,6 +1,6 @@
 //! Calls of the monitor: lists of them, and single ones on states of every kind.
 
-use std::iter::once;
+use std::iter::{once, repeat_with};
 
 use reference::model::calls::{Answers, Call};
 use reference::model::events::Event;
@@ -60,21 +60,15 @@ pub fn large(tally: &mut Tally) {
     }
 }
 
-/// Every call of the monitor on the state.
-fn every_call(
+/// These calls on the state.
+fn on_state(
     tally: &mut Tally,
-    random: &mut Random,
     plan: &Plan,
     answers: &Answers,
     state: &[u8],
+    calls: impl Iterator<Item = Call>,
 ) {
-    let number = any_event(random, plan).task();
-    for call in [
-        Call::Fresh,
-        Call::Event(Event::Start(number)),
-        Call::Event(Event::Finish(number)),
-        Call::Status,
-    ] {
+    for call in calls {
         let case = Case {
             call,
             plan: plan.bytes(),
@@ -82,6 +76,19 @@ fn every_call(
         };
         tally.compare(answers, &case);
     }
+}
+
+/// Every call of the monitor on the state, with some number.
+fn every_call(
+    tally: &mut Tally,
+    random: &mut Random,
+    plan: &Plan,
+    answers: &Answers,
+    state: &[u8],
+) {
+    let events = Event::each(any_event(random, plan).node()).map(Call::Event);
+    let calls = [Call::Fresh, Call::Status].into_iter().chain(events);
+    on_state(tally, plan, answers, state, calls);
 }
 
 /// States that lists reach and others, each of all lengths from below 8 + N to above 8 + 3N and
@@ -146,6 +153,39 @@ pub fn places(tally: &mut Tally) {
             every_call(tally, &mut random, &plan, &answers, &state);
         }
     }
+}
+
+/// Each of the bytes 0 to 3 at each node of small plans with optional groups: the status, and every
+/// event of every node and of the number after the last.
+pub fn statuses(tally: &mut Tally) {
+    let mut random = Random::new(117);
+    let drawn = repeat_with(|| {
+        let nodes = random.within(2, 5);
+        dense_plan(&mut random, nodes)
+    });
+    let with_optional = drawn.filter(|plan| plan.optional_groups().next().is_some());
+    for plan in with_optional.take(30) {
+        let answers = Answers::by_rules(&plan.bytes());
+        let nodes = plan.nodes.len();
+        for at in 0..1_usize << (2 * nodes) {
+            let byte = |node: usize| (at >> (2 * node) & 3) as u8;
+            let bytes: Vec<u8> = (0..nodes).map(byte).collect();
+            let events = (0..=nodes).flat_map(Event::each).map(Call::Event);
+            let calls = events.chain([Call::Status]);
+            on_state(tally, &plan, &answers, &in_order(&plan, &bytes), calls);
+        }
+    }
+}
+
+/// A state with the start flags and these bytes at the nodes; the tasks whose byte is not 0 were
+/// started in the order of their numbers.
+fn in_order(plan: &Plan, bytes: &[u8]) -> Vec<u8> {
+    let mut places = Places::none(plan);
+    let started = plan.tasks().filter(|&task| bytes[task] != 0);
+    for (place, task) in (1..).zip(started) {
+        places.0[task] = place;
+    }
+    [&plan.start[..], bytes, &places.bytes()].concat()
 }
 
 /// What demand 3 says of CLEAR and DOOMED, by all lists of calls of the archive alone.

@@ -12,7 +12,7 @@ use reference::tools::scenario::tally::Tally;
 
 type Topic = (&'static str, fn(&mut Tally));
 
-const TOPICS: [Topic; 16] = [
+const TOPICS: [Topic; 17] = [
     ("summaries of small plans, by runs", summaries::small),
     ("summaries of large plans, by rules", summaries::large),
     ("summaries of the samples", summaries::samples),
@@ -22,6 +22,7 @@ const TOPICS: [Topic; 16] = [
     ("states of every length and fault", lists::states),
     ("states that no list reaches", lists::unreachable),
     ("places of every kind", lists::places),
+    ("every byte at every node", lists::statuses),
     ("CLEAR and DOOMED, by all lists", lists::claims),
     ("listings of random plans", listings::random),
     ("listings of long, deep and equal waits", listings::extremes),
@@ -32,12 +33,13 @@ const TOPICS: [Topic; 16] = [
 ];
 
 /// What each call returned at least so often.
-const MET: [(&str, usize, &[RangeInclusive<u32>]); 7] = [
+const MET: [(&str, usize, &[RangeInclusive<u32>]); 8] = [
     ("verdict", 20, &[1..=14, 128..=130]),
     ("summary", 20, &[0..=15, 17..=17]),
     ("fresh", 20, &[0..=15]),
     ("start", 20, &[0..=22]),
     ("finish", 20, &[0..=18, 22..=22]),
+    ("skip", 20, &[0..=16, 18..=20, 27..=27]),
     ("status", 20, &[1..=16, 128..=129]),
     ("listing", 20, &[1..=15, 256..=256]),
 ];

@@ -74,7 +74,7 @@ pub fn small(tally: &mut Tally) {
 
 /// Plans of 128 nodes and 64 flags.
 pub fn large(tally: &mut Tally) {
-    let mut random = Random::new(72);
+    let mut random = Random::new(75);
     let mut plans: Vec<Plan> = Vec::new();
     for shape in SHAPES {
         for (conditions, orders) in [(60, 0), (200, 512), (1_024, 100), (1_024, 512)] {
@@ -85,8 +85,8 @@ pub fn large(tally: &mut Tally) {
             };
             plans.push(plan(&mut random, sizes, shape));
             plans.push(clear_plan(&mut random, sizes, shape));
-            for _ in 0..4 {
-                plans.push(shaken_plan(&mut random, sizes, shape));
+            for shape in [shape, shape.without_optional()] {
+                plans.extend((0..2).map(|_| shaken_plan(&mut random, sizes, shape)));
             }
         }
     }

@@ -1,10 +1,13 @@
 //! Random lists of calls, against returns and states worked out anew from the plan and the calls
 //! accepted so far, never from a state's bytes.
 
+use std::collections::BTreeMap;
+
 use reference::model::calls::Call;
-use reference::model::events::Event::{self, Finish, Start};
+use reference::model::events::Event::{self, Finish, Skip, Start};
 use reference::model::format::{
-    Condition, Plan, Sizes, ALL_OF, ANY_OF, INCONDITION, POSTCONDITION, PRECONDITION, TASK,
+    Condition, Plan, Sizes, ALL_OF, ANY_OF, INCONDITION, OPTIONAL, POSTCONDITION, PRECONDITION,
+    TASK,
 };
 use reference::tools::generate::{any_plan, dense_plan, LIMITS};
 use reference::tools::random::Random;
@@ -30,16 +33,17 @@ impl Past<'_> {
 
     /// 0, or the refusal that applies first.
     fn returns(&self, event: Event) -> u32 {
-        let task = event.task();
-        if task >= self.plan.nodes.len() || self.plan.nodes[task].kind != TASK {
-            return 17;
-        }
+        let node = event.node();
+        let kind = self.plan.nodes.get(node).map(|node| node.kind);
         match event {
-            Start(_) if self.has(Start(task)) => 18,
-            Start(_) if self.chosen_otherwise(task) => 19,
-            Start(_) if self.too_early(task) => 20,
-            Start(_) if !self.all_true(task) => 21,
-            Finish(_) if !self.running(task) => 18,
+            Start(_) | Finish(_) if kind != Some(TASK) => 17,
+            Skip(_) if kind != Some(OPTIONAL) => 27,
+            Start(_) if self.has(Start(node)) => 18,
+            Finish(_) if !self.running(node) => 18,
+            Skip(_) if self.happened_in(node) => 18,
+            Start(_) | Skip(_) if self.chosen_otherwise(node) => 19,
+            Start(_) | Skip(_) if self.too_early(node) => 20,
+            Start(_) if !self.all_true(node) => 21,
             _ if self.breaks(event) => 22,
             _ => 0,
         }
@@ -52,7 +56,11 @@ impl Past<'_> {
             let bit = u8::try_from(self.value(flag)).unwrap() << (flag % 8);
             bytes[usize::from(flag / 8)] |= bit;
         }
-        let status = |node| u8::from(self.has(Start(node))) + u8::from(self.has(Finish(node)));
+        let ended = |node| self.has(Finish(node)) || self.has(Skip(node));
+        let status = |node| match ended(node) {
+            true => 2,
+            false => u8::from(self.has(Start(node))),
+        };
         bytes.extend((0..self.plan.nodes.len()).map(status));
         let place = |node| self.place(node).to_le_bytes();
         bytes.extend((0..self.plan.nodes.len()).flat_map(place));
@@ -75,13 +83,20 @@ impl Past<'_> {
         self.has(Start(task)) && !self.has(Finish(task))
     }
 
-    /// Some task was started that parts from this one at an any-of group.
-    fn chosen_otherwise(&self, task: usize) -> bool {
-        let path = self.path(task);
+    /// Some event was one of this group, or of a node below it.
+    fn happened_in(&self, group: usize) -> bool {
+        let mut accepted = self.accepted.iter();
+        accepted.any(|event| self.path(event.node()).contains(&group))
+    }
+
+    /// Some task was started, or group skipped, that parts from this node at a choice; a skipped
+    /// group above the node does so at itself.
+    fn chosen_otherwise(&self, node: usize) -> bool {
+        let path = self.path(node);
         self.accepted.iter().any(|event| {
-            let other = self.path(event.task());
+            let other = self.path(event.node());
             let parting = path.iter().find(|node| other.contains(node)).unwrap();
-            self.plan.nodes[*parting].kind == ANY_OF
+            [ANY_OF, OPTIONAL].contains(&self.plan.nodes[*parting].kind)
         })
     }
 
@@ -95,10 +110,10 @@ impl Past<'_> {
         path
     }
 
-    /// Some order's later node is above the task, and its earlier node is not complete.
-    fn too_early(&self, task: usize) -> bool {
+    /// Some order's later node is the node or above it, and its earlier node is not complete.
+    fn too_early(&self, node: usize) -> bool {
         let complete = self.complete();
-        let path = self.path(task);
+        let path = self.path(node);
         let orders = self.plan.orders.iter();
         let mut into = orders.filter(|order| path.contains(&usize::from(order.later)));
         into.any(|order| !complete[usize::from(order.earlier)])
@@ -114,7 +129,7 @@ impl Past<'_> {
             complete[number] = match node.kind {
                 TASK => self.has(Finish(number)),
                 ALL_OF => done == all,
-                _ => done > 0,
+                _ => done > 0 || self.has(Skip(number)),
             };
             if number > 0 {
                 let (all, done) = &mut children[usize::from(node.parent)];
@@ -139,6 +154,7 @@ impl Past<'_> {
         match event {
             Start(task) => self.conditions(task, INCONDITION),
             Finish(task) => self.conditions(task, POSTCONDITION),
+            Skip(_) => Vec::new(),
         }
     }
 
@@ -159,7 +175,7 @@ impl Past<'_> {
 
     fn breaks(&self, event: Event) -> bool {
         let written = self.written(event);
-        let others = (0..self.plan.nodes.len()).filter(|&task| task != event.task());
+        let others = (0..self.plan.nodes.len()).filter(|&task| task != event.node());
         others.filter(|&task| self.running(task)).any(|task| {
             let held = self.conditions(task, INCONDITION);
             held.iter().any(|hold| {
@@ -170,8 +186,11 @@ impl Past<'_> {
     }
 }
 
+/// How often each call returned what.
+type Counts = BTreeMap<(&'static str, u32), usize>;
+
 /// Replays a list and counts its returns. The bytes after the state must stay.
-fn check(random: &mut Random, plan: &Plan, list: &[Event], counts: &mut [usize; 23]) {
+fn check(random: &mut Random, plan: &Plan, list: &[Event], counts: &mut Counts) {
     let state_len = 8 + 3 * plan.nodes.len();
     let extra = random.below(4);
     let lent = random.bytes(state_len + extra);
@@ -187,7 +206,8 @@ fn check(random: &mut Random, plan: &Plan, list: &[Event], counts: &mut [usize; 
     for (&event, after) in list.iter().zip(&afters[1..]) {
         let want = past.returns(event);
         assert_eq!(after.returned, want, "{}", past.at(event));
-        counts[want as usize] += 1;
+        let key = (Call::Event(event).name(), want);
+        *counts.entry(key).or_default() += 1;
         if want == 0 {
             past.accepted.push(event);
         }
@@ -203,7 +223,7 @@ fn check(random: &mut Random, plan: &Plan, list: &[Event], counts: &mut [usize; 
 #[test]
 fn returns_and_states() {
     let mut random = Random::new(41);
-    let mut counts = [0; 23];
+    let mut counts = Counts::new();
     for nodes in 1..=10 {
         for _ in 0..400 {
             let plan = dense_plan(&mut random, nodes);
@@ -231,10 +251,22 @@ fn returns_and_states() {
     let flat = Plan::flat(1, 128);
     let long = long_list(&mut random, &flat);
     check(&mut random, &flat, &long, &mut counts);
-    println!(
-        "returns from 17 to 22: {:?}, accepted: {}",
-        &counts[17..],
-        counts[0]
-    );
-    assert!(counts[0] > 10_000 && counts[17..].iter().all(|&count| count > 300));
+    println!("{counts:?}");
+    let accepted = ["start", "finish", "skip"].map(|name| counts[&(name, 0)]);
+    assert!(accepted.iter().sum::<usize>() > 10_000);
+    for returned in 17..=22 {
+        let of = |name| counts.get(&(name, returned)).unwrap_or(&0);
+        assert!(of("start") + of("finish") > 300, "{returned} is too rare");
+    }
+    for (name, returns) in [
+        ("start", &[0, 17, 18, 19, 20, 21, 22][..]),
+        ("finish", &[0, 17, 18, 22]),
+        ("skip", &[0, 18, 19, 20, 27]),
+    ] {
+        for &returned in returns {
+            let count = counts.remove(&(name, returned)).unwrap_or(0);
+            assert!(count > 100, "{name} returned {returned} {count} times");
+        }
+    }
+    assert_eq!(counts, Counts::new(), "other returns");
 }

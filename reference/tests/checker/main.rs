@@ -6,6 +6,7 @@ mod clobbering;
 mod lists;
 mod memory;
 mod monitor;
+mod optional;
 mod places;
 mod readings;
 mod trials;

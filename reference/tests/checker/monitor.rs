@@ -1,7 +1,8 @@
-//! Refusals 15 to 22: with several causes at once the lowest number is returned.
+//! Refusals 15 to 22 and 27: with several causes at once the first in the order of checks is
+//! returned.
 
 use reference::model::calls::Call;
-use reference::model::events::Event::{self, Finish, Start};
+use reference::model::events::Event::{Finish, Skip, Start};
 
 use crate::{make, plan, sample};
 
@@ -19,15 +20,20 @@ fn returned(plan: &[u8], state: &[u8], call: Call) -> u32 {
     returned
 }
 
+/// A state of that plan with this flag byte and these statuses.
+fn state(flags: u8, statuses: [u8; 6]) -> Vec<u8> {
+    with_tasks(&[1, 2, 4, 5], flags, &statuses)
+}
+
 /// A state with this flag byte and these statuses; the tasks were started in the order of their
 /// numbers.
-fn state(flags: u8, statuses: [u8; 6]) -> Vec<u8> {
-    let mut places = [0; 12];
-    let started = [1, 2, 4, 5].into_iter().filter(|&task| statuses[task] != 0);
+fn with_tasks(tasks: &[usize], flags: u8, statuses: &[u8]) -> Vec<u8> {
+    let mut places = vec![0; 2 * statuses.len()];
+    let started = tasks.iter().filter(|&&task| statuses[task] != 0);
     for (place, task) in (1..).zip(started) {
         places[2 * task] = place;
     }
-    [&[flags, 0, 0, 0, 0, 0, 0, 0][..], &statuses, &places].concat()
+    [&[flags, 0, 0, 0, 0, 0, 0, 0][..], statuses, &places].concat()
 }
 
 #[test]
@@ -79,11 +85,48 @@ fn causes_for_a_finish() {
     }
 }
 
+/// A plan in which group 5 can meet every refusal of a skip.
+const OPTIONAL: &str = "flags 2\n0 ROOT all-of\n1 A--- task 0 under 0 holds 0-set leaves 0-clear\n\
+    2 PICK any-of under 0\n3 B--- task 0 under 2\n4 GRP- all-of under 2\n5 DROP optional under 4\n\
+    6 C--- task 0 under 5 needs 1-set\norder 1 2\n";
+
+/// A skip knows no 21 and 22.
+#[test]
+fn causes_for_a_skip() {
+    let plan = plan(OPTIONAL);
+    let state = |flags, statuses: [u8; 7]| with_tasks(&[1, 3, 6], flags, &statuses);
+    for (state, number, want) in [
+        (state(255, [0; 7])[..28].to_vec(), 3, 15),
+        (state(4, [0; 7]), 3, 16),
+        (state(0, [0, 1, 0, 1, 2, 0, 1]), 3, 16),
+        (state(0, [0, 1, 0, 1, 0, 1, 1]), 3, 16),
+        (state(0, [0, 1, 0, 1, 0, 3, 1]), 3, 16),
+        (state(0, [0, 1, 0, 1, 0, 2, 1]), 3, 27),
+        (state(0, [0, 1, 0, 1, 0, 2, 1]), 4, 27),
+        (state(0, [0, 1, 0, 1, 0, 2, 1]), 7, 27),
+        (state(0, [0, 1, 0, 1, 0, 2, 1]), usize::MAX, 27),
+        (state(0, [0, 1, 0, 1, 0, 2, 1]), 5 + 256, 27),
+        (state(0, [0, 1, 0, 1, 0, 2, 1]), 5, 18),
+        (state(0, [0, 1, 0, 1, 0, 2, 0]), 5, 18),
+        (state(0, [0, 1, 0, 1, 0, 0, 1]), 5, 18),
+        (state(0, [0, 1, 0, 1, 0, 0, 2]), 5, 18),
+        (state(0, [0, 1, 0, 1, 0, 0, 0]), 5, 19),
+        (state(0, [0, 1, 0, 2, 0, 0, 0]), 5, 19),
+        (state(0, [0, 1, 0, 0, 0, 0, 0]), 5, 20),
+        (state(0, [0, 0, 0, 0, 0, 0, 0]), 5, 20),
+        (state(0, [0, 2, 0, 0, 0, 0, 0]), 5, 0),
+        (state(3, [0, 2, 0, 0, 0, 0, 0]), 5, 0),
+    ] {
+        let call = Call::Event(Skip(number));
+        assert_eq!(returned(&plan, &state, call), want, "{state:?}");
+    }
+}
+
 #[test]
 fn plan_comes_first() {
     for (name, want) in [("fifteen-bytes", 1), ("nodes-129", 2), ("minutes-10081", 6)] {
         let plan = sample(name);
-        for call in calls(Start(9)).into_iter().chain(calls(Finish(9))) {
+        for call in CALLS {
             assert_eq!(returned(&plan, &[], call), want, "{name}, {call:?}");
         }
     }
@@ -93,20 +136,21 @@ fn plan_comes_first() {
 #[test]
 fn memory_comes_next() {
     let plan = sample("b");
-    for call in calls(Start(9)).into_iter().chain(calls(Finish(9))) {
+    for call in CALLS {
         assert_eq!(returned(&plan, &[255; 22], call), 15, "{call:?}");
     }
 }
 
-fn calls(event: Event) -> [Call; 5] {
-    [
-        Call::Summary(9),
-        Call::Fresh,
-        Call::Event(event),
-        Call::Status,
-        Call::Listing,
-    ]
-}
+/// The calls that are lent memory, on no node.
+const CALLS: [Call; 7] = [
+    Call::Summary(9),
+    Call::Fresh,
+    Call::Event(Start(9)),
+    Call::Event(Finish(9)),
+    Call::Event(Skip(9)),
+    Call::Status,
+    Call::Listing,
+];
 
 /// Fresh takes over memory of any content; what is malformed concerns the others.
 #[test]

@@ -1,12 +1,12 @@
 //! The order of starts in a state (02, 107).
 
 use reference::model::calls::Call;
-use reference::model::events::Event::{Finish, Start};
+use reference::model::events::Event::{Finish, Skip, Start};
 
 use crate::{make, plan, sample};
 
 /// The calls that check a state, on tasks that wait, run and are done and on no node.
-const CHECKING: [Call; 7] = [
+const CHECKING: [Call; 8] = [
     Call::Status,
     Call::Event(Start(3)),
     Call::Event(Start(4)),
@@ -14,6 +14,7 @@ const CHECKING: [Call; 7] = [
     Call::Event(Finish(1)),
     Call::Event(Finish(4)),
     Call::Event(Finish(9)),
+    Call::Event(Skip(2)),
 ];
 
 /// A state of B with this flag byte, these statuses and these places.
@@ -129,7 +130,7 @@ fn malformed() {
         check(Call::Fresh, &b, &state, 0, &[0; 23]);
     }
     let right = state(2, statuses, [0, 1, 0, 0, 2]);
-    for (call, want) in CHECKING.into_iter().zip([129, 19, 18, 17, 18, 0, 17]) {
+    for (call, want) in CHECKING.into_iter().zip([129, 19, 18, 17, 18, 0, 17, 27]) {
         let mut lent = right.clone();
         assert_eq!(make(call, &b, &mut lent), want, "{call:?}");
     }

@@ -2,7 +2,7 @@
 
 use std::cmp::Ordering;
 
-use reference::model::format::{Order, Plan, Sizes, ANY_OF, TASK};
+use reference::model::format::{Order, Plan, Sizes, ALL_OF, TASK};
 use reference::tools::generate::{alike, any_plan};
 use reference::tools::random::Random;
 
@@ -16,8 +16,8 @@ fn length_of_an_all_of_group() {
     assert_eq!(listed(&plan(text)), "CLEAR 10\nZ--- 1\nA--- 0\nC--- 0\n");
 }
 
-/// Waits add up from the root down; an any-of group is as long as its longest child and adds no
-/// wait; of two earlier nodes the later end counts.
+/// Waits add up from the root down; an any-of group, and an optional one, is as long as its longest
+/// child and adds no wait; of two earlier nodes the later end counts.
 #[test]
 fn nested_groups() {
     let text = "flags 1\n0 ROOT all-of\n1 A--- task 7 under 0\n2 GRP- all-of under 0\n\
@@ -26,6 +26,7 @@ fn nested_groups() {
          9 G--- task 3 under 0\norder 1 2\norder 2 8\norder 3 4\norder 7 8\norder 8 9\n";
     let lines = "CLEAR 131\nG--- 128\nF--- 127\nC--- 27\nD--- 27\nB--- 7\nA--- 0\nE--- 0\n";
     assert_eq!(listed(&plan(text)), lines);
+    assert_eq!(listed(&plan(&text.replace("any-of", "optional"))), lines);
 }
 
 /// The names of the lines of an any-of group of tasks with these names, which all wait 0.
@@ -99,8 +100,8 @@ fn longest() {
 fn length(plan: &Plan, node: usize) -> u32 {
     let children = plan.children(node);
     let ends = children.map(|child| match plan.nodes[node].kind {
-        ANY_OF => length(plan, child),
-        _ => wait_within(plan, child) + length(plan, child),
+        ALL_OF => wait_within(plan, child) + length(plan, child),
+        _ => length(plan, child),
     });
     match plan.nodes[node].kind {
         TASK => u32::from(plan.nodes[node].minutes),

@@ -105,6 +105,36 @@ static void run(const uint8_t *plan, size_t len)
     assert(knowetop_status(plan, len, state, sizeof state) == KNOWETOP_COMPLETE);
 }
 
+/* The same with COMS optional, of kind 3: with it skipped the run is complete after CAST. */
+static void optional(const uint8_t *plan, size_t len)
+{
+    uint8_t with_kind[82], state[STATE], skipped[STATE];
+    assert(len == sizeof with_kind);
+    memcpy(with_kind, plan, len);
+    with_kind[16 + 4 * NODES + 4 * COMS + 1] = 3;
+    plan = with_kind;
+    memcpy(skipped, cast, STATE);
+    skipped[8 + COMS] = 2;
+
+    assert(knowetop_verdict(plan, len) == KNOWETOP_CLEAR);
+    assert(knowetop_fresh(plan, len, state, sizeof state) == 0);
+    assert(knowetop_skip(plan, len, state, STATE - 1, COMS) == 15);
+    assert(knowetop_skip(plan, len, state, sizeof state, CAST) == 27); /* a task */
+    assert(knowetop_skip(plan, len, state, sizeof state, NODES) == 27); /* no node */
+    assert(knowetop_skip(plan, len, state, sizeof state, COMS) == 20); /* CAST comes first */
+    assert(same(state, at_first, STATE));
+
+    assert(knowetop_start(plan, len, state, sizeof state, CAST) == 0);
+    assert(knowetop_finish(plan, len, state, sizeof state, CAST) == 0);
+    assert(knowetop_status(plan, len, state, sizeof state) == KNOWETOP_UNFINISHED);
+    assert(knowetop_skip(plan, len, state, sizeof state, COMS) == 0);
+    assert(same(state, skipped, STATE));
+    assert(knowetop_status(plan, len, state, sizeof state) == KNOWETOP_COMPLETE);
+    assert(knowetop_skip(plan, len, state, sizeof state, COMS) == 18); /* skipped already */
+    assert(knowetop_start(plan, len, state, sizeof state, RADI) == 19); /* in a skipped group */
+    assert(same(state, skipped, STATE));
+}
+
 /* States that are too short or malformed, and bytes after the state. */
 static void lent_states(const uint8_t *plan, size_t len)
 {
@@ -114,6 +144,7 @@ static void lent_states(const uint8_t *plan, size_t len)
     assert(knowetop_status(plan, len, state, sizeof state) == 16);
     assert(knowetop_start(plan, len, state, sizeof state, CAST) == 16);
     assert(knowetop_finish(plan, len, state, sizeof state, CAST) == 16);
+    assert(knowetop_skip(plan, len, state, sizeof state, COMS) == 16);
     assert(kept(state, sizeof state));
     assert(knowetop_fresh(plan, len, state, sizeof state) == 0);
     assert(kept(state + STATE, sizeof state - STATE));
@@ -121,6 +152,7 @@ static void lent_states(const uint8_t *plan, size_t len)
     /* without a byte, and without places */
     assert(knowetop_status(plan, len, state, STATE - 1) == 15);
     assert(knowetop_start(plan, len, state, 8 + NODES, CAST) == 15);
+    assert(knowetop_skip(plan, len, state, sizeof state, COMS) == 27); /* any of, not optional */
     state[8 + NODES + 2 * CAST] = 1; /* a place, but CAST waits */
     assert(knowetop_start(plan, len, state, sizeof state, CAST) == 16);
 }
@@ -148,6 +180,7 @@ int main(int argc, char **argv)
     refusal_and_verdict(lent, sizeof lent);
     summary(lent, sizeof lent);
     run(lent, sizeof lent);
+    optional(lent, sizeof lent);
     lent_states(lent, sizeof lent);
     listing(lent, sizeof lent);
     assert(same(lent, plan, sizeof lent));

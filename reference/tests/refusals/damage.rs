@@ -7,9 +7,10 @@ use reference::tools::random::Random;
 use crate::tally::Tally;
 
 const B: &[u8] = include_bytes!("../../../samples/b.plan");
+const OPTIONAL: &[u8] = include_bytes!("../../../samples/calibration-optional.plan");
 const LARGE: &[u8] = include_bytes!("../../../samples/large.plan");
 
-/// Plan B, a bare task, and random plans of some hundred bytes.
+/// Plan B, one with an optional group, a bare task, and random plans of some hundred bytes.
 fn small_plans() -> Vec<Vec<u8>> {
     let mut random = Random::new(11);
     let most = Sizes {
@@ -18,11 +19,11 @@ fn small_plans() -> Vec<Vec<u8>> {
         orders: 20,
         flags: 64,
     };
-    let mut plans = vec![B.to_vec(), Plan::one_task(64).bytes()];
+    let mut plans = vec![B.to_vec(), OPTIONAL.to_vec(), Plan::one_task(64).bytes()];
     plans.extend((0..4).map(|_| any_plan(&mut random, most).bytes()));
     for flags in [1, 9, 33] {
         let sizes = Sizes { flags, ..most };
-        plans.push(plan(&mut random, sizes, Shape::Bushy).bytes());
+        plans.push(plan(&mut random, sizes, Shape::BUSHY).bytes());
     }
     plans
 }

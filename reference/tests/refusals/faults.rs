@@ -3,7 +3,8 @@
 use std::collections::BTreeSet;
 
 use reference::model::format::{
-    Condition, Order, Plan, ALL_OF, ANY_OF, CLEAR, INCONDITION, NO_PARENT, PRECONDITION, SET,
+    Condition, Order, Plan, ALL_OF, ANY_OF, CLEAR, INCONDITION, NO_PARENT, OPTIONAL, PRECONDITION,
+    SET,
 };
 use reference::model::rules::causes;
 
@@ -44,7 +45,7 @@ fn sound() -> Plan {
 }
 
 /// Ways to meet each refusal.
-const FAULTS: [Fault; 40] = [
+const FAULTS: [Fault; 41] = [
     (1, Bytes(|b| b.truncate(15))),
     (2, Fields(|p| p.flags = 0)),
     (2, Fields(|p| p.flags = 65)),
@@ -57,7 +58,7 @@ const FAULTS: [Fault; 40] = [
     (4, Fields(|p| p.set_at_start(63))),
     (5, Fields(|p| p.nodes[0].name[0] = b'a')),
     (5, Fields(|p| p.nodes[11].name[3] = 0)),
-    (6, Fields(|p| p.nodes[2].kind = 3)),
+    (6, Fields(|p| p.nodes[2].kind = 4)),
     (6, Fields(|p| p.nodes[2].minutes = 10_081)),
     (6, Fields(|p| p.nodes[3].minutes = 1)),
     (7, Fields(|p| p.nodes[0].parent = 0)),
@@ -66,6 +67,7 @@ const FAULTS: [Fault; 40] = [
     (7, Fields(|p| p.nodes[9].parent = 255)),
     (8, Fields(|p| p.nodes[10].kind = ALL_OF)),
     (8, Fields(|p| p.nodes[10].kind = ANY_OF)),
+    (8, Fields(|p| p.nodes[10].kind = OPTIONAL)),
     (9, Fields(|p| condition(p, 12, 0))),
     (9, Fields(|p| condition(p, 0, 0))),
     (9, Fields(|p| condition(p, 11, 384))),

@@ -18,25 +18,31 @@ use crate::timing::{grouped, least, medians};
 /// Each time is the least of so many medians, taken in rounds over all plans.
 const ROUNDS: usize = 8;
 
-/// The calls of one plan.
-const CALLS: usize = 8;
+/// The columns.
+const CALLS: [&str; 9] = [
+    "refusal", "verdict", "summary", "fresh", "start", "finish", "skip", "status", "listing",
+];
 
 pub fn print() {
     let shapes = shapes();
-    let cases: Vec<[Case; CALLS]> = shapes.iter().map(|shaped| cases(&shaped.plan)).collect();
+    let cases: Vec<Vec<Case>> = shapes.iter().map(|shaped| cases(&shaped.plan)).collect();
     cases.iter().flatten().for_each(check);
-    let round = |_| cases.iter().map(times).collect();
-    let rounds: Vec<Vec<[f64; CALLS]>> = (0..ROUNDS).map(round).collect();
-    heading(&cases[0]);
+    let round = |_| cases.iter().map(|cases| times(cases)).collect();
+    let rounds: Vec<Vec<Vec<f64>>> = (0..ROUNDS).map(round).collect();
+    heading();
     for (at, shaped) in shapes.iter().enumerate() {
-        let of_call = |call: usize| least(rounds.iter().map(|round| round[at][call]));
-        row(shaped, (0..CALLS).map(of_call));
+        let of_call = |name: &str| {
+            let call = cases[at].iter().position(|case| case.call.name() == name)?;
+            Some(least(rounds.iter().map(|round| round[at][call])))
+        };
+        row(shaped, CALLS.map(of_call));
     }
 }
 
 /// Every call as it is timed: accepted, so that it makes all its checks. Start and finish are those
 /// of one task that nothing has to come before, with its needs met; the status is that after both.
-fn cases(plan: &Plan) -> [Case; CALLS] {
+/// The skip is that of the last group for which it is accepted at first, if there is one.
+fn cases(plan: &Plan) -> Vec<Case> {
     let task = first_task(plan);
     let (start, finish) = (Event::Start(task), Event::Finish(task));
     let waiting = ready(plan, task);
@@ -47,7 +53,7 @@ fn cases(plan: &Plan) -> [Case; CALLS] {
         state.write(&mut bytes);
         bytes
     };
-    [
+    let mut lending = vec![
         (Call::Refusal, Vec::new()),
         (Call::Verdict, Vec::new()),
         (Call::Summary(0), vec![0; summary_len(plan)]),
@@ -56,12 +62,18 @@ fn cases(plan: &Plan) -> [Case; CALLS] {
         (Call::Event(finish), bytes(&running)),
         (Call::Status, bytes(&done)),
         (Call::Listing, vec![0; LISTING_LEN]),
-    ]
-    .map(|(call, lent)| Case {
+    ];
+    let first = State::fresh(plan);
+    let skips = plan.optional_groups().map(Event::Skip);
+    if let Some(skip) = skips.filter(|&skip| first.step(plan, skip).is_ok()).last() {
+        lending.push((Call::Event(skip), bytes(&first)));
+    }
+    let case = |(call, lent)| Case {
         call,
         plan: plan.bytes(),
         lent,
-    })
+    };
+    lending.into_iter().map(case).collect()
 }
 
 /// The first child of the first child and so on from the root: orders go upwards, so none applies.
@@ -97,8 +109,8 @@ fn check(case: &Case) {
 }
 
 /// Each call by itself, with what it is lent written anew each time.
-fn times(cases: &[Case; CALLS]) -> [f64; CALLS] {
-    cases.each_ref().map(|case| {
+fn times(cases: &[Case]) -> Vec<f64> {
+    let time = |case: &Case| {
         let (mut plan, mut lent) = (case.plan.clone(), case.lent.clone());
         let mut call = || {
             lent.copy_from_slice(&case.lent);
@@ -106,19 +118,19 @@ fn times(cases: &[Case; CALLS]) -> [f64; CALLS] {
         };
         let [time] = medians([&mut call]);
         time
-    })
+    };
+    cases.iter().map(time).collect()
 }
 
-fn heading(cases: &[Case; CALLS]) {
-    let names: Vec<&str> = cases.iter().map(|case| case.call.name()).collect();
-    println!("| plan | C | K | answer | {} |", names.join(" | "));
-    println!("|---|---|---|---{}|", "|---".repeat(CALLS));
+fn heading() {
+    println!("| plan | C | K | answer | {} |", CALLS.join(" | "));
+    println!("|---|---|---|---{}|", "|---".repeat(CALLS.len()));
 }
 
-fn row(Shaped { name, plan }: &Shaped, times: impl Iterator<Item = f64>) {
+fn row(Shaped { name, plan }: &Shaped, times: [Option<f64>; CALLS.len()]) {
     let [conditions, orders] = [plan.conditions.len(), plan.orders.len()].map(grouped);
     let word = verdict(plan).word();
-    let times: Vec<String> = times.map(|time| format!("{time:.0}")).collect();
-    let times = times.join(" | ");
+    let shown = |time: Option<f64>| time.map_or(String::from("-"), |time| format!("{time:.0}"));
+    let times = times.map(shown).join(" | ");
     println!("| {name} | {conditions} | {orders} | {word} | {times} |");
 }

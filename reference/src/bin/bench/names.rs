@@ -20,7 +20,7 @@ const MANY: usize = 1_024;
 
 pub fn print() {
     let mut random = Random::new(103);
-    let drawn = plan(&mut random, LIMITS, Shape::Flat);
+    let drawn = plan(&mut random, LIMITS, Shape::FLAT.without_optional());
     let many: Vec<Plan> = (0..MANY).map(|_| renamed(&drawn, &mut random)).collect();
     let rows = [
         ("letters", vec![letters(&drawn)]),

@@ -16,6 +16,7 @@ pub fn shapes() -> Vec<Shaped> {
     let mut all = nested(&mut random);
     all.extend(flat(&mut random));
     all.extend(worst());
+    all.extend(optional(&mut random));
     all
 }
 
@@ -35,12 +36,13 @@ fn drawn(random: &mut Random, conditions: usize, orders: usize, shape: Shape) ->
 /// Random plans of groups in groups.
 fn nested(random: &mut Random) -> Vec<Shaped> {
     let shapes = [
-        ("each node under the one before it", Shape::Chain),
-        ("deep, random", Shape::Deep),
-        ("even, random", Shape::Even),
-        ("bushy, random", Shape::Bushy),
+        ("each node under the one before it", Shape::CHAIN),
+        ("deep, random", Shape::DEEP),
+        ("even, random", Shape::EVEN),
+        ("bushy, random", Shape::BUSHY),
     ];
-    let draw = |(name, shape)| {
+    let draw = |(name, shape): (_, Shape)| {
+        let shape = shape.without_optional();
         let plan = drawn(random, LIMITS.conditions, LIMITS.orders, shape);
         shaped(name, plan)
     };
@@ -49,16 +51,17 @@ fn nested(random: &mut Random) -> Vec<Shaped> {
 
 /// One group of 127 tasks.
 fn flat(random: &mut Random) -> Vec<Shaped> {
+    let flat = Shape::FLAT.without_optional();
     vec![
         shaped("flat, bare, no order", Plan::flat(64, 128)),
         shaped("flat, one chain, bare", chain(127, 0, 0)),
         shaped(
             "flat, 1,024 random conditions, no order",
-            drawn(random, 1_024, 0, Shape::Flat),
+            drawn(random, 1_024, 0, flat),
         ),
         shaped(
             "the same with 512 random orders",
-            drawn(random, 1_024, 512, Shape::Flat),
+            drawn(random, 1_024, 512, flat),
         ),
     ]
 }
@@ -141,4 +144,36 @@ fn funnel(before: u8, after: u8) -> Plan {
 fn unordered(mut plan: Plan) -> Plan {
     plan.orders.clear();
     plan
+}
+
+/// With optional groups.
+fn optional(random: &mut Random) -> Vec<Shaped> {
+    vec![
+        shaped(
+            "even, random, some groups optional",
+            drawn(random, LIMITS.conditions, LIMITS.orders, Shape::EVEN),
+        ),
+        shaped("127 optional groups, each in the one before it", inside()),
+        shaped(
+            "63 optional groups of one task in one chain, and a task",
+            droppable(),
+        ),
+    ]
+}
+
+/// Optional groups one inside the other, in the last of them a task.
+fn inside() -> Plan {
+    let group = |plan: Plan, node: u8| plan.optional(b"DROP", node.wrapping_sub(1));
+    (0..127).fold(Plan::new(64), group).task(b"TASK", 126, 1)
+}
+
+/// An all-of root with optional groups of one task each, one after another, and a last task.
+fn droppable() -> Plan {
+    let mut plan = Plan::new(64).all_of(b"ROOT", NO_PARENT);
+    for group in (1..127).step_by(2) {
+        plan = plan.optional(b"DROP", 0).task(b"TASK", group, 1);
+    }
+    plan = plan.task(b"LAST", 0, 1);
+    let groups = (1..125).step_by(2);
+    groups.fold(plan, |plan, group| plan.order(group, group + 2))
 }

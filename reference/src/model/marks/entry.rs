@@ -23,7 +23,7 @@ pub struct Marks {
 
 impl Marks {
     /// The marks from a list in the order of their numbers.
-    pub fn from_order(marks: [bool; 8]) -> Marks {
+    pub const fn from_order(marks: [bool; 8]) -> Marks {
         let [may_pre, must_pre, may_post, must_post, may_inc, must_inc, may_clobber, must_clobber] =
             marks;
         Marks {

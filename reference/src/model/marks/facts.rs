@@ -1,4 +1,4 @@
-//! What the rules say of a node and one flag: tasks and any-of groups.
+//! What the rules say of a node and one flag: tasks, any-of and optional groups.
 
 use super::entry::Marks;
 use crate::model::format::{Condition, CLEAR, INCONDITION, POSTCONDITION, PRECONDITION, SET};
@@ -61,10 +61,10 @@ pub fn task(conditions: &[Condition], task: u8, flag: u16) -> Pair {
     })
 }
 
-pub fn any_of(branches: &[(usize, Pair)]) -> Pair {
+pub fn any_of(branches: &[Pair]) -> Pair {
     pair(|sign| {
-        let some = |fact: fn(&Facts) -> bool| branches.iter().any(|(_, pair)| fact(&pair[sign]));
-        let every = |fact: fn(&Facts) -> bool| branches.iter().all(|(_, pair)| fact(&pair[sign]));
+        let some = |fact: fn(&Facts) -> bool| branches.iter().any(|pair| fact(&pair[sign]));
+        let every = |fact: fn(&Facts) -> bool| branches.iter().all(|pair| fact(&pair[sign]));
         Facts {
             asserts_flag: some(|f| f.asserts_flag),
             wants: some(|f| f.wants),
@@ -85,3 +85,20 @@ pub fn any_of(branches: &[(usize, Pair)]) -> Pair {
         }
     })
 }
+
+/// Of an optional group: an any-of group with one more branch.
+pub fn optional(branches: &[Pair]) -> Pair {
+    any_of(&[branches, &[[WITHOUT_TASKS; 2]]].concat())
+}
+
+/// Of the branch that has no tasks: its completed execution is the skip alone, which asserts no
+/// flag and has no conditions.
+const WITHOUT_TASKS: Facts = Facts {
+    asserts_flag: false,
+    wants: false,
+    asserts: false,
+    avoids: true,
+    quiet: true,
+    covered: false,
+    marks: Marks::from_order([false; 8]),
+};

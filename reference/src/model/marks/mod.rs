@@ -5,7 +5,7 @@ mod entry;
 mod facts;
 mod relation;
 
-use crate::model::format::{Condition, Plan, ALL_OF, TASK};
+use crate::model::format::{Condition, Plan, ALL_OF, OPTIONAL, TASK};
 pub use entry::Marks;
 use facts::Pair;
 use relation::Before;
@@ -32,10 +32,12 @@ fn of_flag(plan: &Plan, before: &Before, flag: u16) -> Vec<Pair> {
             .children(node)
             .map(|child| (child, found[child].expect("children come first")))
             .collect();
+        let branches = || children.iter().map(|(_, pair)| *pair).collect::<Vec<_>>();
         found[node] = Some(match plan.nodes[node].kind {
             TASK => facts::task(&conditions, node as u8, flag),
             ALL_OF => all_of::facts(before, &children),
-            _ => facts::any_of(&children),
+            OPTIONAL => facts::optional(&branches()),
+            _ => facts::any_of(&branches()),
         });
     }
     found.into_iter().flatten().collect()

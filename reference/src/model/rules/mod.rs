@@ -1,7 +1,7 @@
 //! Refusals 1 to 14, each rule in the words of 01.
 
 use crate::model::format::{
-    Node, Plan, Sizes, ALL_OF, ANY_OF, HEAD, INCONDITION, NO_PARENT, POSTCONDITION, TASK,
+    Node, Plan, Sizes, ALL_OF, ANY_OF, HEAD, INCONDITION, NO_PARENT, OPTIONAL, POSTCONDITION, TASK,
 };
 
 #[cfg(test)]
@@ -100,12 +100,13 @@ fn bad_name(plan: &Plan) -> bool {
     false
 }
 
-/// 6: kind over 2; group with minutes; task over 10,080 minutes.
+/// 6: kind over 3 (01: over 2, but 02 lets kind 3 pass); group with minutes; task over 10,080
+/// minutes.
 fn bad_kind_or_minutes(plan: &Plan) -> bool {
     for node in &plan.nodes {
         let bad = match node.kind {
             TASK => node.minutes > 10_080,
-            ALL_OF | ANY_OF => node.minutes != 0,
+            ALL_OF | ANY_OF | OPTIONAL => node.minutes != 0,
             _ => true,
         };
         if bad {

@@ -81,21 +81,29 @@ fn rows_of_01() {
 #[test]
 fn changes_to_b() {
     type Change = (u32, fn(&mut Plan));
-    let changes: [Change; 32] = [
+    let changes: [Change; 40] = [
         (0, |p| p.set_at_start(1)),
         (4, |p| p.set_at_start(2)),
         (4, |p| p.set_at_start(63)),
         (5, |p| p.nodes[4].name[3] = b'l'),
         (0, |p| p.nodes[4].name = *b"Z-09"),
-        (6, |p| p.nodes[0].kind = 3),
+        (6, |p| p.nodes[0].kind = 4),
+        (6, |p| p.nodes[2].kind = 255),
         (6, |p| p.nodes[2].minutes = 1),
+        (0, |p| p.nodes[2].kind = OPTIONAL),
+        (6, |p| (p.nodes[2].kind, p.nodes[2].minutes) = (OPTIONAL, 1)),
         (7, |p| p.nodes[0].parent = 0),
         (7, |p| p.nodes[4].parent = 1),
         (7, |p| p.nodes[2].parent = 2),
         (7, |p| p.nodes[2].parent = 255),
         (8, |p| (p.nodes[1].kind, p.nodes[1].minutes) = (ALL_OF, 0)),
+        (8, |p| (p.nodes[1].kind, p.nodes[1].minutes) = (OPTIONAL, 0)),
         (9, |p| p.conditions[7].node = 5),
         (9, |p| p.conditions[2].node = 2),
+        (9, |p| {
+            p.nodes[2].kind = OPTIONAL;
+            p.conditions[2].node = 2;
+        }),
         (9, |p| p.conditions[7].value = 384),
         (9, |p| {
             p.conditions[7] = Condition::new(4, POSTCONDITION, 2, CLEAR)
@@ -118,6 +126,12 @@ fn changes_to_b() {
         (12, |p| p.conditions.truncate(7)),
         (0, |p| p.conditions.truncate(3)),
         (0, |p| p.orders.clear()),
+        (13, |p| p.nodes[0].kind = ANY_OF),
+        (13, |p| p.nodes[0].kind = OPTIONAL),
+        (0, |p| {
+            p.nodes[0].kind = OPTIONAL;
+            p.orders.clear();
+        }),
         (13, |p| p.orders[0] = Order::new(2, 1)),
         (13, |p| p.orders[0] = Order::new(3, 4)),
         (13, |p| p.orders[0] = Order::new(1, 4)),

@@ -19,11 +19,7 @@ pub struct Point {
 
 impl Graph {
     pub fn new(plan: &Plan, node: usize) -> Graph {
-        let tasks = || plan.tasks_under(node);
-        let events: Vec<Event> = tasks()
-            .map(Event::Start)
-            .chain(tasks().map(Event::Finish))
-            .collect();
+        let events: Vec<Event> = Event::under(plan, node).collect();
         let mut points = vec![Point::new(plan, node, Statuses::all_waiting(plan))];
         let mut numbers = HashMap::from([(points[0].statuses.clone(), 0)]);
         let mut at = 0;

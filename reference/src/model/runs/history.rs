@@ -68,7 +68,7 @@ impl History {
             } else if asserted == literal.opposite() {
                 self.last = Some(false);
                 self.broken |= plan.tasks().any(|other| {
-                    other != event.task()
+                    other != event.node()
                         && point.statuses.runs(other)
                         && plan.has(other, INCONDITION, literal)
                 });

@@ -3,7 +3,7 @@
 
 use super::{orders, plan, Shape};
 use crate::model::format::{
-    Condition, Order, Plan, Sizes, ALL_OF, INCONDITION, POSTCONDITION, PRECONDITION, TASK,
+    Condition, Order, Plan, Sizes, ALL_OF, INCONDITION, OPTIONAL, POSTCONDITION, PRECONDITION, TASK,
 };
 use crate::tools::random::Random;
 
@@ -98,10 +98,13 @@ impl Walk<'_> {
                 let children = children.into_iter();
                 children.fold(known, |known, child| self.through(child, known))
             }
-            _ => {
+            kind => {
                 let branches = children.into_iter();
                 let ends = branches.map(|branch| self.through(branch, known.clone()));
-                ends.reduce(|one, other| common(&one, &other))
+                // After a skip all is as before.
+                let skipped = (kind == OPTIONAL).then(|| known.clone());
+                ends.chain(skipped)
+                    .reduce(|one, other| common(&one, &other))
                     .expect("a group has children")
             }
         }

@@ -5,7 +5,7 @@ pub mod clear;
 use std::collections::BTreeSet;
 
 use crate::model::format::{
-    Condition, Order, Plan, Sizes, ALL_OF, ANY_OF, INCONDITION, NO_PARENT, POSTCONDITION,
+    Condition, Order, Plan, Sizes, ALL_OF, ANY_OF, INCONDITION, NO_PARENT, OPTIONAL, POSTCONDITION,
     PRECONDITION, TASK,
 };
 use crate::tools::random::Random;
@@ -18,27 +18,52 @@ pub const LIMITS: Sizes = Sizes {
     flags: 64,
 };
 
-/// How the parents are drawn.
+/// How the parents are drawn, and from which kinds those of the groups.
 #[derive(Clone, Copy, Debug)]
-pub enum Shape {
-    /// All nodes under the root.
+pub struct Shape {
+    parents: Parents,
+    kinds: &'static [u8],
+}
+
+#[derive(Clone, Copy, Debug)]
+enum Parents {
     Flat,
-    /// Each node under the one before it.
     Chain,
-    /// Each node under one of the last four.
     Deep,
-    /// Each node under any lower one.
     Even,
-    /// Some eight large groups.
     Bushy,
 }
 
+impl Shape {
+    /// All nodes under the root.
+    pub const FLAT: Shape = Shape::of(Parents::Flat);
+    /// Each node under the one before it.
+    pub const CHAIN: Shape = Shape::of(Parents::Chain);
+    /// Each node under one of the last four.
+    pub const DEEP: Shape = Shape::of(Parents::Deep);
+    /// Each node under any lower one.
+    pub const EVEN: Shape = Shape::of(Parents::Even);
+    /// Some eight large groups.
+    pub const BUSHY: Shape = Shape::of(Parents::Bushy);
+
+    const fn of(parents: Parents) -> Shape {
+        let kinds = &[ALL_OF, ALL_OF, ALL_OF, ANY_OF, OPTIONAL];
+        Shape { parents, kinds }
+    }
+
+    /// The same without optional groups.
+    pub const fn without_optional(self) -> Shape {
+        let kinds = &[ALL_OF, ALL_OF, ANY_OF];
+        Shape { kinds, ..self }
+    }
+}
+
 pub const SHAPES: [Shape; 5] = [
-    Shape::Flat,
-    Shape::Chain,
-    Shape::Deep,
-    Shape::Even,
-    Shape::Bushy,
+    Shape::FLAT,
+    Shape::CHAIN,
+    Shape::DEEP,
+    Shape::EVEN,
+    Shape::BUSHY,
 ];
 
 /// A valid plan of random shape and of sizes at most these.
@@ -77,7 +102,7 @@ pub fn dense_plan(random: &mut Random, nodes: usize) -> Plan {
         orders: random.within(0, nodes / 2),
         flags: random.within(1, 2),
     };
-    let shape = random.pick(&[Shape::Flat, Shape::Deep, Shape::Even, Shape::Bushy]);
+    let shape = random.pick(&[Shape::FLAT, Shape::DEEP, Shape::EVEN, Shape::BUSHY]);
     let mut plan = plan(random, sizes, shape);
     plan.conditions = dense_conditions(random, &plan);
     plan
@@ -85,14 +110,15 @@ pub fn dense_plan(random: &mut Random, nodes: usize) -> Plan {
 
 /// Nodes whose kinds follow from the parents: with children a group, without a task.
 fn tree(random: &mut Random, mut plan: Plan, nodes: usize, shape: Shape) -> Plan {
-    let parents: Vec<usize> = (1..nodes).map(|node| parent(random, node, shape)).collect();
+    let drawn = (1..nodes).map(|node| parent(random, node, shape.parents));
+    let parents: Vec<usize> = drawn.collect();
     for node in 0..nodes {
         let above = match node {
             0 => NO_PARENT,
             _ => u8::try_from(parents[node - 1]).expect("at most 128 nodes"),
         };
         plan = if parents.contains(&node) {
-            let kind = random.pick(&[ALL_OF, ALL_OF, ANY_OF]);
+            let kind = random.pick(shape.kinds);
             plan.node(&name(random), above, kind, 0)
         } else {
             let minutes = minutes(random);
@@ -102,13 +128,13 @@ fn tree(random: &mut Random, mut plan: Plan, nodes: usize, shape: Shape) -> Plan
     plan
 }
 
-fn parent(random: &mut Random, node: usize, shape: Shape) -> usize {
-    match shape {
-        Shape::Flat => 0,
-        Shape::Chain => node - 1,
-        Shape::Deep => random.within(node.saturating_sub(4), node - 1),
-        Shape::Even => random.below(node),
-        Shape::Bushy => random.below(node.min(8)),
+fn parent(random: &mut Random, node: usize, parents: Parents) -> usize {
+    match parents {
+        Parents::Flat => 0,
+        Parents::Chain => node - 1,
+        Parents::Deep => random.within(node.saturating_sub(4), node - 1),
+        Parents::Even => random.below(node),
+        Parents::Bushy => random.below(node.min(8)),
     }
 }
 
@@ -207,7 +233,7 @@ mod tests {
 
     #[test]
     fn reaches_the_limits() {
-        let plan = plan(&mut Random::new(1), LIMITS, Shape::Bushy);
+        let plan = plan(&mut Random::new(1), LIMITS, Shape::BUSHY);
         let bytes = plan.bytes();
         assert_eq!(Sizes::read(&bytes), LIMITS);
         assert_eq!(bytes.len(), 5_136);
@@ -232,6 +258,33 @@ mod tests {
             let dense = dense_plan(&mut random, nodes);
             assert_eq!(dense.nodes.len(), nodes);
             assert_eq!(refusal(&dense.bytes()), 0, "{dense:?}");
+        }
+    }
+
+    /// Optional groups as the root and under each kind of group, before and after siblings.
+    #[test]
+    fn optional_groups_everywhere() {
+        let mut random = Random::new(4);
+        let mut found = BTreeSet::new();
+        for _ in 0..200 {
+            let plan = dense_plan(&mut random, 8);
+            for group in plan.optional_groups() {
+                let above = plan.parent(group).map(|parent| plan.nodes[parent].kind);
+                let number = group as u8;
+                let before = plan.orders.iter().any(|order| order.earlier == number);
+                let after = plan.orders.iter().any(|order| order.later == number);
+                found.insert((above, before, after));
+            }
+        }
+        let alone = |above| (above, false, false);
+        let mut want = BTreeSet::from([None, Some(ANY_OF), Some(OPTIONAL)].map(alone));
+        for ordered in [(false, false), (false, true), (true, false), (true, true)] {
+            want.insert((Some(ALL_OF), ordered.0, ordered.1));
+        }
+        assert_eq!(found, want);
+        for shape in SHAPES {
+            let without = plan(&mut random, LIMITS, shape.without_optional());
+            assert_eq!(without.optional_groups().count(), 0);
         }
     }
 }

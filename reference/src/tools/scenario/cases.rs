@@ -47,16 +47,15 @@ fn on_refused(random: &mut Random) -> Vec<Lending> {
         Call::Verdict,
         Call::Summary(number),
         Call::Fresh,
-        Call::Event(Event::Start(number)),
-        Call::Event(Event::Finish(number)),
         Call::Status,
         Call::Listing,
     ];
+    let events = Event::each(number).map(Call::Event);
     let lending = |call| {
         let len = random.pick(&[0, 7, 200, 4_096]);
         (call, random.bytes(len))
     };
-    calls.into_iter().map(lending).collect()
+    calls.into_iter().chain(events).map(lending).collect()
 }
 
 fn on_accepted(random: &mut Random, plan: &Plan) -> Vec<Lending> {

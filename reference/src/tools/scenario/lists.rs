@@ -1,4 +1,4 @@
-//! Lists of start and finish calls.
+//! Lists of start, finish and skip calls.
 
 use std::iter::once;
 
@@ -36,10 +36,7 @@ pub fn long_list(random: &mut Random, plan: &Plan) -> Vec<Event> {
     let mut state = State::fresh(plan);
     let mut list = Vec::new();
     loop {
-        let events = plan
-            .tasks()
-            .flat_map(|task| [Event::Start(task), Event::Finish(task)]);
-        let afters = events.map(|event| (event, state.step(plan, event)));
+        let afters = Event::under(plan, 0).map(|event| (event, state.step(plan, event)));
         let accepted = afters.filter_map(|(event, after)| Some((event, after.ok()?)));
         let mut accepted: Vec<(Event, State)> = accepted.collect();
         if accepted.is_empty() {
@@ -56,9 +53,15 @@ pub fn long_list(random: &mut Random, plan: &Plan) -> Vec<Event> {
     }
 }
 
+/// Mostly one that the kind of its node permits.
 pub fn any_event(random: &mut Random, plan: &Plan) -> Event {
     let number = any_number(random, plan);
-    random.pick(&[Event::Start(number), Event::Finish(number)])
+    let [start, finish, skip] = Event::each(number);
+    match random.below(8) {
+        0 => random.pick(&[start, finish, skip]),
+        _ if plan.is_optional(number) => skip,
+        _ => random.pick(&[start, finish]),
+    }
 }
 
 /// What fresh and then each call of the list returns and leaves, from these lent bytes.

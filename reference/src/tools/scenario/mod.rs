@@ -87,15 +87,16 @@ impl Case {
     }
 }
 
-/// A number for a call: mostly a task's or else a node's, sometimes one just beyond, or one that
-/// is a node's again when it is cut to 1, 2 or 4 bytes.
+/// A number for a call: mostly a task's or an optional group's or else a node's, sometimes one just
+/// beyond, or one that is a node's again when it is cut to 1, 2 or 4 bytes.
 pub fn any_number(random: &mut Random, plan: &Plan) -> usize {
     let nodes = plan.nodes.len();
     let node = random.below(nodes);
+    let moving: Vec<usize> = plan.tasks().chain(plan.optional_groups()).collect();
     match random.below(16) {
         0 => random.pick(&[nodes, nodes + 1, 127, 128, 255, usize::MAX]),
         1 => node + random.pick(&[1 << 8, 1 << 16, 1 << 32]),
         2 => node,
-        _ => random.pick(&plan.tasks().collect::<Vec<_>>()),
+        _ => random.pick(&moving),
     }
 }

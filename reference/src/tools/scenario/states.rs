@@ -22,6 +22,11 @@ pub fn any_state(random: &mut Random, plan: &Plan) -> State {
             _ => random.pick(&statuses),
         };
     }
+    for group in plan.optional_groups() {
+        if random.below(4) == 0 {
+            state.statuses.0[group] = Status::Skipped;
+        }
+    }
     state.places = any_places(random, &state.statuses);
     state
 }
@@ -85,9 +90,12 @@ pub fn malformed(random: &mut Random, plan: &Plan, state: &State) -> Vec<Vec<u8>
     bits.chain(nodes).map(with_byte).chain(places).collect()
 }
 
-/// At a group any but 0; at a task those over 2, and those that make it started without a place or
-/// not started with one.
+/// At a group any but 0, and 2 if it is optional; at a task those over 2, and those that make it
+/// started without a place or not started with one.
 fn wrong_bytes(plan: &Plan, state: &State, node: usize) -> &'static [u8] {
+    if plan.is_optional(node) {
+        return &[1, 3, 4, 128, 255];
+    }
     if !plan.is_task(node) {
         return &[1, 2, 3, 255];
     }

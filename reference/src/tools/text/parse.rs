@@ -5,7 +5,7 @@ use std::str::{FromStr, SplitWhitespace};
 use super::print::PLACES;
 use super::source::{Error, Source};
 use crate::model::format::{
-    Condition, Node, Order, Plan, ALL_OF, ANY_OF, CLEAR, NO_PARENT, SET, TASK,
+    Condition, Node, Order, Plan, ALL_OF, ANY_OF, CLEAR, NO_PARENT, OPTIONAL, SET, TASK,
 };
 
 impl Source {
@@ -56,6 +56,7 @@ fn node(plan: &mut Plan, words: &mut SplitWhitespace) -> Result<(), String> {
         "task" => (TASK, number(next(words)?)?),
         "all-of" => (ALL_OF, 0),
         "any-of" => (ANY_OF, 0),
+        "optional" => (OPTIONAL, 0),
         word => return Err(format!("{word} is no kind of node")),
     };
     let mut parent = NO_PARENT;

@@ -3,7 +3,7 @@
 use std::fmt;
 
 use super::source::Source;
-use crate::model::format::{Condition, Plan, ALL_OF, NO_PARENT, SET, TASK};
+use crate::model::format::{Condition, Plan, ALL_OF, ANY_OF, NO_PARENT, SET, TASK};
 
 /// The word before the literals of each place.
 pub const PLACES: [&str; 3] = ["needs", "holds", "leaves"];
@@ -56,7 +56,8 @@ fn node(f: &mut fmt::Formatter, plan: &Plan, number: usize) -> fmt::Result {
     match node.kind {
         TASK => write!(f, "task {}", node.minutes)?,
         ALL_OF => write!(f, "all-of")?,
-        _ => write!(f, "any-of")?,
+        ANY_OF => write!(f, "any-of")?,
+        _ => write!(f, "optional")?,
     }
     if node.parent != NO_PARENT {
         write!(f, " under {}", node.parent)?;

@@ -32,16 +32,15 @@ impl Shown {
     /// How far a task or a group is.
     fn word(&self, node: usize) -> &'static str {
         let Shown { plan, state } = self;
-        if !plan.is_task(node) {
-            return match state.statuses.complete(plan, node) {
+        match state.statuses.0[node] {
+            Status::Waiting if plan.is_task(node) => "waiting",
+            Status::Waiting => match state.statuses.complete(plan, node) {
                 true => "complete",
                 false => "unfinished",
-            };
-        }
-        match state.statuses.0[node] {
-            Status::Waiting => "waiting",
+            },
             Status::Running => "running",
             Status::Done => "done",
+            Status::Skipped => "skipped",
         }
     }
 }

@@ -11,7 +11,10 @@ start 0 7
 2 A--1 task 12 under 1 needs 0-clear 3-set holds 1-set leaves 2-clear 1-set
 3 B--2 task 0 under 1
 4 C--3 task 10080 under 0 leaves 7-set
+5 DROP optional under 0
+6 D--4 task 5 under 5
 order 1 4
+order 4 5
 ";
 
 #[test]
@@ -30,7 +33,10 @@ fn text_and_fields_agree() {
         .task(b"B--2", 1, 0)
         .task(b"C--3", 0, 10_080)
         .post(7, SET)
-        .order(1, 4);
+        .optional(b"DROP", 0)
+        .task(b"D--4", 5, 5)
+        .order(1, 4)
+        .order(4, 5);
     assert_eq!(make(TEXT), Ok(plan.bytes()));
     assert_eq!(show(&plan.bytes()), Ok(TEXT.to_string()));
 }
@@ -138,6 +144,39 @@ fn states_at_first_and_at_last() {
         3, 0, 0, 0, 0, 0, 0, 0, 0, 2, 0, 2, 0, 0, 0, 2, 0, 0, 0, 1, 0, 0, 0,
     ];
     assert_eq!(show_state(B, &state), Ok(last.to_string()));
+}
+
+/// Optional groups that are skipped, that are complete by a branch, and that are neither.
+#[test]
+fn skipped_groups() {
+    let plan = make(
+        "flags 1\n0 ROOT optional\n1 GRP- all-of under 0\n2 OUTR optional under 1\n\
+         3 INNR optional under 2\n4 A--- task 0 under 3\n5 LAST optional under 1\n\
+         6 B--- task 0 under 5\n",
+    )
+    .unwrap();
+    let check = |statuses: [u8; 7], want: &str| {
+        let state = [&[0; 8][..], &statuses, &[0; 14]].concat();
+        let text = show_state(&plan, &state).unwrap();
+        let words: Vec<&str> = text.lines().map(|line| &line[7..]).collect();
+        assert_eq!(words.join(" "), want);
+    };
+    check(
+        [0; 7],
+        "unfinished unfinished unfinished unfinished waiting unfinished waiting",
+    );
+    check(
+        [0, 0, 0, 2, 0, 0, 0],
+        "unfinished unfinished complete skipped waiting unfinished waiting",
+    );
+    check(
+        [0, 0, 0, 2, 0, 2, 0],
+        "complete complete complete skipped waiting skipped waiting",
+    );
+    check(
+        [2, 0, 0, 0, 0, 0, 0],
+        "skipped unfinished unfinished unfinished waiting unfinished waiting",
+    );
 }
 
 #[test]

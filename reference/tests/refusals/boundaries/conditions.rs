@@ -1,7 +1,8 @@
 //! Refusals 9 to 12.
 
 use reference::model::format::{
-    Condition, Plan, CLEAR, INCONDITION, NO_PARENT, POSTCONDITION, PRECONDITION, SET,
+    Condition, Plan, ANY_OF, CLEAR, INCONDITION, NO_PARENT, OPTIONAL, POSTCONDITION, PRECONDITION,
+    SET,
 };
 
 use crate::tally::Tally;
@@ -36,7 +37,12 @@ fn nodes(tally: &mut Tally) {
     for node in 0..=255 {
         let want = if [1, 3, 4].contains(&node) { 0 } else { 9 };
         for value in [0, 127, 256, 383] {
-            expect(tally, 64, &[Condition { node, value }], want);
+            for kind in [ANY_OF, OPTIONAL] {
+                let mut plan = five_nodes(64);
+                plan.nodes[2].kind = kind;
+                plan.conditions = vec![Condition { node, value }];
+                tally.expect(&plan.bytes(), want);
+            }
         }
     }
 }

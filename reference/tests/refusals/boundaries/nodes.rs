@@ -1,8 +1,11 @@
 //! Refusals 4 to 8.
 
-use reference::model::format::{Plan, ALL_OF, ANY_OF, NO_PARENT, TASK};
+use reference::model::format::{Plan, ALL_OF, ANY_OF, NO_PARENT, OPTIONAL, TASK};
 
 use crate::tally::Tally;
+
+/// The kinds of groups.
+const GROUPS: [u8; 3] = [ALL_OF, ANY_OF, OPTIONAL];
 
 /// Every single start bit, for every V.
 pub fn start_flags(tally: &mut Tally) {
@@ -33,7 +36,7 @@ pub fn kinds_and_minutes(tally: &mut Tally) {
     for kind in 0..=255 {
         let without_child = match kind {
             TASK => 0,
-            ALL_OF | ANY_OF => 8,
+            ALL_OF | ANY_OF | OPTIONAL => 8,
             _ => 6,
         };
         let mut plan = Plan::one_task(1);
@@ -42,7 +45,7 @@ pub fn kinds_and_minutes(tally: &mut Tally) {
 
         let with_child = match kind {
             TASK => 7,
-            ALL_OF | ANY_OF => 0,
+            ALL_OF | ANY_OF | OPTIONAL => 0,
             _ => 6,
         };
         let mut plan = Plan::flat(1, 3);
@@ -54,7 +57,7 @@ pub fn kinds_and_minutes(tally: &mut Tally) {
         plan.nodes[2].minutes = minutes;
         tally.expect(&plan.bytes(), if minutes <= 10_080 { 0 } else { 6 });
 
-        for kind in [ALL_OF, ANY_OF] {
+        for kind in GROUPS {
             let mut plan = Plan::flat(1, 2);
             (plan.nodes[0].kind, plan.nodes[0].minutes) = (kind, minutes);
             tally.expect(&plan.bytes(), if minutes == 0 { 0 } else { 6 });
@@ -62,7 +65,7 @@ pub fn kinds_and_minutes(tally: &mut Tally) {
     }
 }
 
-/// Groups 0, 1 and 4; each keeps a child if one of its children moves.
+/// Groups 0, 1, 4 and 8; each keeps a child if one of its children moves.
 fn nested() -> Plan {
     Plan::new(1)
         .all_of(b"ROOT", NO_PARENT)
@@ -73,6 +76,9 @@ fn nested() -> Plan {
         .task(b"TSK5", 4, 0)
         .task(b"TSK6", 4, 0)
         .task(b"TSK7", 0, 0)
+        .optional(b"OPT-", 0)
+        .task(b"TSK9", 8, 0)
+        .task(b"TSKA", 8, 0)
 }
 
 pub fn parents_and_children(tally: &mut Tally) {
@@ -84,8 +90,8 @@ pub fn parents_and_children(tally: &mut Tally) {
 
 /// Every value as the parent of each node.
 fn each_parent(tally: &mut Tally) {
-    let groups = [0, 1, 4];
-    for node in 0..8u8 {
+    let groups = [0, 1, 4, 8];
+    for node in 0..11u8 {
         for parent in 0..=255 {
             let good = match node {
                 0 => parent == 255,
@@ -100,8 +106,8 @@ fn each_parent(tally: &mut Tally) {
 
 /// Each task of the nested plan made a group.
 fn group_without_child(tally: &mut Tally) {
-    for task in [2, 3, 5, 6, 7] {
-        for kind in [ALL_OF, ANY_OF] {
+    for task in [2, 3, 5, 6, 7, 9, 10] {
+        for kind in GROUPS {
             let mut plan = nested();
             plan.nodes[task].kind = kind;
             tally.expect(&plan.bytes(), 8);
@@ -122,7 +128,7 @@ fn only_child_moved_away(tally: &mut Tally) {
 /// Groups one inside the other as deep as N permits, the last node a task or a group.
 fn chain(tally: &mut Tally) {
     for depth in 1..=127u8 {
-        for kind in [ALL_OF, ANY_OF] {
+        for kind in GROUPS {
             let node = |plan: Plan, i: u8| plan.node(b"NODE", i.wrapping_sub(1), kind, 0);
             let groups = (0..depth).fold(Plan::new(1), node);
             tally.expect(&groups.bytes(), 8);

@@ -1,6 +1,6 @@
 //! Refusals 13 and 14.
 
-use reference::model::format::{Order, Plan, NO_PARENT};
+use reference::model::format::{Order, Plan, NO_PARENT, OPTIONAL};
 
 use crate::tally::Tally;
 
@@ -22,14 +22,22 @@ fn groups() -> Plan {
 const ALLOWED: [(u8, u8); 6] = [(1, 2), (1, 8), (2, 8), (3, 4), (3, 5), (4, 5)];
 
 pub fn all(tally: &mut Tally) {
-    single(tally);
+    single(tally, groups());
+    single(tally, with_optional());
     after_good_ones(tally);
     past_the_last_node(tally);
     pairs(tally);
 }
 
+/// The same with an optional group (5).
+fn with_optional() -> Plan {
+    let mut plan = groups();
+    plan.nodes[5].kind = OPTIONAL;
+    plan
+}
+
 /// Every two numbers as an order.
-fn single(tally: &mut Tally) {
+fn single(tally: &mut Tally, plan: Plan) {
     for earlier in 0..=255 {
         for later in 0..=255 {
             let want = if ALLOWED.contains(&(earlier, later)) {
@@ -37,7 +45,7 @@ fn single(tally: &mut Tally) {
             } else {
                 13
             };
-            tally.expect(&groups().order(earlier, later).bytes(), want);
+            tally.expect(&plan.clone().order(earlier, later).bytes(), want);
         }
     }
 }

@@ -86,7 +86,7 @@ impl<'a> Fields<'a> {
             let minutes = u16::from_le_bytes([low, high]);
             match kind {
                 0 => minutes > 10_080,
-                1 | 2 => minutes != 0,
+                1..=3 => minutes != 0,
                 _ => true,
             }
         })

@@ -27,16 +27,28 @@ fn fill(tables: &Tables, rows: &mut Rows, node: usize) {
     match tables.kinds[node] {
         0 => {}
         1 => rows[node] = all_of(tables, rows, node),
-        _ => rows[node] = any_of(tables, rows, node),
+        2 => rows[node] = any_of(tables, rows, node),
+        _ => rows[node] = optional(tables, rows, node),
     }
 }
 
 fn any_of(tables: &Tables, rows: &Rows, group: usize) -> Row {
-    let mut row = Row {
+    let no_branch = Row {
         must_inc: [!0; 2],
         must_clobber: [!0; 2],
         ..Row::default()
     };
+    choice(tables, rows, group, no_branch)
+}
+
+/// With one more branch, which is as a task without conditions.
+fn optional(tables: &Tables, rows: &Rows, group: usize) -> Row {
+    choice(tables, rows, group, Row::task(&[0; 6]))
+}
+
+/// The row of a choice: that of a first branch, with the group's branches taken in.
+fn choice(tables: &Tables, rows: &Rows, group: usize, first: Row) -> Row {
+    let mut row = first;
     for branch in tables.children(group).map(|branch| &rows[branch]) {
         row.avoids |= branch.avoids;
         row.quiet = or(row.quiet, branch.quiet);
