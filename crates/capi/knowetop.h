@@ -1,5 +1,5 @@
-/* Knowetop: the calls on a plan, a byte string of plan_len bytes. Every call makes all its checks, lowest number first, on any bytes of any length, and a refused call changes no
-   lent byte. Pointers are not null, even where a length is 0; a slice that a call may write overlaps no other. */
+/* Knowetop: the calls on a plan, a byte string of plan_len bytes. Every call makes all its checks, lowest number first and 27 in the place of 17, on any bytes of any length, and a
+   refused call changes no lent byte. Pointers are not null, even where a length is 0; a slice that a call may write overlaps no other. */
 #ifndef KNOWETOP_H
 #define KNOWETOP_H
 

@@ -47,13 +47,13 @@ fn rival_begun(plan: &[u8], state: &[u8], begun: &[u8; 128], g: usize, n: usize)
 }
 
 // 19: walks up from the node.
-pub fn branch_begun(plan: &[u8], state: &[u8], begun: &[u8; 128], task: usize) -> bool
-    requires { ⌜ AtEvent (now plan) (now state) task ⌝ }
+pub fn branch_begun(plan: &[u8], state: &[u8], begun: &[u8; 128], node: usize) -> bool
+    requires { ⌜ AtEvent (now plan) (now state) node ⌝ }
     requires { ⌜ Counted Begun (now plan) (now state) (now begun) ⌝ }
     ensures { λ r. ⌜ r ≡ branchBegunB (planOf (now (plan .entry)))
-        (statusIn (now (plan .entry)) (now (state .entry))) task ⌝ }
+        (statusIn (now (plan .entry)) (now (state .entry))) node ⌝ }
 {
-    let mut n = task;
+    let mut n = node;
     while 0 < n {
         let g = wide(parent(plan, n));
         if rival_begun(plan, state, begun, g, n) {
@@ -64,14 +64,14 @@ pub fn branch_begun(plan: &[u8], state: &[u8], begun: &[u8; 128], task: usize) -
     false
 }
 
-// A mark at each node above the task.
-pub fn path(plan: &[u8], task: usize) -> [u8; 128]
-    requires { ⌜ (task < nodeCount (now plan)) × (refusal (now plan) ≡ 0) ⌝ }
+// A mark at each node above the node, and at itself.
+pub fn path(plan: &[u8], node: usize) -> [u8; 128]
+    requires { ⌜ (node < nodeCount (now plan)) × (refusal (now plan) ≡ 0) ⌝ }
     ensures { λ r. ⌜ (length r ≡ 128) × ((a : ℕ) → a < 128
-        → getD r a 0 ≡ num (underB (planOf (now (plan .entry))) a task)) ⌝ }
+        → getD r a 0 ≡ num (underB (planOf (now (plan .entry))) a node)) ⌝ }
 {
     let mut marks = no_nodes();
-    let mut n = task;
+    let mut n = node;
     marks[n] = 1;
     while 0 < n {
         n = wide(parent(plan, n));
@@ -80,7 +80,7 @@ pub fn path(plan: &[u8], task: usize) -> [u8; 128]
     marks
 }
 
-// Order j applies to a task whose path is marked, and its earlier node is not complete.
+// Order j applies to a node whose path is marked, and its earlier node is not complete.
 fn open_at(plan: &[u8], state: &[u8], ends: &[u8; 128], marks: &[u8; 128], j: usize) -> bool
     requires { ⌜ (j < orderCount (now plan)) × (stateRefusal (now plan) (now state) ≡ 0) ⌝ }
     requires { ⌜ Counted Ends (now plan) (now state) (now ends) ⌝ }

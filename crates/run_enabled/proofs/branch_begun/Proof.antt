@@ -48,7 +48,7 @@ returns c =
     let w = c .before .before in
     let l = w .before .before .before in
     let s = start w in
-    begun-yes _ _ (s .pre .0 .passed) (s .args .task)
+    begun-yes _ _ (s .pre .0 .passed) (s .args .node)
     (rival-here _ _ (s .pre .0 .passed) (l .loop .n) (w .wide .result) (omega arith) (l .loop .inv .1 .0) (parent-is w)
     (l .loop .inv .0) (sym (c .before .rival-begun .ensures) ∙ c .if1 .taken))
 
@@ -82,7 +82,7 @@ returns-2 c =
     let l = c .before in
     let s = l .before .before .before in
     let e : l .loop .n ≡ 0 = omega arith in
-    begun-no _ _ (s .pre .0 .passed) (s .args .task)
+    begun-no _ _ (s .pre .0 .passed) (s .args .node)
     (λ x. none-at-root _ _ (s .pre .0 .passed) (rw e at (l .loop .inv .1 .1 x)))
 
 pub branch-begun-spec : {M : Type 1} → statement M

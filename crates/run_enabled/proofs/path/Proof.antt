@@ -17,8 +17,8 @@ Inv-loop plan task marks₀ n₀ marks n = Under (planOf plan) n task × ((n < n
 abbrev μ-loop : tie.MeasureT-loop
 μ-loop plan task marks₀ n₀ marks n = n
 
-task-small : (c : tie.Start Inv-loop μ-loop) → c .args .task < 128
-task-small c = omega (arith, c .pre .0, clean _ (c .pre .1) .fits .limits .nodes)
+node-small : (c : tie.Start Inv-loop μ-loop) → c .args .node < 128
+node-small c = omega (arith, c .pre .0, clean _ (c .pre .1) .fits .limits .nodes)
 
 abbrev start : tie.After-wide Inv-loop μ-loop → tie.Start Inv-loop μ-loop
 start c = c .before .before .before .before .before .before
@@ -36,7 +36,7 @@ loop-holds c = (
   itself,
   (
     c .before .before .pre .0,
-    first-mark _ _ (c .no-nodes .result) (c .no-nodes .ensures) (task-small (c .before .before)),
+    first-mark _ _ (c .no-nodes .result) (c .no-nodes .ensures) (node-small (c .before .before)),
   ),
 )
 
@@ -83,7 +83,7 @@ path-spec =
     Inv-loop
     μ-loop
     (λ c κs. tt)
-    (λ c. task-small (c .before .before))
+    (λ c. node-small (c .before .before))
     loop-holds
     parent-requires
     (λ c κs. tt)

@@ -171,8 +171,7 @@ module _ (p : Plan) where
     }
     enabled-up s hc (can-finish m) q = can-finish record {
       is-task = m .is-task;
-      beneath = under-trans p
-          (child-under p hc) (m .beneath);
+      beneath = under-trans p (child-under p hc) (m .beneath);
       runs = m .runs;
     }
     enabled-up s hc (can-skip m) q = can-skip record {

@@ -30,8 +30,7 @@ module _ (p : Plan) (w : WellFormed p) where
     λ y. let x = y .2 in record {
       history = x .history;
       event = x .event;
-      execution = pick-join p w k (y .1)
-          (x .execution);
+      execution = pick-join p w k (y .1) (x .execution);
       clobbers = x .clobbers;
     },
   )

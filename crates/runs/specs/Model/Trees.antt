@@ -50,8 +50,7 @@ module _ (p : Plan) where
 
   -- some node under c that passes the test; some task
   unfoldable pub someUnderB : ℕ → (ℕ → Bool) → Bool
-  someUnderB c q = anyBelow (p .tree .size)
-      (λ t. both (underB c t) (λ u. q t))
+  someUnderB c q = anyBelow (p .tree .size) (λ t. both (underB c t) (λ u. q t))
 
   unfoldable pub someTaskB : ℕ → (ℕ → Bool) → Bool
   someTaskB c q = someUnderB c (λ t. both (kindB (p .tree .kind t) task) (λ u. q t))
