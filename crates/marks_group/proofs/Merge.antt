@@ -9,7 +9,7 @@ use lib.ListN.{length, getD, set, length-set}
 use lib.Seq.{getD-set-same, getD-set-other}
 use Rattle.base.specs.Bits.{ones, Says}
 use Rattle.base.proofs.Says.{says-map, says-eq, says-and, says-all, says-none}
-use Rattle.runs.specs.Plan.{Kind, task, all-of, any-of, optional, Picks, Plan, kindNumber}
+use Rattle.runs.specs.Plan.{all-of, any-of, optional, Plan}
 use Rattle.marks_row.specs.declared.Segment.{Segment}
 use Rattle.marks_row.specs.Segments.{Position}
 use Rattle.marks_row.specs.Columns.{Column, avoid, quiet, covered, may-pre, may-post, may-inc, requires, asserts}
@@ -148,16 +148,3 @@ module _ {kids : List ℕ} {segment : Segment} {rows : List ℕ} {p : Plan} {n :
         (Iff·symm (some-part p (g .well-formed) (g .node) kn f k s)))
         (j .some k (inr s) f l));
   }
-
--- a group of which one branch is taken, by the number of its kind
-pub is-optional : (k : Kind) → 3 ≡ kindNumber k → k ≡ optional
-is-optional task e = absurd (omega arith)
-is-optional all-of e = absurd (omega arith)
-is-optional any-of e = absurd (omega arith)
-is-optional optional e = refl
-
-pub is-any : (k : Kind) → Picks k → ¬ (3 ≡ kindNumber k) → k ≡ any-of
-is-any task m n = absurd m
-is-any all-of m n = absurd m
-is-any any-of m n = refl
-is-any optional m n = absurd (n refl)

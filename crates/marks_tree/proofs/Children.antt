@@ -9,6 +9,7 @@ use lib.ListN.{length, getD}
 use Rattle.base.proofs.Says.{says-eq}
 use Rattle.runs.specs.Plan.{Kind, task, all-of, any-of, optional, Picks, Plan, Node, itself, WellFormed, kindNumber}
 use Rattle.runs.proofs.Plan.Trees.{under-root}
+use Rattle.runs.proofs.Plan.Numbers.{kind-inj}
 use Rattle.runs.proofs.Execution.Final.{under-task}
 use Rattle.marks_row.specs.declared.Segment.{Segment}
 use Rattle.marks_row.specs.Segments.{segmentOf, Position}
@@ -30,13 +31,7 @@ OfKind kind c K = (p : Plan) → RepresentsKinds kind p → Node p c → K (p .t
 -- a kind by its code
 module _ (kind : List ℕ) (c : ℕ) where
   pub is-all : getD kind c 0 ≡ 1 → OfKind kind c (λ k. k ≡ all-of)
-  is-all e p r l = at _ (sym (r .is c l) ∙ e)
-    where
-      at : (k : Kind) → kindNumber k ≡ 1 → k ≡ all-of
-      at task e = absurd (omega arith)
-      at all-of e = refl
-      at any-of e = absurd (omega arith)
-      at optional e = absurd (omega arith)
+  is-all e p r l = kind-inj (p .tree .kind c) all-of (sym (r .is c l) ∙ e)
 
   pub is-choice : getD kind c 0 ≢ 1 → getD kind c 0 ≢ 0 → OfKind kind c Picks
   is-choice a b p r l = at (p .tree .kind c) (λ e. a (r .is c l ∙ e)) (λ e. b (r .is c l ∙ e))
@@ -48,13 +43,7 @@ module _ (kind : List ℕ) (c : ℕ) where
       at optional a b = tt
 
   pub is-task : getD kind c 0 ≡ 0 → OfKind kind c (λ k. k ≡ task)
-  is-task e p r l = at _ (sym (r .is c l) ∙ e)
-    where
-      at : (k : Kind) → kindNumber k ≡ 0 → k ≡ task
-      at task e = refl
-      at all-of e = absurd (omega arith)
-      at any-of e = absurd (omega arith)
-      at optional e = absurd (omega arith)
+  is-task e p r l = kind-inj (p .tree .kind c) task (sym (r .is c l) ∙ e)
 
 -- a task, whose row stands
 pub task-filled : {kind from kids order rows : List ℕ} {n node : ℕ} → length rows ≡ 2688

@@ -12,8 +12,8 @@ use Rattle.plan_rules.specs.Rules.{isChild}
 use Rattle.plan_rules.proofs.Laws.{and-both, and-of, not-passed}
 use Rattle.plan_check.specs.Meaning.{planOf}
 use Rattle.plan_check.proofs.Meaning.{kind-of, kind-is, kind-task, kind-all-of}
-use Rattle.plan_check.proofs.Nodes.{is-child, child-test, is-node, node-is, plan-kind}
-use Rattle.runs.specs.Plan.{Picks, itself, Child}
+use Rattle.plan_check.proofs.Nodes.{is-child, child-test, is-node, node-is, plan-kind, kind-choice}
+use Rattle.runs.specs.Plan.{task, Picks, itself, Child}
 use Rattle.runs.specs.Execution.{task-done, all-done, any-done, skip-done, Complete, Begun, waiting, done}
 use Rattle.runs.specs.Tests.{sameB, negate}
 use Rattle.runs.specs.Model.Monitor.{completeB, begunB}
@@ -95,13 +95,6 @@ module _ (b s : List ℕ) (ok : stateRefusal b s ≡ 0) (n : ℕ) (l : n < nodeC
   unfolding negate
   nonzero x = r-negate (eqb x 0) (r-eq x 0)
 
-  pub task-complete : kindOf b n ≡ 0 → eqb (nodeByte s n) 2 ≡ completeB (planOf b) (statusIn b s) n
-  task-complete k =
-      let kn = plan-kind b n ∙ kind-task (kindOf b n) k in
-      let d = byte-is b s ok n l done in
-      by-complete _ (r-map (λ e. task-done kn (d .0 e), λ x. d .1 (complete-task (planOf b) kn x))
-      (r-eq (nodeByte s n) 2))
-
   pub all-complete : kindOf b n ≡ 1 → eqb (childrenCounted Ends b s n) 0 ≡ completeB (planOf b) (statusIn b s) n
   unfolding countedAt sameB
   all-complete k =
@@ -117,9 +110,26 @@ module _ (b s : List ℕ) (ok : stateRefusal b s ≡ 0) (n : ℕ) (l : n < nodeC
             (completes (w .0) (w .1) .from (complete-all (planOf b) kn x (w .0) (w .1)))),
       ) (r-eq (childrenCounted Ends b s n) 0))
 
-  -- a group of which one branch is taken: a child is complete, or it is skipped
-  pub choice-complete : Picks (planOf b .tree .kind n)
-      → (not (eqb (childrenCounted Ends b s n) 0) || eqb (nodeByte s n) 2) ≡ completeB (planOf b) (statusIn b s) n
+  -- a child is complete, or the byte says done
+  abbrev ended : Bool
+  ended = not (eqb (childrenCounted Ends b s n) 0) || eqb (nodeByte s n) 2
+
+  -- a task has no children
+  task-complete : kindOf b n ≡ 0 → ended ≡ completeB (planOf b) (statusIn b s) n
+  task-complete k =
+      by-complete _ (r-map (to, λ x. inr (byte-is b s ok n l done .1 (complete-task (planOf b) kn x)))
+      (r-or (nonzero (childrenCounted Ends b s n)) (r-eq (nodeByte s n) 2)))
+    where
+      kn : planOf b .tree .kind n ≡ task
+      kn = plan-kind b n ∙ kind-task (kindOf b n) k
+
+      to : (childrenCounted Ends b s n ≢ 0) ⊎ (nodeByte s n ≡ 2) → Complete (planOf b) (statusIn b s) n
+      to (inl z) = let (c, h, q) = counted-child Ends z in
+          absurd (well-formed b s ok .parent-group c (h .not-root) (h .node) (ap (planOf b .tree .kind) (h .up) ∙ kn))
+      to (inr z) = task-done kn (byte-is b s ok n l done .0 z)
+
+  -- a group of which one branch is taken is skipped where its byte says so
+  choice-complete : Picks (planOf b .tree .kind n) → ended ≡ completeB (planOf b) (statusIn b s) n
   unfolding countedAt sameB
   choice-complete m =
       by-complete _ (r-map (to, λ x. from (complete-pick (planOf b) m x))
@@ -139,6 +149,11 @@ module _ (b s : List ℕ) (ok : stateRefusal b s ≡ 0) (n : ℕ) (l : n < nodeC
       from (branch-done c h x) = inl (child-counted Ends c h
           (rw (no, T-true (completeB (planOf b) (statusIn b s) c) (completes c h .from x))))
       from (group-skipped k d) = inr (byte-is b s ok n l done .1 d)
+
+  pub other-complete : kindOf b n ≢ 1 → ended ≡ completeB (planOf b) (statusIn b s) n
+  other-complete o =
+      by-cases (ℕ-discrete (kindOf b n) 0) (λ k. task-complete k)
+      (λ k. choice-complete (rw (plan-kind b n) (kind-choice (kindOf b n) k o)))
 
   -- begun: its byte says so, or a child is begun
   pub node-begun : (not (eqb (nodeByte s n) 0) || not (eqb (childrenCounted tallies.Begun b s n) 0))

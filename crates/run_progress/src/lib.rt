@@ -1,7 +1,6 @@
 // Which nodes are complete and which are begun (01: taken): one pass over the nodes from the last to the first, which
 // counts children.
 use base::kinds::ALL_OF;
-use base::kinds::TASK;
 use base::no_nodes;
 use base::statuses::DONE;
 use base::statuses::WAITING;
@@ -25,7 +24,7 @@ pub enum Tally {
     Ends,
 }
 
-// A byte that says done: a task is done, an optional group skipped; that of another group is 0.
+// A byte that says done: a task is done, an optional group skipped; that of another group is 0. A task has no children.
 pub fn is_complete(plan: &[u8], state: &[u8], ends: &[u8; 128], n: usize) -> bool
     requires { ⌜ (n < nodeCount (now plan))
         × ((stateRefusal (now plan) (now state) ≡ 0)
@@ -33,9 +32,6 @@ pub fn is_complete(plan: &[u8], state: &[u8], ends: &[u8; 128], n: usize) -> boo
     ensures { λ r. ⌜ r ≡ completeB (planOf (now (plan .entry)))
         (statusIn (now (plan .entry)) (now (state .entry))) n ⌝ }
 {
-    if is_kind(plan, n, TASK) {
-        return state[8 + n] == DONE;
-    }
     if is_kind(plan, n, ALL_OF) {
         return ends[n] == 0;
     }

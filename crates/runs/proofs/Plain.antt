@@ -1,7 +1,7 @@
 -- Plans without optional groups, those of 01: their free runs, whole free runs and refusals are the ones that 01
 -- defines without 02's skips, and a skip call changes nothing.
 use Rattle.runs.proofs.Base.{_≡_, refl, sym, _≢_, inl, inr, _↔_, [], _∷_, ℕ, T}
-use Rattle.runs.specs.Plan.{Kind, task, all-of, any-of, optional, Picks, Moves, Plan, Node, Child, Under}
+use Rattle.runs.specs.Plan.{Kind, task, all-of, any-of, optional, Moves, Plan, Node, Child, Under}
 use Rattle.runs.specs.Plan.{WellFormed}
 use Rattle.runs.specs.Execution.{waiting, running, done, State, Event, start, finish, skip, History, statusAfter}
 use Rattle.runs.specs.Execution.{task-done, all-done, any-done, skip-done, Complete, Begun, Rival, by-branch}
@@ -9,7 +9,7 @@ use Rattle.runs.specs.Execution.{by-skip, Ready, Enabled, can-start, can
 use Rattle.runs.specs.Execution.{one-more, Completed}
 use Rattle.runs.specs.Calls.{one, World, BranchBegun, OrderOpen, Answered, accepted, refused}
 use Rattle.runs.proofs.Plan.{under-node, child-parent}
-use Rattle.runs.proofs.Execution.{picks-any}
+use Rattle.runs.proofs.Execution.{picks-any, picks-other}
 
 -- ---- 01's words, as they stood before 02
 module _ (p : Plan) where
@@ -47,12 +47,6 @@ module _ (p : Plan) where
 abbrev pub Plain : Plan → Type 0
 Plain p = (n : ℕ) → Node p n → p .tree .kind n ≢ optional
 
-pick-any : (k : Kind) → k ≢ optional → Picks k → k ≡ any-of
-pick-any task n x = absurd x
-pick-any all-of n x = absurd x
-pick-any any-of n x = refl
-pick-any optional n x = absurd (n refl)
-
 move-task : (k : Kind) → k ≢ optional → Moves k → k ≡ task
 move-task task n x = refl
 move-task all-of n x = absurd x
@@ -64,7 +58,7 @@ module _ (p : Plan) (w : WellFormed p) (plain : Plain p) where
   complete-to : {s : State} {n : ℕ} → Node p n → Complete p s n → CompleteBase p s n
   complete-to l (task-done k d) = task-base k d
   complete-to l (all-done k f) = all-base k (λ c hc. complete-to (hc .node) (f c hc))
-  complete-to {n = n} l (any-done c k hc d) = any-base c (pick-any _ (plain n l) k) hc (complete-to (hc .node) d)
+  complete-to {n = n} l (any-done c k hc d) = any-base c (picks-other _ (plain n l) k) hc (complete-to (hc .node) d)
   complete-to {n = n} l (skip-done k d) = absurd (plain n l k)
 
   complete-from : {s : State} {n : ℕ} → CompleteBase p s n → Complete p s n
@@ -100,7 +94,7 @@ module _ (p : Plan) (w : WellFormed p) (plain : Plain p) where
     λ x. let l = child-parent p w (x .own-child) in (
       x .group,
       x .own,
-      pick-any _ (plain (x .group) l) (x .picks),
+      picks-other _ (plain (x .group) l) (x .picks),
       x .own-child,
       x .above,
       plain-rival s (x .group) (x .own) l .0 (x .rival),
@@ -136,7 +130,7 @@ module _ (p : Plan) (w : WellFormed p) (plain : Plain p) where
 
   ready-from : {n t : ℕ} {s : State} → Node p n → ReadyBase p n s t → Ready p n s t
   ready-from {s = s} l m = record {
-    choice = λ g b k u hb v r. m .choice g b (pick-any _ (plain g (under-node p l u)) k) u hb v
+    choice = λ g b k u hb v r. m .choice g b (picks-other _ (plain g (under-node p l u)) k) u hb v
         (plain-rival s g b (under-node p l u) .0 r);
     ordered = λ g a b u ha hb o v. complete-from (m .ordered g a b u ha hb o v);
   }

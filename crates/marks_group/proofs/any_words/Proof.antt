@@ -1,12 +1,14 @@
 -- `any_words` meets its contract. Assumes nothing.
-use mathlib.Core.Path.{sym, _∙_}
+use mathlib.Core.Path.{sym, ap, _∙_}
 use Prim.Native.Nat.{ℕ, _-_}
-use Rattle.runs.specs.Plan.{Plan}
+use Rattle.runs.specs.Plan.{optional, Plan, kindNumber}
+use Rattle.runs.proofs.Plan.Numbers.{kind-inj}
+use Rattle.runs.proofs.Execution.Completeness.{picks-other}
 use Rattle.marks_row.specs.Segments.{Reached}
 use Rattle.marks_row.proofs.Turns.{first-turn, position-small, kid-small, position, next-turn, last-turn}
 use Rattle.marks_siblings.specs.Group.{Group}
 use Rattle.marks_group.proofs.Merge.{AnyWords, joined-none, joined-more, unmasked, child-row, any-row}
-use Rattle.marks_group.proofs.Merge.{optional-row, is-optional, is-any}
+use Rattle.marks_group.proofs.Merge.{optional-row}
 use native.Mathlib.Omega.{arith}
 use Rattle.marks_group.proofs.any_words.Statement.{statement}
 use Rattle.marks_group.proofs.any_words.Tie as tie
@@ -45,13 +47,13 @@ loop-again c =
 
 returns : tie.Need-returns Inv-loop μ-loop
 returns c = let l = c .before .before .before .before in
-    λ p n g m e. optional-row g (is-optional _ (sym (c .before .if2 .taken) ∙ e))
+    λ p n g m e. optional-row g (kind-inj (p .tree .kind n) optional (sym e ∙ c .before .if2 .taken))
     (rw (last-turn (l .loop .inv .0) (c .before .before .if1 .left)) at (l .loop .inv .1 p n g))
     (c .with-empty .ensures)
 
 returns-2 : tie.Need-returns-2 Inv-loop μ-loop
 returns-2 c = let l = c .before .before .before in
-    λ p n g m e. any-row g (is-any _ m (λ q. c .if2 .left (e ∙ sym q)))
+    λ p n g m e. any-row g (picks-other (p .tree .kind n) (λ q. c .if2 .left (e ∙ ap kindNumber q)) m)
     (rw (last-turn (l .loop .inv .0) (c .before .if1 .left)) at (l .loop .inv .1 p n g))
 
 pub any-words-spec : {M : Type 1} → statement M

@@ -13,7 +13,13 @@ picks-any k = rw k tt
 pub picks-optional : {k : Kind} → k ≡ optional → Picks k
 picks-optional k = rw k tt
 
--- the choices that events move
+-- the choices that are no optional groups, and those that events move
+pub picks-other : (k : Kind) → k ≢ optional → Picks k → k ≡ any-of
+picks-other task n x = absurd x
+picks-other all-of n x = absurd x
+picks-other any-of n x = refl
+picks-other optional n x = absurd (n refl)
+
 pub picks-moves : (k : Kind) → Picks k → Moves k → k ≡ optional
 picks-moves task x y = absurd x
 picks-moves all-of x y = absurd x

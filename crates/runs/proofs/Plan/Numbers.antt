@@ -1,7 +1,24 @@
--- 01's numbers of places and signs. Assumes nothing.
-use Rattle.runs.proofs.Base.{_≡_, Bool, true, false, not, ℕ, _<_, arith}
-use Rattle.runs.specs.Plan.{Place, pre, inc, post, placeNumber, signNumber}
+-- The numbers of kinds, places and signs. Assumes nothing.
+use Rattle.runs.proofs.Base.{_≡_, refl, sym, ap, _∙_, Bool, true, false, not, ℕ, zero, suc, _<_, arith}
+use Rattle.runs.specs.Plan.{Kind, task, all-of, any-of, optional, Place, pre, inc, post, kindNumber, placeNumber}
+use Rattle.runs.specs.Plan.{signNumber}
 use Prim.Native.Nat.{_-_}
+
+-- the number of a kind tells it
+abbrev ofNumber : ℕ → Kind
+ofNumber zero = task
+ofNumber (suc zero) = all-of
+ofNumber (suc (suc zero)) = any-of
+ofNumber (suc (suc (suc n))) = optional
+
+number-tells : (k : Kind) → ofNumber (kindNumber k) ≡ k
+number-tells task = refl
+number-tells all-of = refl
+number-tells any-of = refl
+number-tells optional = refl
+
+pub kind-inj : (k j : Kind) → kindNumber k ≡ kindNumber j → k ≡ j
+kind-inj k j e = sym (number-tells k) ∙ ap ofNumber e ∙ number-tells j
 
 pub place-small : (k : Place) → placeNumber k < 3
 place-small pre = omega arith
