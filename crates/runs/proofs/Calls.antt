@@ -1,6 +1,8 @@
 -- Laws of the monitor's calls.
+pub mod Listed
 pub mod Reflect
 pub mod First
+pub mod Together
 pub mod Violation
 pub mod Accepted
 pub mod Rows

@@ -1,13 +1,18 @@
 -- Tests reflect what they test. `Reflects b A`: the test b is true exactly if A holds. The laws named `r-x` are
 -- gathered in the ruleset `reflection`.
-use Rattle.runs.proofs.Base.{_≡_, refl, ap, _⊎_, inl, inr, _↔_, Bool, true, false, decide, Option, none, some}
-use Rattle.runs.proofs.Base.{List, [], _∷_, ℕ, zero, suc, _<_, arith}
-use Rattle.runs.proofs.Base.{ℕ-discrete, T, eqb, ltb, eqb→eq, eqb-refl, ltb→lt, lt→ltb}
+use Rattle.runs.proofs.Base.{_≡_, refl, ap, _⊎_, inl, inr, _↔_, Bool, true, false, not, decide, Option, none}
+use Rattle.runs.proofs.Base.{some}
+use Rattle.runs.proofs.Base.{List, [], _∷_, ℕ, zero, suc, _<_}
+use Rattle.runs.proofs.Base.{arith, ℕ-discrete, T, eqb, ltb, eqb→eq, eqb-refl, ltb→lt, lt→ltb}
 use Rattle.runs.specs.Tests.{both, either, implies, negate, anyBelow, allBelow, sameB, sameList, isNone, isSome}
 
 -- two constructors are equal: `clash cc`
 pub clash : {A : Type 0} → _≡_ {A = ℕ} 0 1 → A
 clash q = absurd (omega arith)
+
+pub not-not : (v : Bool) → not (not v) ≡ v
+not-not true = refl
+not-not false = refl
 
 pub record Reflects (b : Bool) (A : Type 0) : Type 0 where
   pub to : T b → A
@@ -24,6 +29,11 @@ module _ {b : Bool} {A : Type 0} where
       at : (b : Bool) → (T b → A) → (A → T b) → Dec A
       at true to from = yes (to tt)
       at false to from = no from
+
+-- what can be decided and is not false holds
+pub force : {A : Type 0} → Dec A → ¬ ¬ A → A
+force (yes x) k = x
+force (no n) k = absurd (k n)
 
 pub true-T : (t : Bool) → t ≡ true → T t
 true-T true e = tt
@@ -54,6 +64,10 @@ r-T b = record { to = λ t. t; from = λ t. t }
 
 pub r-true : Reflects true (Unit {0})
 r-true = record { to = λ t. t; from = λ t. t }
+
+-- a test that is never true
+pub r-false : {A : Type 0} → ¬ A → Reflects false A
+r-false k = record { to = λ t. absurd t; from = k }
 
 -- the second test need only be right where the first holds
 pub r-guarded : {A B : Type 0} (b : Bool) (g : Unit {0} → Bool) → Reflects b A → (A → Reflects (g tt) B)

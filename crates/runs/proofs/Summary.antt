@@ -8,6 +8,7 @@ pub mod Reach
 pub mod Preconditions
 pub mod Inconditions
 pub mod Postconditions
+pub mod Concurrent
 pub mod PairsComplete
 pub mod PairsSound
 pub mod Clobber
@@ -26,6 +27,7 @@ pub use Reach.*
 pub use Preconditions.*
 pub use Inconditions.*
 pub use Postconditions.*
+pub use Concurrent.*
 pub use PairsComplete.*
 pub use PairsSound.*
 pub use Clobber.*

@@ -1,23 +1,45 @@
--- The monitor's calls on a plan: refusals 17 to 22 and 27, and the states, as 01 and 02 word them, for any numbers and
--- any states, reachable or not. Definitions only.
+-- The monitor's calls on a plan: refusals 17 to 22 and 25 to 27, and the states, as 01 and 02 word them, for any
+-- numbers and any states, reachable or not. Definitions only.
 use mathlib.Core.Path.{_≡_}
 use mathlib.Core.Logic.{_≢_, _⊎_}
 use mathlib.Core.Bool.{Bool, not, cond}
 use mathlib.Core.Option.{Option·getD, some}
-use mathlib.Core.List.{List, [], _∷_, _++_}
-use Prim.Native.Nat.{ℕ, suc}
+use mathlib.Core.List.{List, [], _∷_, _++_, List·Memᴰ as Among}
+use Prim.Native.Nat.{ℕ, suc, _<_}
 use lib.Dec.{T, eqb}
-use Rattle.runs.specs.Plan.{task, optional, Picks, inc, Plan, Node, Child, Under}
+use Rattle.runs.specs.Plan.{task, optional, Picks, inc, post, Plan, Node, Child, Under}
 use Rattle.runs.specs.Execution.{Status, waiting, running, done, State, Event, start, finish, skip, History}
 use Rattle.runs.specs.Execution.{nodeOf, moved, Complete, Begun, Rival, preOf, asserts}
 
--- a call asks for an event of any number
+-- a call asks for an event of any number, or for the finishes of a list of any numbers in one step (02's
+-- finish-together)
 pub data Call : Type 0 where
   one : Event → Call
+  together : List ℕ → Call
 
--- the events that it stands for, the newest first
+abbrev pub finishes : List ℕ → History
+finishes [] = []
+finishes (t ∷ ts) = finish t ∷ finishes ts
+
+-- the events that it stands for, the newest first; the order of the finishes of one step is immaterial (`any-order` in
+-- proofs/Calls/Together)
 abbrev pub events : Call → History
 events (one e) = e ∷ []
+events (together ts) = finishes ts
+
+-- some number of a list has P
+abbrev pub SomeOf : List ℕ → (ℕ → Type 0) → Type 0
+SomeOf ts P = (t : ℕ) × Among t ts × P t
+
+-- the numbers of a list strictly rise
+pub data Rising : List ℕ → Type 0 where
+  empty : Rising []
+  single : {t : ℕ} → Rising (t ∷ [])
+  rising : {t u : ℕ} {ts : List ℕ} → t < u → Rising (u ∷ ts) → Rising (t ∷ u ∷ ts)
+
+-- 25: the list is empty or its numbers do not strictly rise
+abbrev pub NotRising : List ℕ → Type 0
+NotRising ts = (ts ≡ []) ⊎ (¬ Rising ts)
 
 -- the states that 01 works out from the book and the calls: the status of each task, the value of each flag; 02: which
 -- optional groups are skipped, and the order of starts: how many there were, and the ordinal (02: place) of each node's
@@ -57,9 +79,9 @@ abbrev pub happenAll : Plan → World → History → World
 happenAll p a [] = a
 happenAll p a (e ∷ h) = happen p (happenAll p a h) e
 
--- what a start, a finish or a skip can be refused for, on an accepted book and a well-formed record
+-- what a start, a finish, a skip or a finish-together can be refused for, on an accepted book and a well-formed record
 pub data Refusal : Type 0 where
-  no-task wrong-status branch-begun order-open pre-unmet inc-broken no-optional : Refusal
+  no-task wrong-status branch-begun order-open pre-unmet inc-broken no-optional not-rising post-opposed : Refusal
   deriving Discrete as Refusal-discrete
 
 abbrev pub number : Refusal → ℕ
@@ -69,6 +91,8 @@ number branch-begun = 19
 number order-open = 20
 number pre-unmet = 21
 number inc-broken = 22
+number not-rising = 25
+number post-opposed = 26
 number no-optional = 27
 
 -- the status that an event asks of its node
@@ -127,7 +151,20 @@ module _ (p : Plan) where
     pub holds : p .cond .sign inc who on ≡ some sign
     pub breaks : asserts p e on ≡ some (not sign)
 
-  -- 01's table of refusals, row by row; and 02's 27, a skip's number is not that of an optional group
+  -- 26: two listed tasks leave a flag opposite ways
+  pub record PostOpposed (ts : List ℕ) : Type 0 where
+    pub who : ℕ
+    pub other : ℕ
+    pub listed : Among who ts
+    pub other-listed : Among other ts
+    pub on : ℕ
+    pub sign : Bool
+    pub leaves : p .cond .sign post who on ≡ some sign
+    pub opposes : p .cond .sign post other on ≡ some (not sign)
+
+  -- 01's table of refusals, row by row, with 02's rows: 27, a skip's number is not that of an optional group; 25 and 26.
+  -- For a list each row is about the whole of it, and "a hold is then tried only for tasks still running after it" (02):
+  -- 22 is asked of the statuses after the step. ⊥ where a row is no matter of the call.
   abbrev pub Applies : World → Call → Refusal → Type 0
   Applies a (one e) no-task = ¬ Task (nodeOf e)
   Applies a (one e) wrong-status = WrongStatus (a .status) e
@@ -136,12 +173,24 @@ module _ (p : Plan) where
   Applies a (one e) pre-unmet = PreUnmet (a .flag) e
   Applies a (one e) inc-broken = IncBroken (a .status) e
   Applies a (one e) no-optional = ¬ Optional (nodeOf e)
+  Applies a (one e) not-rising = ⊥
+  Applies a (one e) post-opposed = ⊥
+  Applies a (together ts) no-task = SomeOf ts (λ t. ¬ Task t)
+  Applies a (together ts) wrong-status = SomeOf ts (λ t. WrongStatus (a .status) (finish t))
+  Applies a (together ts) branch-begun = ⊥
+  Applies a (together ts) order-open = ⊥
+  Applies a (together ts) pre-unmet = ⊥
+  Applies a (together ts) inc-broken = SomeOf ts (λ t. IncBroken (happenAll p a (finishes ts) .status) (finish t))
+  Applies a (together ts) no-optional = ⊥
+  Applies a (together ts) not-rising = NotRising ts
+  Applies a (together ts) post-opposed = PostOpposed ts
 
--- the checks that concern a call, in their order (02: 27 in the place of 17)
+-- the checks that concern a call, in their order (02: 27 in the place of 17; 25 after 16, 26 between 18 and 22)
 abbrev pub checks : Call → List Refusal
 checks (one (start t)) = no-task ∷ wrong-status ∷ branch-begun ∷ order-open ∷ pre-unmet ∷ inc-broken ∷ []
 checks (one (finish t)) = no-task ∷ wrong-status ∷ inc-broken ∷ []
 checks (one (skip g)) = no-optional ∷ wrong-status ∷ branch-begun ∷ order-open ∷ []
+checks (together ts) = not-rising ∷ no-task ∷ wrong-status ∷ post-opposed ∷ inc-broken ∷ []
 
 -- r is the first of a list that applies; none of a list applies
 abbrev pub First : (Refusal → Type 0) → Refusal → List Refusal → Type 0
@@ -169,6 +218,7 @@ abbrev pub startedBy : Call → List ℕ
 startedBy (one (start t)) = t ∷ []
 startedBy (one (finish t)) = []
 startedBy (one (skip g)) = []
+startedBy (together ts) = []
 
 unfoldable pub acceptedStarts : List Call → List ℕ → List ℕ
 acceptedStarts (c ∷ cs) (n ∷ ns) = cond (eqb n 0) (startedBy c) [] ++ acceptedStarts cs ns

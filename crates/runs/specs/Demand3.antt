@@ -11,9 +11,9 @@ use Rattle.runs.specs.Execution.{waiting, done, State, Complete}
 use Rattle.runs.specs.Verdict.{Verdict, Clear, Doomed, Judged}
 use Rattle.runs.specs.Calls.{Call, World, fresh, Task, Optional, Worked, acceptedStarts}
 
--- none of the returns is 21 or 22
+-- none of the returns is 21, 22 or 26
 abbrev pub NoViolation : List ℕ → Type 0
-NoViolation ns = (r : ℕ) → Among r ns → (r ≢ 21) × (r ≢ 22)
+NoViolation ns = (r : ℕ) → Among r ns → (r ≢ 21) × (r ≢ 22) × (r ≢ 26)
 
 -- Starts in the order of the list l: the ordinal of x is k + 1 exactly if x stands in l after k others, and 0 exactly
 -- while x waits or is no task.
@@ -23,7 +23,8 @@ pub record Numbered (p : Plan) (l : List ℕ) (a : World) : Type 0 where
   pub unstarted : (x : ℕ) → (a .ordinal x ≡ 0) ↔ ((a .status x ≡ waiting) ⊎ (¬ Task p x))
 
 module _ (p : Plan) (F : ℕ → Bool) where
-  -- no call in any list returns 21 or 22
+  -- no call in any list returns 21, 22 or 26 (02: "no list of start, finish and finish-together calls .. meets 21, 22
+  -- or 26"; the lists have skips too)
   abbrev pub NeverViolates : Type 0
   NeverViolates = (cs : List Call) (ns : List ℕ) (a : World) → Worked p (fresh F) cs ns a → NoViolation ns
 
@@ -51,7 +52,7 @@ pub record Demand3 (p : Plan) (F : ℕ → Bool) : Type 0 where
       → Numbered p (acceptedStarts cs ns) a
   -- the plan has one verdict
   pub judged : (v : Verdict) × Judged p F v × ((u : Verdict) → Judged p F u → u ≡ v)
-  -- CLEAR exactly if no call in any list returns 21 or 22
+  -- CLEAR exactly if no call in any list returns 21, 22 or 26
   pub clear : Clear p F ↔ NeverViolates p F
   -- DOOMED: the root is complete after no list
   pub doomed : Doomed p F → NeverCompletes p F

@@ -99,6 +99,13 @@ module _ (p : Plan) where
     pub not-before : ¬ Before a b
     pub not-after : ¬ Before b a
 
+  -- t and u stand under unordered children of one all-of group, which is n or below n: 02's "unordered children of the
+  -- group have tasks", "at an all-of group and every node above it"
+  pub data Concurrent (t u : ℕ) : ℕ → Type 0 where
+    at-group : {n : ℕ} → p .tree .kind n ≡ all-of → (c d : ℕ) → Child n c → Child n d → Unordered c d → Under c t
+        → Under d u → Concurrent t u n
+    deeper : {n : ℕ} (c : ℕ) → Child n c → Concurrent t u c → Concurrent t u n
+
   -- What the theory asks of a plan; refusals 7, 8, 9, 12 and 13 leave it (`Accepted`, below). The rank stands for the
   -- node's number, so that orders may also run against the numbers.
   pub record WellFormed : Type 0 where

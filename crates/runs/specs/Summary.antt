@@ -6,6 +6,7 @@ use mathlib.Core.Option.{none, some}
 use mathlib.Core.List.{_∷_}
 use Prim.Native.Nat.{ℕ, zero, suc}
 use Rattle.runs.specs.Plan.{task, all-of, any-of, Place, pre, inc, post, Plan, Child, Under, Before, Unordered}
+use Rattle.runs.specs.Plan.{Concurrent}
 use Rattle.runs.specs.Execution.{running, Event, History, nodeOf, statusAfter, Execution, Completed, preOf}
 use Rattle.runs.specs.Execution.{asserts, lastAsserted, Earlier}
 
@@ -54,9 +55,19 @@ module _ (p : Plan) where
       pub execution : Execution p n (event ∷ history)
       pub clobbers : Clobbers history event
 
-    -- mark 6, "may clash"
+    -- 02's "leaving that flag opposite ways": of two tasks that stand under unordered children of an all-of group at or
+    -- below n, one leaves the literal and the other its opposite ("both literals": `opposed-both` in
+    -- proofs/Summary/Concurrent)
+    pub record Opposed (n : ℕ) : Type 0 where
+      pub who : ℕ
+      pub other : ℕ
+      pub concurrent : Concurrent p who other n
+      pub leaves : p .cond .sign post who f ≡ some v
+      pub opposes : p .cond .sign post other f ≡ some (not v)
+
+    -- mark 6, "may clash": in some free run, or (02) by opposite leavings of two tasks that may finish together
     abbrev pub MayClobber : ℕ → Type 0
-    MayClobber n = Clobbered n
+    MayClobber n = Clobbered n ⊎ Opposed n
 
   -- some task under c has the literal at one of two places
   pub record TaskWith (i j : Place) (f : ℕ) (v : Bool) (c : ℕ) : Type 0 where
@@ -67,11 +78,15 @@ module _ (p : Plan) where
 
   -- 01's rule by pairs for mark 6 at an all-of group: a child has it; or for unordered c and d, a task under c needs or
   -- holds the literal and one under d holds or leaves the opposite; or d stands before c, d may leave the opposite, c
-  -- may need the literal, and each child standing between them has a whole free run that does not touch the flag
+  -- may need the literal, and each child standing between them has a whole free run that does not touch the flag; or
+  -- (02) for unordered c and d, a task under c leaves the literal and one under d the opposite
   pub data ClobberByPairs (f : ℕ) (v : Bool) (n : ℕ) : Type 0 where
     in-child : (c : ℕ) → Child p n c → MayClobber f v c → ClobberByPairs f v n
     unordered-pair : (c d : ℕ) → Child p n c → Child p n d → Unordered p c d → TaskWith pre inc f v c
         → TaskWith inc post f (not v) d
+        → ClobberByPairs f v n
+    opposed-pair : (c d : ℕ) → Child p n c → Child p n d → Unordered p c d → TaskWith post post f v c
+        → TaskWith post post f (not v) d
         → ClobberByPairs f v n
     passed-on : (c d : ℕ) → Child p n c → Child p n d → Before p d c → May d (ExternalPost f (not v))
         → May c (ExternalPre f v)

@@ -31,6 +31,10 @@ unfoldable pub allBelow : ℕ → (ℕ → Bool) → Bool
 allBelow zero g = true
 allBelow (suc m) g = both (g m) (λ u. allBelow m g)
 
+unfoldable pub anyIn : List ℕ → (ℕ → Bool) → Bool
+anyIn [] g = false
+anyIn (t ∷ ts) g = either (g t) (λ u. anyIn ts g)
+
 unfoldable pub sameB : Bool → Bool → Bool
 sameB true v = v
 sameB false v = not v

@@ -2,28 +2,23 @@
 -- has one that comes to a violation; no such list completes a DOOMED root.
 use Rattle.runs.proofs.Base.{_≡_, refl, ap, _∙_, _⊎_, inl, inr, Bool, not, some, List, [], _∷_, _++_, ℕ}
 use Rattle.runs.specs.Plan.{Plan, WellFormed}
-use Rattle.runs.specs.Execution.{State, Event, History, statusAfter, Complete, Enabled, Execution, none-yet}
+use Rattle.runs.specs.Execution.{Event, History, statusAfter, Complete, Execution, none-yet}
 use Rattle.runs.specs.Execution.{one-more, preOf, Earlier}
 use Rattle.runs.specs.Verdict.{Clear, Doomed, by-clobber, by-start}
-use Rattle.runs.specs.Calls.{Call, one, events, World}
-use Rattle.runs.proofs.Execution.{earlier-nil, earlier-inv, execution-tail, execution-last}
+use Rattle.runs.specs.Calls.{Call, one, together, events}
+use Rattle.runs.proofs.Execution.{earlier-nil, earlier-inv}
 use Rattle.runs.proofs.Summary.{must-clobber-fails}
 use Rattle.runs.proofs.Verdict.Exact.{MayFail, clear-or-may-fail}
-use Rattle.runs.proofs.Calls.Violation.{flagAfter, worldAfter, Violates, Violation, flag-last, flag-none}
-use Rattle.runs.proofs.Calls.Violation.{clear-no-violation}
-use Rattle.runs.proofs.Calls.Violation.{may-fail-violates, decViolates}
+use Rattle.runs.proofs.Calls.Listed.{rises}
+use Rattle.runs.proofs.Calls.Together.{finishes-execution, before-finishes}
+use Rattle.runs.proofs.Calls.Violation.{flagAfter, worldAfter, Violates, EnabledCall, ViolatesCall, Violation}
+use Rattle.runs.proofs.Calls.Violation.{flag-last, flag-none}
+use Rattle.runs.proofs.Calls.Violation.{clear-no-violation, may-fail-violates, decViolates}
 
 -- what a list of calls comes to
 abbrev pub flat : List Call → History
 flat [] = []
 flat (c ∷ cs) = events c ++ flat cs
-
--- 17 to 20, and 27, do not apply; 21 or 22 applies
-abbrev pub EnabledCall : Plan → State → Call → Type 0
-EnabledCall p s (one e) = Enabled p 0 s e
-
-abbrev pub ViolatesCall : Plan → World → Call → Type 0
-ViolatesCall p a (one e) = Violates p a e
 
 -- a list of calls that are all accepted, the last call first
 pub data AcceptedAll (p : Plan) (F : ℕ → Bool) : List Call → Type 0 where
@@ -32,7 +27,7 @@ pub data AcceptedAll (p : Plan) (F : ℕ → Bool) : List Call → Type 0 where
       → ¬ ViolatesCall p (worldAfter p F (flat cs)) c
       → AcceptedAll p F (c ∷ cs)
 
--- an accepted list and a call to which 21 or 22 is the first to apply
+-- an accepted list and a call to which 21, 22 or 26 is the first to apply
 pub record FirstViolation (p : Plan) (F : ℕ → Bool) : Type 0 where
   pub calls : List Call
   pub call : Call
@@ -54,19 +49,16 @@ module _ (p : Plan) (w : WellFormed p) (F : ℕ → Bool) where
   pub accepted-execution : {cs : List Call} → AcceptedAll p F cs → Execution p 0 (flat cs)
   accepted-execution no-call = none-yet
   accepted-execution (call-more {c = one e} k m n) = one-more (accepted-execution k) m
+  accepted-execution (call-more {c = together ts} k (r, m) n) = finishes-execution p (rises r) (accepted-execution k) m
 
   pub clear-no-first-violation : Clear p F → ¬ FirstViolation p F
-  clear-no-first-violation c x = at (x .call) (x .enabled) (x .violates)
-    where
-      at : (d : Call) → EnabledCall p (statusAfter (flat (x .calls))) d
-          → ViolatesCall p (worldAfter p F (flat (x .calls))) d → ⊥
-      at (one e) m b = clear-no-violation p F w c
-          (record {
-            history = flat (x .calls);
-            event = e;
-            execution = one-more (accepted-execution (x .accepted)) m;
-            violates = b;
-          })
+  clear-no-first-violation c x = clear-no-violation p F w c (record {
+    history = flat (x .calls);
+    call = x .call;
+    execution = accepted-execution (x .accepted);
+    enabled = x .enabled;
+    violates = x .violates;
+  })
 
   -- the first violation of an execution
   accepted-or-violation : {h : History} → Execution p 0 h → AcceptedAll p F (ones h) ⊎ FirstViolation p F
@@ -82,21 +74,15 @@ module _ (p : Plan) (w : WellFormed p) (F : ℕ → Bool) where
       go (inl k) (no n) = inl (call-more {c = one e} k (rw (flat-ones h) m) (rw (flat-ones h) n))
 
   first-violation : Violation p F → FirstViolation p F
-  first-violation x = go (x .history) (x .event) (x .execution) (x .violates)
-      (accepted-or-violation (execution-tail p w (x .execution)))
+  first-violation x = go (x .history) (x .enabled) (x .violates) (accepted-or-violation (x .execution))
     where
-      go : (h : History) (e : Event) → Execution p 0 (e ∷ h) → Violates p (worldAfter p F h) e
-          → AcceptedAll p F (ones h) ⊎ FirstViolation p F → FirstViolation p F
-      go h e fr b (inr y) = y
-      go h e fr b (inl k) = record {
-        calls = ones h;
-        call = one e;
-        accepted = k;
-        enabled = rw (flat-ones h) (execution-last p w fr);
-        violates = rw (flat-ones h) b;
-      }
+      go : (h : History) → EnabledCall p (statusAfter h) (x .call) → ViolatesCall p (worldAfter p F h) (x .call) →
+          AcceptedAll p F (ones h) ⊎ FirstViolation p F → FirstViolation p F
+      go h m b (inr y) = y
+      go h m b (inl k) = record { calls = ones h; call = x .call; accepted = k; enabled = rw (flat-ones h) m; violates =
+          rw (flat-ones h) b }
 
-  -- a plan is CLEAR, or some list of calls meets 21 or 22
+  -- a plan is CLEAR, or some list of calls meets 21, 22 or 26
   pub clear-or-first-violation : Clear p F ⊎ FirstViolation p F
   clear-or-first-violation = go (clear-or-may-fail p w F)
     where
@@ -116,6 +102,8 @@ module _ (p : Plan) (w : WellFormed p) (F : ℕ → Bool) where
       go (inl z) ih = let y : r ≡ flat cs = cc in let s : e ≡ x = cc in
           n (inl (record { on = f; sign = v; needs = rw s at nd; unmet = rw y at b }))
       go (inr z) ih = ih z
+  accepted-met f v (call-more {c = together ts} {cs = cs} k m n) q nd b = accepted-met f v k (before-finishes p ts (flat
+      cs) f v nd q) nd b
 
   -- no accepted list completes a DOOMED root
   pub doomed-incomplete : Doomed p F → {cs : List Call} → AcceptedAll p F cs → ¬ Complete p (statusAfter (flat cs)) 0

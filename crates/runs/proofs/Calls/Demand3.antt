@@ -5,7 +5,8 @@ use Rattle.runs.specs.Plan.{Kind, task, all-of, any-of, optional, Moves,
 use Rattle.runs.specs.Execution.{Status, waiting, running, done, Event, start, finish, skip, History, statusAfter}
 use Rattle.runs.specs.Execution.{Complete, lastAssertedOf, asserts, Execution, lastAsserted}
 use Rattle.runs.specs.Verdict.{Clear, Doomed}
-use Rattle.runs.specs.Calls.{Call, World, fresh, Refusal, pre-unmet, inc-broken, number, Task, Optional, Worked}
+use Rattle.runs.specs.Calls.{Call, World, fresh, Refusal, pre-unmet, inc-broken, post-opposed, number, Task}
+use Rattle.runs.specs.Calls.{Optional, Worked}
 use Rattle.runs.specs.Demand3.{NoViolation, WaitsOrSkipped, Demand3}
 use Rattle.runs.specs.Model.Monitor.{returns, states}
 use Rattle.runs.specs.Model.Verdicts.{verdict}
@@ -13,8 +14,7 @@ use Rattle.runs.proofs.Plan.{under-node}
 use Rattle.runs.proofs.Execution.{done-moved, running-moved, moved-moves, running-task, moved-under}
 use Rattle.runs.proofs.Verdict.Exact.{verdict-exact}
 use Rattle.runs.proofs.Calls.Accepted.{flat, FirstViolation, accepted-execution, clear-no-first-violation}
-use Rattle.runs.proofs.Calls.Accepted.{clear-or-first-violation}
-use Rattle.runs.proofs.Calls.Accepted.{doomed-incomplete}
+use Rattle.runs.proofs.Calls.Accepted.{clear-or-first-violation, doomed-incomplete}
 use Rattle.runs.proofs.Calls.First.{worked, worked-only}
 use Rattle.runs.proofs.Calls.Lists.{ViolatingList, Reached, reaches, violating-list, list-violates}
 use Rattle.runs.proofs.Calls.Numbered.{worked-numbered, fresh-numbered}
@@ -25,14 +25,15 @@ module _ (p : Plan) (w : WellFormed p) (F : ℕ → Bool) where
   never-in : (cs : List Call) → Clear p F → NoViolation (returns p (fresh F) cs)
   never-in cs c r x = (
     λ z. hit pre-unmet (inl refl) (rw z at x),
-    λ z. hit inc-broken (inr refl) (rw z at x),
+    λ z. hit inc-broken (inr (inl refl)) (rw z at x),
+    λ z. hit post-opposed (inr (inr refl)) (rw z at x),
   )
     where
       hit : (q : Refusal) → Violating q → Among (number q) (returns p (fresh F) cs) → ⊥
       hit q v y = clear-no-first-violation p w F c
           (list-violates p w F (record { calls = cs; refusal = q; violating = v; hit = y }))
 
-  -- CLEAR exactly if no call in any list returns 21 or 22
+  -- CLEAR exactly if no call in any list returns 21, 22 or 26
   pub clear-exact : Clear p F ↔ ((cs : List Call) → NoViolation (returns p (fresh F) cs))
   clear-exact = (λ c cs. never-in cs c, λ g. from g (clear-or-first-violation p w F))
     where
@@ -41,7 +42,8 @@ module _ (p : Plan) (w : WellFormed p) (F : ℕ → Bool) where
         where
           at : Violating (x .refusal) → ⊥
           at (inl q) = (g (x .calls) (number (x .refusal)) (x .hit)) .0 (ap number q)
-          at (inr q) = (g (x .calls) (number (x .refusal)) (x .hit)) .1 (ap number q)
+          at (inr (inl q)) = (g (x .calls) (number (x .refusal)) (x .hit)) .1 (ap number q)
+          at (inr (inr q)) = (g (x .calls) (number (x .refusal)) (x .hit)) .2 (ap number q)
 
       from : ((cs : List Call) → NoViolation (returns p (fresh F) cs)) → Clear p F ⊎ FirstViolation p F → Clear p F
       from g (inl c) = c

@@ -1,13 +1,14 @@
 -- The first check that applies: its computation reflects 01's words, and one call has one return and one state after
 -- it.
 use Rattle.runs.proofs.Base.{_≡_, refl, sym, ap, _∙_, inl, inr, _⊎_, _↔_, Bool, true, false, decide, Option}
-use Rattle.runs.proofs.Base.{none, some, List, []}
-use Rattle.runs.proofs.Base.{_∷_, _++_, ℕ, T, eqb}
+use Rattle.runs.proofs.Base.{none, some, List, [], _∷_, _++_, ℕ, T}
+use Rattle.runs.proofs.Base.{eqb}
 use Rattle.runs.specs.Tests.{either}
 use Rattle.runs.specs.Plan.{Plan, WellFormed}
 use Rattle.runs.specs.Calls.{Call, events, World, happenAll, Refusal, no-task, wrong-status, branch-begun}
-use Rattle.runs.specs.Calls.{order-open, pre-unmet, inc-broken, no-optional, number, Applies, checks, First, None}
-use Rattle.runs.specs.Calls.{Answered, accepted, refused, Worked, no-calls, next-call, Refusal-discrete}
+use Rattle.runs.specs.Calls.{order-open, pre-unmet, inc-broken, no-optional, not-rising, post-opposed, number}
+use Rattle.runs.specs.Calls.{Applies, checks, First, None, Answered, accepted, refused, Worked, no-calls}
+use Rattle.runs.specs.Calls.{next-call, Refusal-discrete}
 use Rattle.runs.specs.Model.Monitor.{appliesB, orElse, firstOf, code, settle, refusalOf, returned, step, returns}
 use Rattle.runs.specs.Model.Monitor.{states}
 use Rattle.runs.proofs.Reflect.{r-either, r-decide, r-T, clash, Reflects}
@@ -88,8 +89,8 @@ first-member A r (q ∷ l) x = (r-either _ _ (r-decide (Refusal-discrete q r)) (
 -- the number tells the refusal
 ofNumber : ℕ → Option Refusal
 unfolding firstOf
-ofNumber n = firstOf (λ r. eqb (number r) n)
-    (no-task ∷ wrong-status ∷ branch-begun ∷ order-open ∷ pre-unmet ∷ inc-broken ∷ no-optional ∷ [])
+ofNumber n = firstOf (λ r. eqb (number r) n) (no-task ∷ wrong-status ∷ branch-begun ∷ order-open ∷ pre-unmet
+    ∷ inc-broken ∷ no-optional ∷ not-rising ∷ post-opposed ∷ [])
 
 number-tells : (o : Option Refusal) → ofNumber (code o) ≡ o
 unfolding ofNumber
@@ -101,6 +102,8 @@ number-tells (some order-open) = refl
 number-tells (some pre-unmet) = refl
 number-tells (some inc-broken) = refl
 number-tells (some no-optional) = refl
+number-tells (some not-rising) = refl
+number-tells (some post-opposed) = refl
 
 pub code-inj : {o x : Option Refusal} → code o ≡ code x → o ≡ x
 code-inj {o} {x} q = sym (number-tells o) ∙ ap ofNumber q ∙ number-tells x

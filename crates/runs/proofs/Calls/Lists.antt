@@ -1,5 +1,5 @@
 -- Lists of calls, the first call first, refused calls anywhere among them: the states that they leave are those after
--- the accepted ones, and a return is 21 or 22 in some list exactly if some accepted list comes to a violation.
+-- the accepted ones, and a return is 21, 22 or 26 in some list exactly if some accepted list comes to a violation.
 use Rattle.runs.proofs.Base.{_≡_, refl, sym, ap, _∙_, fun-ext, _⊎_, inl, inr, Bool, Option, none, some}
 use Rattle.runs.proofs.Base.{Option·getD, List, [], _∷_, _++_}
 use Rattle.runs.proofs.Base.{reverseAux, Among, here, there, among-none, among-cases, ℕ}
@@ -7,13 +7,13 @@ use Rattle.runs.specs.Plan.{Plan, WellFormed}
 use Rattle.runs.specs.Execution.{Event, History, statusAfter, latest, lastAssertedOf, asserts, lastAsserted}
 use Rattle.runs.specs.Calls.{Call, events, World, fresh, happen, happenAll, Refusal, number}
 use Rattle.runs.specs.Model.Monitor.{code, settle, refusalOf, returned, step, returns, states}
-use Rattle.runs.proofs.Calls.Accepted.{flat, EnabledCall, ViolatesCall, AcceptedAll, no-call, call-more}
+use Rattle.runs.proofs.Calls.Accepted.{flat, AcceptedAll, no-call, call-more}
 use Rattle.runs.proofs.Calls.Accepted.{FirstViolation}
 use Rattle.runs.proofs.Calls.First.{code-inj}
 use Rattle.runs.proofs.Calls.Rows.{Violating, accepted-is, violates-to, violates-from}
-use Rattle.runs.proofs.Calls.Violation.{flagAfter, startsAfter, ordinalAfter, worldAfter}
+use Rattle.runs.proofs.Calls.Violation.{flagAfter, startsAfter, ordinalAfter, worldAfter, EnabledCall, ViolatesCall}
 
--- a list of calls in which one returns 21 or 22
+-- a list of calls in which one returns 21, 22 or 26
 pub record ViolatingList (p : Plan) (F : ℕ → Bool) : Type 0 where
   pub calls : List Call
   pub refusal : Refusal

@@ -2,7 +2,7 @@
 -- starts of the list.
 use Rattle.runs.proofs.Base.{_≡_, refl, sym, ap, _∙_, _≢_, _⊎_, inl, inr, _↔_, Bool, false, none, some, List, []}
 use Rattle.runs.proofs.Base.{_∷_, _++_, append-nil, append-assoc, ℕ, suc, _<_, arith, ℕ-discrete, eqb, getD}
-use Rattle.runs.proofs.Base.{length}
+use Rattle.runs.proofs.Base.{length, Among, here, there}
 use mathlib.Core.Logic.{by-cases}
 use native.Mathlib.Decide.{decLt}
 use lib.ListN.{length-append, List·getD-append}
@@ -10,11 +10,12 @@ use lib.Seq.{getD-append-seam}
 use borrow.Author.Tests.{eq-eqb, ne-eqb}
 use Rattle.runs.specs.Plan.{Plan}
 use Rattle.runs.specs.Execution.{Status, waiting, running, Status-discrete, start, finish, skip}
-use Rattle.runs.specs.Calls.{Call, one, World, fresh, happen, Refusal, number, Task, accepted, refused, Worked}
-use Rattle.runs.specs.Calls.{no-calls, next-call, acceptedStarts}
+use Rattle.runs.specs.Calls.{Call, one, together, finishes, World, fresh, happen, happenAll, Refusal, number}
+use Rattle.runs.specs.Calls.{Task, accepted, refused, Worked, no-calls, next-call, acceptedStarts}
 use Rattle.runs.specs.Demand3.{Numbered}
 use Rattle.runs.proofs.Reflect.{clash}
 use Rattle.runs.proofs.Calls.First.{code-inj}
+use Rattle.runs.proofs.Calls.Together.{begun-stays}
 
 -- a fact that is not absent, and can be told
 found : {A : Type 0} → Dec A → ¬ ¬ A → A
@@ -82,13 +83,13 @@ module _ (p : Plan) (l : List ℕ) (a : World) (h : Numbered p l a) (t : ℕ) wh
       )
 
   -- a finish takes none
-  finish-numbered : ¬ ¬ Task p t → a .status t ≡ running → Numbered p l (happen p a (finish t))
+  finish-numbered : ¬ ¬ Task p t → a .status t ≢ waiting → Numbered p l (happen p a (finish t))
   finish-numbered y s = record {
     counts = h .counts;
     position = h .position;
     unstarted = λ x. by-cases (ℕ-discrete x t)
         (λ (e : x ≡ t). rw (eq-eqb x t e, e) (
-          λ z. absurd (begun-numbered y (λ q. clash cc) (h .unstarted t .0 z)),
+          λ z. absurd (begun-numbered y s (h .unstarted t .0 z)),
           λ z. absurd (begun-numbered y (λ q. clash cc) z),
         ))
         (λ n. rw (ne-eqb x t n) (h .unstarted x));
@@ -104,6 +105,19 @@ module _ (p : Plan) (l : List ℕ) (a : World) (h : Numbered p l a) (t : ℕ) wh
         (λ n. rw (ne-eqb x t n) (h .unstarted x));
   }
 
+-- nor do several finishes
+finishes-numbered : (p : Plan) (l : List ℕ) (a : World) → Numbered p l a → (ts : List ℕ)
+    → ((t : ℕ) → Among t ts → (¬ ¬ Task p t) × (a .status t ≢ waiting))
+    → Numbered p l (happenAll p a (finishes ts))
+finishes-numbered p l a h [] y = h
+finishes-numbered p l a h (t ∷ ts) y = finish-numbered p l (happenAll p a (finishes ts))
+    (finishes-numbered p l a h ts (λ u i. y u (there i))) t (y t (here refl) .0)
+    (begun-stays p a ts t (y t (here refl) .1))
+
+-- what runs does not wait
+running-begun : {s : Status} → ¬ (s ≢ running) → s ≢ waiting
+running-begun k q = k (λ z. let e = sym z ∙ q in clash cc)
+
 -- no refusal has the number 0
 number-some : (r : Refusal) → eqb (number r) 0 ≡ false
 number-some r = ne-eqb (number r) 0 (λ q. let e = code-inj {o = some r} {x = none} q in clash cc)
@@ -118,10 +132,13 @@ module _ (p : Plan) where
       rw (← append-assoc l (t ∷ []) (acceptedStarts cs ns))
       (worked-numbered (l ++ (t ∷ [])) w (start-numbered p l a h t (k .0) (found (Status-discrete _ _) (k .1 .0))))
   worked-numbered l (next-call {a = a} {c = one (finish t)} (accepted k) w) h =
-      worked-numbered l w (finish-numbered p l a h t (k .0) (found (Status-discrete _ _) (k .1 .0)))
+      worked-numbered l w (finish-numbered p l a h t (k .0) (running-begun (k .1 .0)))
   worked-numbered l (next-call {a = a} {c = one (skip g)} (accepted k) w) h =
       worked-numbered l w (skip-numbered p l a h g
       (λ y. k .0 (λ o. let q = sym (y .is-task) ∙ o .is-optional in clash cc)))
+  worked-numbered l (next-call {a = a} {c = together ts} (accepted k) w) h =
+      worked-numbered l w (finishes-numbered p l a h ts
+      (λ t i. (λ n. k .1 .0 (t, i, n), running-begun (λ n. k .1 .1 .0 (t, i, n)))))
   worked-numbered l (next-call (refused r k) w) h = rw (number-some r) (worked-numbered l w h)
 
   -- and after no start

@@ -1,31 +1,31 @@
 -- The tests for the refusals reflect the rows of 01's and 02's table, on any states.
-use Rattle.runs.proofs.Base.{_≡_, refl, sym, ap, _∙_, _≢_, _⊎_, inl, inr, Bool, true, false, not, Option, none}
-use Rattle.runs.proofs.Base.{some, ℕ, zero, suc, _+_, _<_, _≤_, arith, T}
-use Rattle.runs.specs.Plan.{any-of, optional, Picks, Moves, inc, Plan, Node, Child, Under, WellFormed}
+use Rattle.runs.proofs.Base.{_≡_, refl, sym, ap, _∙_, _≢_, _⊎_, inl, inr, Bool, not, Option, none, some, List, ℕ}
+use Rattle.runs.proofs.Base.{zero, suc, _+_, _<_, _≤_, arith, T}
+use Rattle.runs.specs.Plan.{any-of, optional, Picks, Moves, inc, post, Plan, Node, Child, Under, WellFormed}
 use Rattle.runs.specs.Execution.{Status, waiting, running, done, State, Event, start, finish, skip, nodeOf}
 use Rattle.runs.specs.Execution.{task-done, all-done, any-done, skip-done}
 use Rattle.runs.specs.Execution.{Complete, Begun, Rival, by-branch, by-skip, preOf, asserts}
-use Rattle.runs.specs.Calls.{Call, one, World, Refusal, no-task, wrong-status, branch-begun, order-open}
-use Rattle.runs.specs.Calls.{pre-unmet, inc-broken, no-optional}
-use Rattle.runs.specs.Calls.{Task, Optional, WrongStatus, BranchBegun, OrderOpen, PreUnmet, IncBroken, Applies}
+use Rattle.runs.specs.Calls.{Call, one, together, finishes, SomeOf, World, happenAll, Refusal, no-task}
+use Rattle.runs.specs.Calls.{wrong-status, branch-begun, order-open}
+use Rattle.runs.specs.Calls.{pre-unmet, inc-broken, not-rising, post-opposed, no-optional, Task, Optional}
+use Rattle.runs.specs.Calls.{WrongStatus, BranchBegun, OrderOpen}
+use Rattle.runs.specs.Calls.{PreUnmet, IncBroken, PostOpposed, Applies}
 use Rattle.runs.specs.Model.Monitor.{statusB, oppositeB, taskB, optionalB, completeIn, completeB, begunB, rivalB}
-use Rattle.runs.specs.Model.Monitor.{wrongStatusB, branchBegunB, orderOpenB}
-use Rattle.runs.specs.Model.Monitor.{preUnmetB, incBrokenB, appliesB}
-use Rattle.runs.proofs.Reflect.{clash, Reflects, r-map, r-both, r-either, r-guarded, r-negate, r-any, r-T}
+use Rattle.runs.specs.Model.Monitor.{wrongStatusB, branchBegunB}
+use Rattle.runs.specs.Model.Monitor.{orderOpenB, preUnmetB, incBrokenB, postOpposedB, appliesB}
+use Rattle.runs.proofs.Reflect.{clash, not-not, Reflects, r-map, r-false, r-both, r-either, r-guarded, r-negate}
+use Rattle.runs.proofs.Reflect.{r-any, r-T}
 use Rattle.runs.proofs.Reflect.{r-decide, r-eq, r-some}
 use Rattle.runs.proofs.Plan.{child-lt, r-kind, r-picks, r-moves, r-by-kind, r-some-child, r-every-child}
 use Rattle.runs.proofs.Plan.{r-some-under, r-under}
 use Rattle.runs.proofs.Execution.{picks-any, picks-optional, complete-task, complete-all, PickDone, branch-done}
 use Rattle.runs.proofs.Execution.{group-skipped, complete-pick}
 use Rattle.runs.proofs.Summary.{pre-flag}
+use Rattle.runs.proofs.Calls.Listed.{r-some-of, r-not-rising}
 
 pub r-status : (s r : Status) → Reflects (statusB s r) (s ≡ r)
 unfolding statusB
 r-status s r = r-decide _
-
-pub not-not : (v : Bool) → not (not v) ≡ v
-not-not true = refl
-not-not false = refl
 
 r-opposite : (o x : Option Bool) → Reflects (oppositeB o x) ((v : Bool) × (o ≡ some v) × (x ≡ some (not v)))
 unfolding oppositeB
@@ -185,6 +185,23 @@ module _ (p : Plan) (w : WellFormed p) where
     λ x. (x .on, pre-flag p w e (x .needs), x .needs ∙ ap some (sym (ap not (x .unmet) ∙ not-not (x .sign)))),
   ) (r-any (λ f. preOf (p .cond) e f ≡ some (not (flag f))) _ _ (λ f. r-some _ _))
 
+  r-post-opposed : (ts : List ℕ) → Reflects (postOpposedB p ts) (PostOpposed p ts)
+  unfolding postOpposedB
+  r-post-opposed ts = r-map (to, from) (r-some-of (λ t. SomeOf ts (λ x. (f : ℕ) × (f < p .cond .flags) × Opposes t x f))
+      ts _ (λ t. r-some-of (λ x. (f : ℕ) × (f < p .cond .flags) × Opposes t x f) ts _ (λ x. r-any (Opposes t x) _ _ (λ
+      f. r-opposite _ _))))
+    where
+      Opposes : ℕ → ℕ → ℕ → Type 0
+      Opposes t x f = (v : Bool) × (p .cond .sign post t f ≡ some v) × (p .cond .sign post x f ≡ some (not v))
+
+      to : SomeOf ts (λ t. SomeOf ts (λ x. (f : ℕ) × (f < p .cond .flags) × Opposes t x f)) → PostOpposed p ts
+      to (t, i, (x, j, (f, l, (v, q, z)))) = record { who = t; other = x; listed = i; other-listed = j; on = f; sign =
+          v; leaves = q; opposes = z }
+
+      from : PostOpposed p ts → SomeOf ts (λ t. SomeOf ts (λ x. (f : ℕ) × (f < p .cond .flags) × Opposes t x f))
+      from x = let o = w .on-task post (x .who) (x .on) (x .sign) (x .leaves) in (x .who, x .listed, (x .other, x
+          .other-listed, (x .on, o .2, (x .sign, x .leaves, x .opposes))))
+
   -- each test is its row of the table
   pub r-applies : (a : World) (c : Call) (r : Refusal) → Reflects (appliesB p a c r) (Applies p a c r)
   unfolding appliesB
@@ -195,3 +212,15 @@ module _ (p : Plan) (w : WellFormed p) where
   r-applies a (one e) pre-unmet = r-pre-unmet (a .flag) e
   r-applies a (one e) inc-broken = r-inc-broken (a .status) e
   r-applies a (one e) no-optional = r-negate _ (r-optional (nodeOf e))
+  r-applies a (one e) not-rising = r-false (λ x. x)
+  r-applies a (one e) post-opposed = r-false (λ x. x)
+  r-applies a (together ts) no-task = r-some-of _ ts _ (λ t. r-negate _ (r-task t))
+  r-applies a (together ts) wrong-status = r-some-of _ ts _ (λ t. r-wrong-status (a .status) (finish t))
+  r-applies a (together ts) branch-begun = r-false (λ x. x)
+  r-applies a (together ts) order-open = r-false (λ x. x)
+  r-applies a (together ts) pre-unmet = r-false (λ x. x)
+  r-applies a (together ts) inc-broken = r-some-of _ ts _ (λ t. r-inc-broken (happenAll p a (finishes ts) .status)
+      (finish t))
+  r-applies a (together ts) no-optional = r-false (λ x. x)
+  r-applies a (together ts) not-rising = r-not-rising ts
+  r-applies a (together ts) post-opposed = r-post-opposed ts

@@ -1,4 +1,4 @@
--- The rows of the table: a call is accepted exactly if it is enabled and violates nothing; 21 or 22 is its first
+-- The rows of the table: a call is accepted exactly if it is enabled and violates nothing; 21, 22 or 26 is its first
 -- refusal exactly if it is enabled and violates something.
 use Rattle.runs.proofs.Base.{_≡_, refl, sym, _⊎_, inl, inr, _↔_, Iff·trans, Bool, decide, Option, none, some}
 use Rattle.runs.proofs.Base.{List, [], _∷_, _++_, ℕ, T}
@@ -6,20 +6,17 @@ use Rattle.runs.specs.Tests.{either}
 use Rattle.runs.specs.Plan.{Plan, WellFormed}
 use Rattle.runs.specs.Execution.{waiting, running, start, finish, skip, Ready, Enabled, can-start}
 use Rattle.runs.specs.Execution.{can-finish, can-skip}
-use Rattle.runs.specs.Calls.{Call, one, World, Refusal, no-task, wrong-status, branch-begun, order-open}
-use Rattle.runs.specs.Calls.{pre-unmet, inc-broken}
-use Rattle.runs.specs.Calls.{no-optional, WrongStatus, BranchBegun, OrderOpen, Applies, checks, First, None}
+use Rattle.runs.specs.Calls.{Call, one, together, World, Refusal, no-task, wrong-status, branch-begun, order-open}
+use Rattle.runs.specs.Calls.{pre-unmet, inc-broken, not-rising}
+use Rattle.runs.specs.Calls.{post-opposed, no-optional, WrongStatus, BranchBegun, OrderOpen, Applies, checks}
+use Rattle.runs.specs.Calls.{First, None}
 use Rattle.runs.specs.Model.Monitor.{refusalOf}
-use Rattle.runs.proofs.Reflect.{clash, decided}
+use Rattle.runs.proofs.Reflect.{clash, decided, force}
 use Rattle.runs.proofs.Plan.{under-node, child-parent, under-root}
 use Rattle.runs.proofs.Calls.Reflect.{r-status, r-task, r-optional, r-complete}
-use Rattle.runs.proofs.Calls.Accepted.{EnabledCall, ViolatesCall}
 use Rattle.runs.proofs.Calls.First.{memberB, first-member, none-append, first-append, first-not-none}
 use Rattle.runs.proofs.Calls.First.{refused-first, refused-none}
-
-force : {X : Type 0} → Dec X → ¬ ¬ X → X
-force (yes x) k = x
-force (no n) k = absurd (k n)
+use Rattle.runs.proofs.Calls.Violation.{EnabledCall, ViolatesCall}
 
 no-sign : {v : Bool} → none ≡ some v → ⊥
 no-sign q = clash cc
@@ -29,39 +26,51 @@ abbrev enabledChecks : Call → List Refusal
 enabledChecks (one (start t)) = no-task ∷ wrong-status ∷ branch-begun ∷ order-open ∷ []
 enabledChecks (one (finish t)) = no-task ∷ wrong-status ∷ []
 enabledChecks (one (skip g)) = no-optional ∷ wrong-status ∷ branch-begun ∷ order-open ∷ []
+enabledChecks (together ts) = not-rising ∷ no-task ∷ wrong-status ∷ []
 
 abbrev violationChecks : Call → List Refusal
 violationChecks (one (start t)) = pre-unmet ∷ inc-broken ∷ []
 violationChecks (one (finish t)) = inc-broken ∷ []
 violationChecks (one (skip g)) = []
+violationChecks (together ts) = post-opposed ∷ inc-broken ∷ []
 
 two-parts : (c : Call) → checks c ≡ enabledChecks c ++ violationChecks c
 two-parts (one (start t)) = refl
 two-parts (one (finish t)) = refl
 two-parts (one (skip g)) = refl
+two-parts (together ts) = refl
 
 abbrev pub Violating : Refusal → Type 0
-Violating r = (r ≡ pre-unmet) ⊎ (r ≡ inc-broken)
+Violating r = (r ≡ pre-unmet) ⊎ ((r ≡ inc-broken) ⊎ (r ≡ post-opposed))
 
 not-enabling : (c : Call) (r : Refusal) → Violating r → ¬ T (memberB r (enabledChecks c))
 unfolding memberB either decide
 not-enabling (one (start t)) r (inl q) x = rw q at x
-not-enabling (one (start t)) r (inr q) x = rw q at x
+not-enabling (one (start t)) r (inr (inl q)) x = rw q at x
+not-enabling (one (start t)) r (inr (inr q)) x = rw q at x
 not-enabling (one (finish t)) r (inl q) x = rw q at x
-not-enabling (one (finish t)) r (inr q) x = rw q at x
+not-enabling (one (finish t)) r (inr (inl q)) x = rw q at x
+not-enabling (one (finish t)) r (inr (inr q)) x = rw q at x
 not-enabling (one (skip g)) r (inl q) x = rw q at x
-not-enabling (one (skip g)) r (inr q) x = rw q at x
+not-enabling (one (skip g)) r (inr (inl q)) x = rw q at x
+not-enabling (one (skip g)) r (inr (inr q)) x = rw q at x
+not-enabling (together ts) r (inl q) x = rw q at x
+not-enabling (together ts) r (inr (inl q)) x = rw q at x
+not-enabling (together ts) r (inr (inr q)) x = rw q at x
 
 first-violating : (A : Refusal → Type 0) (c : Call) (r : Refusal) → First A r (violationChecks c) → Violating r × A r
 first-violating A (one (start t)) r (inl (q, a)) = (inl (sym q), a)
-first-violating A (one (start t)) r (inr (k, inl (q, a))) = (inr (sym q), a)
+first-violating A (one (start t)) r (inr (k, inl (q, a))) = (inr (inl (sym q)), a)
 first-violating A (one (start t)) r (inr (k, inr (k′, x))) = absurd x
-first-violating A (one (finish t)) r (inl (q, a)) = (inr (sym q), a)
+first-violating A (one (finish t)) r (inl (q, a)) = (inr (inl (sym q)), a)
 first-violating A (one (finish t)) r (inr (k, x)) = absurd x
 first-violating A (one (skip g)) r x = absurd x
+first-violating A (together ts) r (inl (q, a)) = (inr (inr (sym q)), a)
+first-violating A (together ts) r (inr (k, inl (q, a))) = (inr (inl (sym q)), a)
+first-violating A (together ts) r (inr (k, inr (k′, x))) = absurd x
 
 module _ (p : Plan) (w : WellFormed p) (a : World) where
-  -- 17 to 20, and 27, do not apply to what is enabled, and what they do not apply to is enabled
+  -- 17 to 20, 25 and 27 do not apply to what is enabled, and what they do not apply to is enabled
   ready-choice : {t : ℕ} → Ready p 0 (a .status) t → ¬ BranchBegun p (a .status) t
   ready-choice m x = m .choice (x .group) (x .own) (x .picks)
       (under-root p w (x .group) (child-parent p w (x .own-child))) (x .own-child) (x .above) (x .rival)
@@ -77,6 +86,18 @@ module _ (p : Plan) (w : WellFormed p) (a : World) where
     ordered = λ g x y u hx hy o uy. force (decided (r-complete p w (a .status) x (hx .node)))
         (λ n. k₂ (record { earlier = x; later = y; ordered = o; above = uy; incomplete = n }));
   }
+
+  finish-is : (t : ℕ) → None (Applies p a (one (finish t))) (enabledChecks (one (finish t))) ↔ Enabled p 0 (a .status)
+      (finish t)
+  finish-is t = (to, from)
+    where
+      to : None (Applies p a (one (finish t))) (enabledChecks (one (finish t))) → Enabled p 0 (a .status) (finish t)
+      to (k₁, (k₂, u)) = let x = force (decided (r-task p w t)) k₁ in can-finish record { is-task = x .is-task; beneath
+          = under-root p w t (x .node); runs = force (decided (r-status (a .status t) running)) k₂ }
+
+      from : Enabled p 0 (a .status) (finish t) → None (Applies p a (one (finish t))) (enabledChecks (one (finish t)))
+      from (can-finish m) = (λ k. k (record { node = under-node p (w .root-node) (m .beneath); is-task = m .is-task }),
+          (λ k. k (m .runs), tt))
 
   enabled-is : (c : Call) → None (Applies p a c) (enabledChecks c) ↔ EnabledCall p (a .status) c
   enabled-is (one (start t)) = (to, from)
@@ -94,21 +115,7 @@ module _ (p : Plan) (w : WellFormed p) (a : World) where
         λ k. k (record { node = under-node p (w .root-node) (m .beneath); is-task = m .is-task }),
         (λ k. k (m .waits), (ready-choice (m .ready), (ready-order (m .ready), tt))),
       )
-  enabled-is (one (finish t)) = (to, from)
-    where
-      to : None (Applies p a (one (finish t))) (enabledChecks (one (finish t))) → Enabled p 0 (a .status) (finish t)
-      to (k₁, (k₂, u)) = let x = force (decided (r-task p w t)) k₁ in
-          can-finish record {
-            is-task = x .is-task;
-            beneath = under-root p w t (x .node);
-            runs = force (decided (r-status (a .status t) running)) k₂;
-          }
-
-      from : Enabled p 0 (a .status) (finish t) → None (Applies p a (one (finish t))) (enabledChecks (one (finish t)))
-      from (can-finish m) = (
-        λ k. k (record { node = under-node p (w .root-node) (m .beneath); is-task = m .is-task }),
-        (λ k. k (m .runs), tt),
-      )
+  enabled-is (one (finish t)) = finish-is t
   enabled-is (one (skip g)) = (to, from)
     where
       to : None (Applies p a (one (skip g))) (enabledChecks (one (skip g))) → Enabled p 0 (a .status) (skip g)
@@ -129,8 +136,15 @@ module _ (p : Plan) (w : WellFormed p) (a : World) where
           untaken : ¬ WrongStatus p (a .status) (skip g)
           untaken (inl n) = n (m .waits)
           untaken (inr (c, hc, t)) = m .untaken c hc t
+  enabled-is (together ts) = (
+    λ n. (n .0, λ t i. (finish-is t) .0 (λ k. n .1 .0 (t, i, k), (λ k. n .1 .1 .0 (t, i, k), tt))),
+    λ x. (
+      x .0,
+      (λ (t, i, k). ((finish-is t) .1 (x .1 t i)) .0 k, (λ (t, i, k). ((finish-is t) .1 (x .1 t i)) .1 .0 k, tt)),
+    ),
+  )
 
-  -- 21 and 22, the one or the other; a finish has no precondition, a skip asserts nothing either
+  -- 21, 22 and 26, one of them; a finish has no precondition, a skip asserts nothing either
   violates-not : (c : Call) → None (Applies p a c) (violationChecks c) ↔ (¬ ViolatesCall p a c)
   violates-not (one (start t)) = (to, λ k. (λ x. k (inl x), (λ x. k (inr x), tt)))
     where
@@ -147,12 +161,21 @@ module _ (p : Plan) (w : WellFormed p) (a : World) where
       harmless : ¬ ViolatesCall p a (one (skip g))
       harmless (inl x) = no-sign (x .needs)
       harmless (inr x) = no-sign (x .breaks)
+  violates-not (together ts) = (to, λ k. (λ x. k (inl x), (λ x. k (inr x), tt)))
+    where
+      to : None (Applies p a (together ts)) (violationChecks (together ts)) → ¬ ViolatesCall p a (together ts)
+      to (k₁, (k₂, u)) (inl x) = k₁ x
+      to (k₁, (k₂, u)) (inr x) = k₂ x
 
   violates-of : (c : Call) (r : Refusal) → Violating r → Applies p a c r → ViolatesCall p a c
   violates-of (one e) r (inl q) x = inl (rw q at x)
-  violates-of (one e) r (inr q) x = inr (rw q at x)
+  violates-of (one e) r (inr (inl q)) x = inr (rw q at x)
+  violates-of (one e) r (inr (inr q)) x = absurd (rw q at x)
+  violates-of (together ts) r (inl q) x = absurd (rw q at x)
+  violates-of (together ts) r (inr (inl q)) x = inr (rw q at x)
+  violates-of (together ts) r (inr (inr q)) x = inl (rw q at x)
 
-  -- a call is accepted exactly if it is enabled and neither 21 nor 22 applies
+  -- a call is accepted exactly if it is enabled and none of 21, 22 and 26 applies
   pub accepted-is : (c : Call) → (refusalOf p a c ≡ none) ↔ (EnabledCall p (a .status) c × (¬ ViolatesCall p a c))
   accepted-is c = Iff·trans (refused-none p w a c) (
     λ n. let (x, y) = (none-append (Applies p a c) (enabledChecks c) (violationChecks c)) .0 (rw (two-parts c) at n) in
@@ -161,7 +184,7 @@ module _ (p : Plan) (w : WellFormed p) (a : World) where
         ((enabled-is c) .1 (x .0), (violates-not c) .1 (x .1))),
   )
 
-  -- a refused call is not enabled, or it is and is refused for 21 or 22
+  -- a refused call is not enabled, or it is and is refused for 21, 22 or 26
   Refused : Call → Refusal → Type 0
   Refused c r = First (Applies p a c) r (enabledChecks c)
       ⊎ (EnabledCall p (a .status) c × (Violating r × Applies p a c r))
@@ -177,7 +200,7 @@ module _ (p : Plan) (w : WellFormed p) (a : World) where
       at (inl x) = inl x
       at (inr (n, x)) = inr ((enabled-is c) .0 n, first-violating (Applies p a c) c r x)
 
-  -- its refusal is 21 or 22 exactly if it is enabled and one of them applies
+  -- its refusal is 21, 22 or 26 exactly if it is enabled and one of them applies
   pub violates-to : (c : Call) (r : Refusal) → Violating r → refusalOf p a c ≡ some r
       → EnabledCall p (a .status) c × ViolatesCall p a c
   unfolding Refused

@@ -1,7 +1,8 @@
 -- Histories: the states that they leave, what holds of all their events, and what they were earlier.
 use Rattle.runs.proofs.Base.{_≡_, refl, ap, _≢_, _⊎_, inl, inr, Bool, true, false, cond, [], _∷_, _++_, ℕ, T}
 use Rattle.runs.proofs.Base.{eqb, eqb→eq, eqb-refl}
-use Rattle.runs.specs.Execution.{waiting, Event, History, nodeOf, statusOf, statusAfter, Earlier, none-later}
+use Rattle.runs.specs.Execution.{waiting, State, Event, History, nodeOf, statusOf, moved, statusAfter, Earlier}
+use Rattle.runs.specs.Execution.{none-later}
 use Rattle.runs.specs.Execution.{one-later}
 use Rattle.runs.specs.Classes.{All, all-nil, all-cons, Anything}
 use Rattle.runs.proofs.Reflect.{clash, T-true}
@@ -15,13 +16,20 @@ pub after-nil : (x : ℕ) → statusAfter [] x ≡ waiting
 unfolding statusAfter
 after-nil x = refl
 
+-- an event moves its own task and no other
+pub moved-same : (s : State) (e : Event) → moved s e (nodeOf e) ≡ statusOf e
+moved-same s e = rw (T-true (eqb (nodeOf e) (nodeOf e)) (eqb-refl (nodeOf e)))
+
+pub moved-other : (s : State) (e : Event) (x : ℕ) → x ≢ nodeOf e → moved s e x ≡ s x
+moved-other s e x n = rw (false-of (eqb x (nodeOf e)) (λ t. n (eqb→eq x (nodeOf e) t)))
+
 pub after-same : (e : Event) (h : History) → statusAfter (e ∷ h) (nodeOf e) ≡ statusOf e
 unfolding statusAfter
-after-same e h = rw (T-true (eqb (nodeOf e) (nodeOf e)) (eqb-refl (nodeOf e)))
+after-same e h = moved-same (statusAfter h) e
 
 pub after-other : (e : Event) (h : History) (x : ℕ) → x ≢ nodeOf e → statusAfter (e ∷ h) x ≡ statusAfter h x
 unfolding statusAfter
-after-other e h x n = rw (false-of (eqb x (nodeOf e)) (λ t. n (eqb→eq x (nodeOf e) t)))
+after-other e h x n = moved-other (statusAfter h) e x n
 
 pub after-cong : (e : Event) (h k : History) (x : ℕ) → statusAfter h x ≡ statusAfter k x
     → statusAfter (e ∷ h) x ≡ statusAfter (e ∷ k) x

@@ -2,9 +2,10 @@
 -- started.
 use Rattle.runs.proofs.Base.{_≡_, sym, _∙_, _≢_, [], _∷_, ℕ, ℕ-discrete}
 use Rattle.runs.specs.Plan.{task, Moves, Plan, Node, Under, WellFormed}
-use Rattle.runs.specs.Execution.{Status, waiting, running, done, Event, start, finish, skip, History, nodeOf}
-use Rattle.runs.specs.Execution.{statusAfter, Complete, can-finish}
-use Rattle.runs.specs.Execution.{Execution, none-yet, one-more, Earlier, none-later, one-later}
+use Rattle.runs.specs.Execution.{Status, waiting, running, done, State, Event, start, finish, skip, History}
+use Rattle.runs.specs.Execution.{nodeOf}
+use Rattle.runs.specs.Execution.{statusAfter, Complete, Enabled}
+use Rattle.runs.specs.Execution.{can-finish, Execution, none-yet, one-more, Earlier, none-later, one-later}
 use Rattle.runs.proofs.Reflect.{clash}
 use Rattle.runs.proofs.Plan.{decUnder}
 use Rattle.runs.proofs.Execution.Histories.{after-nil, after-same, after-other}
@@ -31,6 +32,10 @@ running-started (e ∷ h) t q = go e (ℕ-discrete t (nodeOf e)) q (λ y. runnin
 pub running-moved : {s : Status} → s ≡ running → s ≢ waiting
 running-moved q z = clash cc
 
+-- what can finish runs
+pub finish-runs : {p : Plan} {n t : ℕ} {s : State} → Enabled p n s (finish t) → s t ≡ running
+finish-runs (can-finish m) = m .runs
+
 module _ (p : Plan) (w : WellFormed p) where
   -- what has moved is a task or an optional group
   pub moved-moves : {n : ℕ} {h : History} → Execution p n h → (x : ℕ) → statusAfter h x ≢ waiting
@@ -56,12 +61,13 @@ module _ (p : Plan) (w : WellFormed p) where
       go (yes u) = u
       go (no k) = absurd (ne (execution-outside p w f x k))
 
+  -- what runs can finish
+  pub running-finish : {n : ℕ} {h : History} → Execution p n h → (x : ℕ) → statusAfter h x ≡ running → Enabled p n
+      (statusAfter h) (finish x)
+  running-finish f x q = can-finish record { is-task = running-task f x q; beneath = moved-under f x (running-moved q);
+      runs = q }
+
   -- nothing runs under a complete node
   pub none-runs : {n : ℕ} {h : History} → Node p n → Execution p n h → Complete p (statusAfter h) n → (x : ℕ)
       → statusAfter h x ≡ running → ⊥
-  none-runs {n} {h} l f d x q = final p w n l (finish x) h
-      (one-more f (can-finish record {
-        is-task = running-task f x q;
-        beneath = moved-under f x (running-moved q);
-        runs = q;
-      })) d
+  none-runs {n} {h} l f d x q = final p w n l (finish x) h (one-more f (running-finish f x q)) d

@@ -1,20 +1,21 @@
 -- An all-of group that may clobber has a pair: the children are read off the execution by projection.
-use Rattle.runs.proofs.Base.{_≡_, sym, _∙_, _≢_, _⊎_, inl, inr, Bool, not, some, [], _∷_, _++_, append-nil, ℕ}
-use Rattle.runs.specs.Plan.{task, all-of, inc, Plan, Child, Under, Before, WellFormed, pre, post}
+use Rattle.runs.proofs.Base.{_≡_, sym, _∙_, _≢_, inl, inr, Bool, not, some, [], _∷_, _++_, append-nil, ℕ}
+use Rattle.runs.specs.Plan.{all-of, inc, Plan, Child, Under, Before, Concurrent, at-group, deeper, WellFormed}
+use Rattle.runs.specs.Plan.{pre, post}
 use Rattle.runs.specs.Execution.{running, Event, start, finish, skip, History, nodeOf, statusAfter, Execution}
-use Rattle.runs.specs.Execution.{Completed, preOf, asserts}
-use Rattle.runs.specs.Execution.{lastAsserted}
-use Rattle.runs.specs.Summary.{Clobbers, precondition, incondition, TaskWith, ClobberByPairs, in-child}
-use Rattle.runs.specs.Summary.{unordered-pair, passed-on, MayClobber}
+use Rattle.runs.specs.Execution.{preOf, asserts, lastAsserted}
+use Rattle.runs.specs.Summary.{Clobbers, precondition, incondition, Opposed, TaskWith, ClobberByPairs, in-child}
+use Rattle.runs.specs.Summary.{unordered-pair, opposed-pair}
+use Rattle.runs.specs.Summary.{passed-on, MayClobber}
 use Rattle.runs.proofs.Reflect.{clash}
-use Rattle.runs.proofs.Plan.{child-under, Branch, branch, one-branch, before-irrefl, Standing, same, earlier}
+use Rattle.runs.proofs.Plan.{child-under, Branch, one-branch, before-irrefl, Standing, same, earlier}
 use Rattle.runs.proofs.Plan.{later, unordered, standing}
 use Rattle.runs.specs.Classes.{All, Unasserted, here}
-use Rattle.runs.proofs.Execution.{after-nil, earlier-append, OfKind, enabled-of-kind, all-of-rests, branch-of}
-use Rattle.runs.proofs.Execution.{part, part-in, part-out}
-use Rattle.runs.proofs.Execution.{after-part, part-execution, execution-tail, execution-last, earlier-execution}
-use Rattle.runs.proofs.Execution.{part-append, part-all, apart}
-use Rattle.runs.proofs.Execution.{completed-before, running-moved, running-task, moved-under, none-runs}
+use Rattle.runs.proofs.Execution.{earlier-append, OfKind, enabled-of-kind, branch-of, part, part-in, part-out}
+use Rattle.runs.proofs.Execution.{after-part, part-execution}
+use Rattle.runs.proofs.Execution.{execution-tail, execution-last, earlier-execution}
+use Rattle.runs.proofs.Execution.{part-append, part-all, apart, completed-before, running-task}
+use Rattle.runs.proofs.Summary.Concurrent.{Placed, under-one, under-two, overlap, placed}
 use Rattle.runs.proofs.Summary.Events.{all-unasserted}
 use Rattle.runs.proofs.Summary.Last.{last-at, last-past}
 use Rattle.runs.proofs.Summary.Postconditions.{last-some, some-last}
@@ -34,6 +35,23 @@ module _ (p : Plan) (w : WellFormed p) where
   assertion-of d (start t) k u q = record { who = t; is-task = k; beneath = u; has = inl q }
   assertion-of d (finish t) k u q = record { who = t; is-task = k; beneath = u; has = inr q }
   assertion-of d (skip g) k u q = clash cc
+
+  -- opposite leavings at n are those of two children of n, an all-of group, or of one child
+  pub data OpposedParts (f : ℕ) (v : Bool) (n : ℕ) : Type 0 where
+    two-children : p .tree .kind n ≡ all-of → ClobberByPairs p f v n → OpposedParts f v n
+    one-child : (c : ℕ) → Child p n c → Opposed p f v c → OpposedParts f v n
+
+  pub opposed-parts : {n : ℕ} (f : ℕ) (v : Bool) → Opposed p f v n → OpposedParts f v n
+  opposed-parts {n} f v x = at (x .concurrent)
+    where
+      leaver : (c t : ℕ) (u : Bool) → Under p c t → p .cond .sign post t f ≡ some u → TaskWith p post post f u c
+      leaver c t u b q = record { who = t; is-task = (w .on-task post t f u q) .1; beneath = b; has = inl q }
+
+      at : Concurrent p (x .who) (x .other) n → OpposedParts f v n
+      at (at-group k c d hc hd un ut uu) = two-children k (opposed-pair c d hc hd un (leaver c (x .who) v ut (x
+          .leaves)) (leaver d (x .other) (not v) uu (x .opposes)))
+      at (deeper c hc y) = one-child c hc (record { who = x .who; other = x .other; concurrent = y; leaves = x .leaves;
+          opposes = x .opposes })
 
   module _ {n : ℕ} (kn : p .tree .kind n ≡ all-of) (f : ℕ) (v : Bool) where
     -- d before b, an event under d: nothing under b has happened
@@ -82,12 +100,12 @@ module _ (p : Plan) (w : WellFormed p) where
         not-nil (x ∷ k) q = clash cc
 
         go : Standing p c d → ClobberByPairs p f v n
-        go (same q) = in-child c (bt .child) (record {
+        go (same q) = in-child c (bt .child) (inl (record {
           history = part p w c h;
           event = ev;
           execution = free-c;
           clobbers = precondition nd (rw q last-d);
-        })
+        }))
         go (earlier q) = absurd (not-nil (part p w d g) (sym part-d ∙ apart p w fr (be .child) q (bt .beneath)))
         go (later q) = passed-on c d (bt .child) (be .child) q
             (record {
@@ -115,52 +133,27 @@ module _ (p : Plan) (w : WellFormed p) where
     inc-to-pairs : (e : Event) (h : History) (t : ℕ) → Execution p n (e ∷ h) → nodeOf e ≢ t
         → p .cond .sign inc t f ≡ some v → statusAfter h t ≡ running
         → asserts p e f ≡ some (not v) → ClobberByPairs p f v n
-    inc-to-pairs e h t fr other ho ru br = go (standing p w c d)
+    inc-to-pairs e h t fr other ho ru br = at (placed p w kn (overlap p w f (not v) e t br fr other ru))
       where
-        kt : p .tree .kind t ≡ task
-        kt = running-task p w (execution-tail p w fr) t ru
-
-        ut : Under p n t
-        ut = moved-under p w (execution-tail p w fr) t (running-moved ru)
-
-        pick : (n ≡ t) ⊎ Branch p n t → Branch p n t
-        pick (inl q) = absurd (all-of-rests p w (start t) kn kt q)
-        pick (inr b) = b
-
-        bt : Branch p n t
-        bt = pick (branch p ut)
-
-        be : Branch p n (nodeOf e)
-        be = branch-of p w (statusAfter h) kn (execution-last p w fr)
-
-        c : ℕ
-        c = bt .via
-
-        d : ℕ
-        d = be .via
-
-        runs-c : statusAfter (part p w c h) t ≡ running
-        runs-c = after-part p w c h t (bt .beneath) ∙ ru
-
-        go : Standing p c d → ClobberByPairs p f v n
-        go (same q) = in-child c (bt .child) (record {
+        at : Placed p n t (nodeOf e) → ClobberByPairs p f v n
+        at (under-one c hc ut ue) = in-child c hc (inl (record {
           history = part p w c h;
           event = e;
-          clobbers = incondition t other ho runs-c br;
-          execution = rw (part-in p w c e h (rw (← q) at (be .beneath))) at
-              (part-execution p w (child-under p (bt .child)) fr);
-        })
-        go (earlier q) = let wc : Completed p c (part p w c h) =
-            completed-before p w e h (be .child) fr (be .beneath) q in
-            absurd (none-runs p w (bt .child .node) (wc .execution) (wc .complete) t runs-c)
-        go (later q) = absurd (running-moved runs-c (rw (apart p w fr (bt .child) q (be .beneath)) (after-nil t)))
-        go (unordered u) = unordered-pair c d (bt .child) (be .child) u
-            (record { who = t; is-task = kt; beneath = bt .beneath; has = inr ho })
-            (assertion-of d e (enabled-of-kind p (execution-last p w fr)) (be .beneath) br)
+          clobbers = incondition t other ho (after-part p w c h t ut ∙ ru) br;
+          execution = rw (part-in p w c e h ue) at (part-execution p w (child-under p hc) fr);
+        }))
+        at (under-two c d hc hd un ut ue) = unordered-pair c d hc hd un (record { who = t; is-task = running-task p w
+            (execution-tail p w fr) t ru; beneath = ut; has = inr ho }) (assertion-of d e (enabled-of-kind p
+            (execution-last p w fr)) ue br)
 
     -- an all-of group that may clobber has a pair
     pub clobber-to-pairs : MayClobber p f v n → ClobberByPairs p f v n
-    clobber-to-pairs x = go (x .history) (x .event) (x .execution) (x .clobbers)
+    clobber-to-pairs (inr x) = at (opposed-parts f v x)
+      where
+        at : OpposedParts f v n → ClobberByPairs p f v n
+        at (two-children k y) = y
+        at (one-child c hc y) = in-child c hc (inr y)
+    clobber-to-pairs (inl x) = go (x .history) (x .event) (x .execution) (x .clobbers)
       where
         go : (h : History) (e : Event) → Execution p n (e ∷ h) → Clobbers p f v h e → ClobberByPairs p f v n
         go h e fr (precondition nd sp) = let a = last-at (some-last p f (not v) h sp) in

@@ -1,25 +1,21 @@
 -- The test by pairs reflects may clobber; the test by the rule reflects must clobber.
-use Rattle.runs.proofs.Base.{_≡_, refl, _≢_, _⊎_, inl, inr, _↔_, Iff·symm, Bool, false, not, Option, none, some}
+use Rattle.runs.proofs.Base.{_≡_, refl, _≢_, _⊎_, inl, inr, _↔_, Iff·symm, Bool, not, Option, none, some}
 use Rattle.runs.proofs.Base.{ℕ, zero, suc, _+_, _≤_, arith}
 use Rattle.runs.specs.Plan.{task, all-of, any-of, optional, Place, pre, inc, post, Plan, Node, Child, Under}
 use Rattle.runs.specs.Plan.{Before, Unordered, WellFormed}
 use Rattle.runs.specs.Execution.{start, finish, skip, lastAsserted}
 use Rattle.runs.specs.Summary.{May, Must, ExternalPre, ExternalPost, MayClobber, TaskWith, ClobberByPairs}
-use Rattle.runs.specs.Summary.{in-child, unordered-pair, passed-on}
-use Rattle.runs.specs.Summary.{Silent, MustClobber, by-any-of, by-child, by-pair}
+use Rattle.runs.specs.Summary.{in-child, unordered-pair, opposed-pair}
+use Rattle.runs.specs.Summary.{passed-on, Silent, MustClobber, by-any-of, by-child, by-pair}
 use Rattle.runs.specs.Model.Marks.{conditionB, silentB, avoidedB, pairB, mayClobberIn, mayClobberB, aloneB}
-use Rattle.runs.specs.Model.Marks.{undisturbedB, mustClobberIn}
-use Rattle.runs.specs.Model.Marks.{mustClobberB}
-use Rattle.runs.proofs.Reflect.{clash, Reflects, r-map, decided, r-both, r-either, r-implies, r-negate, r-eq}
+use Rattle.runs.specs.Model.Marks.{undisturbedB, mustClobberIn, mustClobberB}
+use Rattle.runs.proofs.Reflect.{clash, Reflects, r-map, decided, r-false, r-both, r-either, r-implies, r-negate}
+use Rattle.runs.proofs.Reflect.{r-eq}
 use Rattle.runs.proofs.Reflect.{r-none, r-some}
 use Rattle.runs.proofs.Plan.{child-lt, r-by-kind, r-some-child, r-every-child, r-some-task, r-before}
 use Rattle.runs.proofs.Plan.{r-unordered}
 use Rattle.runs.proofs.Summary.Clobber.{clobber-all, clobber-any, clobber-optional, clobber-task}
 use Rattle.runs.proofs.Summary.ReflectConditions.{r-avoid, r-may-pre, r-must-pre, r-may-post, r-must-post}
-
--- a test that is never true
-r-false : {A : Type 0} → ¬ A → Reflects false A
-r-false k = record { to = λ t. absurd t; from = k }
 
 module _ (p : Plan) (w : WellFormed p) where
   r-condition : (i j : Place) (f : ℕ) (v : Bool) (c : ℕ) → Node p c
@@ -57,22 +53,21 @@ module _ (p : Plan) (w : WellFormed p) where
       loud x t u kt (inr ne) = ne (x (finish t) kt u)
 
   module _ (f : ℕ) (v : Bool) where
-    -- 01's pair of children c and d
+    -- 01's pair of children c and d, with 02's
     abbrev Pair : ℕ → ℕ → ℕ → Type 0
-    Pair n c d = (Unordered p c d × (TaskWith p pre inc f v c × TaskWith p inc post f (not v) d))
-        ⊎ (Before p d c × (May p d (ExternalPost p f (not v)) × (May p c (ExternalPre p f v)
-        × ((b : ℕ) → Child p n b → Before p d b → Before p b c → May p b (λ h. lastAsserted p h f ≡ none)))))
+    Pair n c d = (Unordered p c d × ((TaskWith p pre inc f v c × TaskWith p inc post f (not v) d) ⊎ (TaskWith p post
+        post f v c × TaskWith p post post f (not v) d))) ⊎ (Before p d c × (May p d (ExternalPost p f (not v)) × (May p
+        c (ExternalPre p f v) × ((b : ℕ) → Child p n b → Before p d b → Before p b c → May p b (λ h. lastAsserted p h f
+        ≡ none)))))
 
     r-pair : {n c d : ℕ} → Child p n c → Child p n d → Reflects (pairB p n f v c d) (Pair n c d)
     unfolding pairB avoidedB
-    r-pair {n} {c} {d} hc hd = r-either _ _
-        (r-both _ _ (r-unordered p w c d)
-        (r-both _ _ (r-condition pre inc f v c (hc .node)) (r-condition inc post f (not v) d (hd .node))))
-        (r-both _ _ (r-before p w d c) (r-both _ _ (r-may-post p w d f (hd .node) (not v))
-        (r-both _ _ (r-may-pre p w c f (hc .node) v)
-        (r-every-child p w (λ b. Before p d b → Before p b c → May p b (λ h. lastAsserted p h f ≡ none)) _
-        (λ b hb. r-implies _ _ (r-before p w d b)
-        (λ x. r-implies _ _ (r-before p w b c) (λ y. r-avoid p w b f (hb .node))))))))
+    r-pair {n} {c} {d} hc hd = r-either _ _ (r-both _ _ (r-unordered p w c d) (r-either _ _ (r-both _ _ (r-condition pre
+        inc f v c (hc .node)) (r-condition inc post f (not v) d (hd .node))) (r-both _ _ (r-condition post post f v c
+        (hc .node)) (r-condition post post f (not v) d (hd .node))))) (r-both _ _ (r-before p w d c) (r-both _ _
+        (r-may-post p w d f (hd .node) (not v)) (r-both _ _ (r-may-pre p w c f (hc .node) v) (r-every-child p w (λ b.
+        Before p d b → Before p b c → May p b (λ h. lastAsserted p h f ≡ none)) _ (λ b hb. r-implies _ _ (r-before p w d
+        b) (λ x. r-implies _ _ (r-before p w b c) (λ y. r-avoid p w b f (hb .node))))))))
 
     abbrev SomePair : ℕ → Type 0
     SomePair n = ((c : ℕ) × Child p n c × MayClobber p f v c)
@@ -83,12 +78,14 @@ module _ (p : Plan) (w : WellFormed p) where
       where
         to : SomePair n → ClobberByPairs p f v n
         to (inl (c, hc, x)) = in-child c hc x
-        to (inr (c, hc, (d, hd, inl (u, (x, y))))) = unordered-pair c d hc hd u x y
+        to (inr (c, hc, (d, hd, inl (u, inl (x, y))))) = unordered-pair c d hc hd u x y
+        to (inr (c, hc, (d, hd, inl (u, inr (x, y))))) = opposed-pair c d hc hd u x y
         to (inr (c, hc, (d, hd, inr (q, (x, (y, z)))))) = passed-on c d hc hd q x y z
 
         from : ClobberByPairs p f v n → SomePair n
         from (in-child c hc x) = inl (c, hc, x)
-        from (unordered-pair c d hc hd u x y) = inr (c, hc, (d, hd, inl (u, (x, y))))
+        from (unordered-pair c d hc hd u x y) = inr (c, hc, (d, hd, inl (u, inl (x, y))))
+        from (opposed-pair c d hc hd u x y) = inr (c, hc, (d, hd, inl (u, inr (x, y))))
         from (passed-on c d hc hd q x y z) = inr (c, hc, (d, hd, inr (q, (x, (y, z)))))
 
     r-may-clobber-in : (k n : ℕ) → Node p n → p .tree .size ≤ n + k

@@ -1,6 +1,6 @@
 -- The computed verdict is the verdict; CLEAR and DOOMED exclude each other.
 use Rattle.runs.proofs.Base.{_≡_, refl, _⊎_, inl, inr, _↔_, Bool, true, false, ℕ, _<_}
-use Rattle.runs.specs.Plan.{inc, Plan, WellFormed}
+use Rattle.runs.specs.Plan.{inc, post, Plan, WellFormed}
 use Rattle.runs.specs.Execution.{Event, History}
 use Rattle.runs.specs.Summary.{Clobbers, precondition, incondition, MayClobber, Mark, may-pre, must-pre}
 use Rattle.runs.specs.Summary.{may-clobber, must-clobber}
@@ -27,7 +27,8 @@ module _ (p : Plan) (w : WellFormed p) (F : ℕ → Bool) where
 
   -- what may fail is on a flag of the plan, and what must fail may fail
   clobber-flag : (f : ℕ) (v : Bool) → MayClobber p f v 0 → f < p .cond .flags
-  clobber-flag f v x = at (x .history) (x .event) (x .clobbers)
+  clobber-flag f v (inr x) = (w .on-task post (x .who) f v (x .leaves)) .2
+  clobber-flag f v (inl x) = at (x .history) (x .event) (x .clobbers)
     where
       at : (h : History) (e : Event) → Clobbers p f v h e → f < p .cond .flags
       at h e (precondition nd sp) = pre-flag p w e nd

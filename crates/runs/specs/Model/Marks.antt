@@ -110,7 +110,8 @@ module _ (p : Plan) where
   -- the children c and d of n clobber the literal
   unfoldable pub pairB : ℕ → ℕ → Bool → ℕ → ℕ → Bool
   pairB n f v c d = either (both (unorderedB p c d)
-      (λ u. both (conditionB pre inc f v c) (λ u. conditionB inc post f (not v) d)))
+      (λ u. either (both (conditionB pre inc f v c) (λ u. conditionB inc post f (not v) d))
+      (λ u. both (conditionB post post f v c) (λ u. conditionB post post f (not v) d))))
       (λ u. both (beforeB p d c) (λ u. both (mayPostB d f (not v)) (λ u. both (mayPreB c f v) (λ u. avoidedB n f c d))))
 
   unfoldable pub mayClobberIn : ℕ → Bool → ℕ → ℕ → Bool

@@ -4,14 +4,14 @@ use mathlib.Core.Bool.{Bool, true, false, not, decide}
 use mathlib.Core.Option.{Option, none, some}
 use mathlib.Core.List.{List, [], _∷_}
 use Prim.Native.Nat.{ℕ, zero, suc}
-use lib.Dec.{eqb}
-use Rattle.runs.specs.Tests.{both, either, negate, anyBelow, isSome}
-use Rattle.runs.specs.Plan.{task, optional, inc, Plan}
+use lib.Dec.{eqb, ltb}
+use Rattle.runs.specs.Tests.{both, either, negate, anyBelow, anyIn, isSome}
+use Rattle.runs.specs.Plan.{task, optional, inc, post, Plan}
 use Rattle.runs.specs.Execution.{Status, waiting, running, done, Status-discrete, State, Event, start, finish}
 use Rattle.runs.specs.Execution.{skip, nodeOf, preOf, asserts}
-use Rattle.runs.specs.Calls.{Call, one, events, World, happenAll, Refusal, no-task, wrong-status, branch-begun}
-use Rattle.runs.specs.Calls.{order-open, pre-unmet}
-use Rattle.runs.specs.Calls.{inc-broken, no-optional, number, asks, checks}
+use Rattle.runs.specs.Calls.{Call, one, together, finishes, events, World, happenAll, Refusal, no-task}
+use Rattle.runs.specs.Calls.{wrong-status, branch-begun, order-open}
+use Rattle.runs.specs.Calls.{pre-unmet, inc-broken, not-rising, post-opposed, no-optional, number, asks, checks}
 use Rattle.runs.specs.Model.Trees.{kindB, picksB, movesB, byKind, someChildB, everyChildB, underB, someUnderB}
 
 unfoldable pub statusB : Status → Status → Bool
@@ -21,6 +21,15 @@ statusB s r = decide (Status-discrete s r)
 unfoldable pub oppositeB : Option Bool → Option Bool → Bool
 oppositeB none o = false
 oppositeB (some u) o = isSome o (not u)
+
+unfoldable pub risingB : List ℕ → Bool
+risingB [] = true
+risingB (t ∷ []) = true
+risingB (t ∷ u ∷ ts) = both (ltb t u) (λ x. risingB (u ∷ ts))
+
+unfoldable pub notRisingB : List ℕ → Bool
+notRisingB [] = true
+notRisingB (t ∷ ts) = negate (risingB (t ∷ ts))
 
 module _ (p : Plan) where
   unfoldable pub taskB : ℕ → Bool
@@ -67,6 +76,10 @@ module _ (p : Plan) where
   unfoldable pub preUnmetB : (ℕ → Bool) → Event → Bool
   preUnmetB flag e = anyBelow (p .cond .flags) (λ f. isSome (preOf (p .cond) e f) (not (flag f)))
 
+  unfoldable pub postOpposedB : List ℕ → Bool
+  postOpposedB ts = anyIn ts (λ t. anyIn ts (λ x. anyBelow (p .cond .flags)
+      (λ f. oppositeB (p .cond .sign post t f) (p .cond .sign post x f))))
+
   unfoldable pub appliesB : World → Call → Refusal → Bool
   appliesB a (one e) no-task = negate (taskB (nodeOf e))
   appliesB a (one e) wrong-status = wrongStatusB (a .status) e
@@ -75,6 +88,17 @@ module _ (p : Plan) where
   appliesB a (one e) pre-unmet = preUnmetB (a .flag) e
   appliesB a (one e) inc-broken = incBrokenB (a .status) e
   appliesB a (one e) no-optional = negate (optionalB (nodeOf e))
+  appliesB a (one e) not-rising = false
+  appliesB a (one e) post-opposed = false
+  appliesB a (together ts) no-task = anyIn ts (λ t. negate (taskB t))
+  appliesB a (together ts) wrong-status = anyIn ts (λ t. wrongStatusB (a .status) (finish t))
+  appliesB a (together ts) branch-begun = false
+  appliesB a (together ts) order-open = false
+  appliesB a (together ts) pre-unmet = false
+  appliesB a (together ts) inc-broken = anyIn ts (λ t. incBrokenB (happenAll p a (finishes ts) .status) (finish t))
+  appliesB a (together ts) no-optional = false
+  appliesB a (together ts) not-rising = notRisingB ts
+  appliesB a (together ts) post-opposed = postOpposedB ts
 
 abbrev pub orElse : Bool → Refusal → (Unit {0} → Option Refusal) → Option Refusal
 orElse true r k = some r

@@ -1,0 +1,196 @@
+-- Several finishes in one step (02): they move on the listed tasks and make their leavings true, nothing else, and
+-- their order is immaterial; after an execution in which the listed tasks run, their finishes one by one are an
+-- execution.
+use Rattle.runs.proofs.Base.{_≡_, refl, sym, ap, _∙_, fun-ext, _≢_, _⊎_, inl, inr, _↔_, Bool, true, false, not}
+use Rattle.runs.proofs.Base.{Option, none, some, List, [], _∷_, _++_, Among, here, there, among-none, among-cases}
+use Rattle.runs.proofs.Base.{ℕ, ℕ-discrete}
+use Rattle.runs.specs.Plan.{post, Plan}
+use Rattle.runs.specs.Execution.{Status, waiting, running, done, State, Event, finish, History, moved, statusAfter}
+use Rattle.runs.specs.Execution.{Enabled, can-finish, Execution, one-more, preOf, Earlier}
+use Rattle.runs.specs.Calls.{together, finishes, SomeOf, Rising, empty, single, rising, World, happenAll}
+use Rattle.runs.specs.Calls.{inc-broken, IncBroken, PostOpposed, Applies}
+use Rattle.runs.proofs.Reflect.{clash, decided, force, r-negate, r-none}
+use Rattle.runs.proofs.Execution.{moved-same, moved-other, after-other, earlier-inv}
+use Rattle.runs.proofs.Calls.Listed.{r-some-of, decAmong, rising-once}
+
+module _ (p : Plan) (a : World) where
+  -- the states after the step
+  abbrev Finished : List ℕ → World
+  Finished ts = happenAll p a (finishes ts)
+
+  -- the listed tasks are done, the others as they were
+  pub finished : (ts : List ℕ) (x : ℕ) → Among x ts → Finished ts .status x ≡ done
+  finished [] x i = absurd (among-none i)
+  finished (t ∷ ts) x i = go (ℕ-discrete x t) (among-cases i) (λ j. finished ts x j)
+    where
+      s : State
+      s = Finished ts .status
+
+      go : Dec (x ≡ t) → (x ≡ t) ⊎ Among x ts → (Among x ts → s x ≡ done) → moved s (finish t) x ≡ done
+      go (yes q) j ih = rw q (moved-same s (finish t))
+      go (no k) (inl q) ih = absurd (k q)
+      go (no k) (inr j) ih = moved-other s (finish t) x k ∙ ih j
+
+  pub others-stay : (ts : List ℕ) (x : ℕ) → ¬ Among x ts → Finished ts .status x ≡ a .status x
+  others-stay [] x k = refl
+  others-stay (t ∷ ts) x k = moved-other (Finished ts .status) (finish t) x (λ q. k (here q)) ∙ others-stay ts x (λ
+      i. k (there i))
+
+  -- what does not wait does not wait afterwards
+  pub begun-stays : (ts : List ℕ) (x : ℕ) → a .status x ≢ waiting → Finished ts .status x ≢ waiting
+  begun-stays ts x n q = go (decAmong x ts)
+    where
+      go : Dec (Among x ts) → ⊥
+      go (yes i) = let e = sym (finished ts x i) ∙ q in clash cc
+      go (no k) = n (sym (others-stay ts x k) ∙ q)
+
+  -- 22 applies to them exactly if one of them breaks a hold of a running task that is not listed
+  pub broken-unlisted : (ts : List ℕ) → Applies p a (together ts) inc-broken ↔ SomeOf ts (λ t. (b : IncBroken p (a
+      .status) (finish t)) × (¬ Among (b .who) ts))
+  broken-unlisted ts = (λ (t, i, b). (t, i, to t b), λ (t, i, b). (t, i, from t (b .0) (b .1)))
+    where
+      not-both : {s : Status} → s ≡ done → s ≡ running → ⊥
+      not-both q z = clash cc
+
+      to : (t : ℕ) → IncBroken p (Finished ts .status) (finish t) → (b : IncBroken p (a .status) (finish t)) × (¬ Among
+          (b .who) ts)
+      to t b = let k : ¬ Among (b .who) ts = λ i. not-both (finished ts (b .who) i) (b .runs) in (
+        record {
+          who = b .who;
+          on = b .on;
+          sign = b .sign;
+          another = b .another;
+          runs = sym (others-stay ts (b .who) k) ∙ b .runs;
+          holds = b .holds;
+          breaks = b .breaks;
+        },
+        k,
+      )
+
+      from : (t : ℕ) (b : IncBroken p (a .status) (finish t)) → ¬ Among (b .who) ts → IncBroken p (Finished ts .status)
+          (finish t)
+      from t b k = record {
+        who = b .who;
+        on = b .on;
+        sign = b .sign;
+        another = b .another;
+        runs = others-stay ts (b .who) k ∙ b .runs;
+        holds = b .holds;
+        breaks = b .breaks;
+      }
+
+  opposed-more : {ts us : List ℕ} → ((x : ℕ) → Among x ts → Among x us) → PostOpposed p ts → PostOpposed p us
+  opposed-more e x = record {
+    who = x .who;
+    other = x .other;
+    listed = e (x .who) (x .listed);
+    other-listed = e (x .other) (x .other-listed);
+    on = x .on;
+    sign = x .sign;
+    leaves = x .leaves;
+    opposes = x .opposes;
+  }
+
+  module _ (f : ℕ) where
+    -- unless 26 applies, each leaving is true afterwards; a flag on which no listed task has a leaving is as it was
+    pub leaving-true : (ts : List ℕ) → ¬ PostOpposed p ts → (v : Bool) (t : ℕ) → Among t ts → p .cond .sign post t f ≡
+        some v → Finished ts .flag f ≡ v
+    leaving-true [] k v t i lv = absurd (among-none i)
+    leaving-true (x ∷ ts) k v t i lv = go (p .cond .sign post x f) refl (among-cases i) (λ j. leaving-true ts (λ o. k
+        (opposed-more (λ y. there) o)) v t j lv)
+      where
+        agree : (b c : Bool) → b ≢ not c → b ≡ c
+        agree true true n = refl
+        agree true false n = absurd (n refl)
+        agree false true n = absurd (n refl)
+        agree false false n = refl
+
+        go : (o : Option Bool) → p .cond .sign post x f ≡ o → (t ≡ x) ⊎ Among t ts → (Among t ts → Finished ts .flag f ≡
+            v) → Finished (x ∷ ts) .flag f ≡ v
+        go none q (inl e) ih = clash cc
+        go none q (inr j) ih = rw q (ih j)
+        go (some b) q j ih = rw q (agree b v (λ e. k (record {
+          who = t;
+          other = x;
+          listed = i;
+          other-listed = here refl;
+          on = f;
+          sign = v;
+          leaves = lv;
+          opposes = q ∙ ap some e;
+        })))
+
+    pub flag-stays : (ts : List ℕ) → ((t : ℕ) → Among t ts → p .cond .sign post t f ≡ none) → Finished ts .flag f ≡ a
+        .flag f
+    flag-stays [] k = refl
+    flag-stays (t ∷ ts) k = rw (k t (here refl)) (flag-stays ts (λ x i. k x (there i)))
+
+  -- finishes take no place in the order of starts
+  pub starts-stay : (ts : List ℕ) → Finished ts .starts ≡ a .starts
+  starts-stay [] = refl
+  starts-stay (t ∷ ts) = starts-stay ts
+
+  pub ordinals-stay : (ts : List ℕ) (x : ℕ) → Finished ts .ordinal x ≡ a .ordinal x
+  ordinals-stay [] x = refl
+  ordinals-stay (t ∷ ts) x = ordinals-stay ts x
+
+  -- so, unless 26 applies, lists of the same numbers come to the same: the order of the finishes is immaterial
+  pub any-order : (ts us : List ℕ) → ((x : ℕ) → Among x ts ↔ Among x us) → ¬ PostOpposed p ts → Finished ts ≡ Finished
+      us
+  any-order ts us e k = λ i. record {
+    status = fun-ext (λ x. status x (decAmong x ts)) i;
+    flag = fun-ext flag i;
+    starts = (starts-stay ts ∙ sym (starts-stay us)) i;
+    ordinal = fun-ext (λ x. ordinals-stay ts x ∙ sym (ordinals-stay us x)) i;
+  }
+    where
+      status : (x : ℕ) → Dec (Among x ts) → Finished ts .status x ≡ Finished us .status x
+      status x (yes i) = finished ts x i ∙ sym (finished us x ((e x) .0 i))
+      status x (no n) = others-stay ts x n ∙ sym (others-stay us x (λ i. n ((e x) .1 i)))
+
+      flag : (f : ℕ) → Finished ts .flag f ≡ Finished us .flag f
+      flag f = go (decided (r-some-of (λ t. p .cond .sign post t f ≢ none) ts _ (λ t. r-negate _ (r-none _))))
+        where
+          left : (t : ℕ) → Among t ts → (o : Option Bool) → p .cond .sign post t f ≡ o → o ≢ none → Finished ts .flag f
+              ≡ Finished us .flag f
+          left t i none q n = absurd (n refl)
+          left t i (some v) q n = leaving-true f ts k v t i q ∙ sym (leaving-true f us (λ o. k (opposed-more (λ x. (e x)
+              .1) o)) v t ((e t) .0 i) q)
+
+          none-left : ¬ SomeOf ts (λ t. p .cond .sign post t f ≢ none) → (t : ℕ) → Among t ts → p .cond .sign post t f ≡
+              none
+          none-left n t i = force (decided (r-none _)) (λ m. n (t, i, m))
+
+          go : Dec (SomeOf ts (λ t. p .cond .sign post t f ≢ none)) → Finished ts .flag f ≡ Finished us .flag f
+          go (yes (t, i, n)) = left t i (p .cond .sign post t f) refl n
+          go (no n) = flag-stays f ts (none-left n) ∙ sym (flag-stays f us (λ t i. none-left n t ((e t) .1 i)))
+
+-- the states after a history
+after-finishes : (ts : List ℕ) (h : History) (x : ℕ) → ¬ Among x ts → statusAfter (finishes ts ++ h) x ≡ statusAfter h x
+after-finishes [] h x k = refl
+after-finishes (t ∷ ts) h x k = after-other (finish t) (finishes ts ++ h) x (λ q. k (here q)) ∙ after-finishes ts h x
+    (λ i. k (there i))
+
+module _ (p : Plan) where
+  -- the finishes of tasks that run, one by one
+  pub finishes-execution : {n : ℕ} {h : History} {ts : List ℕ} → Rising ts → Execution p n h
+      → ((t : ℕ) → Among t ts → Enabled p n (statusAfter h) (finish t)) → Execution p n (finishes ts ++ h)
+  finishes-execution empty f m = f
+  finishes-execution (single {t = t}) f m = one-more f (m t (here refl))
+  finishes-execution {n} {h} (rising {t = t} {u = u} {ts = ts} l r) f m = one-more (finishes-execution r f (λ x i. m x
+      (there i))) (later (m t (here refl)) (after-finishes (u ∷ ts) h t (rising-once (rising l r))))
+    where
+      later : {s : State} → Enabled p n (statusAfter h) (finish t) → s t ≡ statusAfter h t → Enabled p n s (finish t)
+      later (can-finish m) q = can-finish record { is-task = m .is-task; beneath = m .beneath; runs = q ∙ m .runs }
+
+  -- a finish has no precondition, so an event that has one came before them
+  pub before-finishes : {e : Event} {r : History} (ts : List ℕ) (h : History) (f : ℕ) (v : Bool) → preOf (p .cond) e f ≡
+      some v → Earlier (e ∷ r) (finishes ts ++ h) → Earlier (e ∷ r) h
+  before-finishes [] h f v nd q = q
+  before-finishes {e} {r} (t ∷ ts) h f v nd q = go (earlier-inv q) (λ z. before-finishes ts h f v nd z)
+    where
+      go : (e ∷ r ≡ finish t ∷ (finishes ts ++ h)) ⊎ Earlier (e ∷ r) (finishes ts ++ h) → (Earlier (e ∷ r) (finishes ts
+          ++ h) → Earlier (e ∷ r) h) → Earlier (e ∷ r) h
+      go (inl z) ih = let s : e ≡ finish t = cc in let y : preOf (p .cond) (finish t) f ≡ some v = rw s at nd in clash
+          cc
+      go (inr z) ih = ih z
