@@ -2,6 +2,7 @@
 use mathlib.Core.Path.{_≡_, ap}
 use mathlib.Core.Logic.{_⊎_, inl, inr, ⊎-elim, by-cases}
 use mathlib.Core.Bool.{false}
+use mathlib.Core.List.{List}
 use Prim.Native.Nat.{ℕ, zero, suc, _+_, _-_, _<_, _≤_}
 use native.Mathlib.Nat.{eq-or-lt-of-le, le-of-suc-le-suc}
 use native.Mathlib.Numerals.{add-one}
@@ -9,7 +10,8 @@ use native.Mathlib.Decide.{decLt, ℕ-discrete}
 use native.Mathlib.Omega.{arith}
 use lib.Dec.{eqb, ltb}
 use borrow.Author.Tests.{eqb-true, ltb-true, not-false}
-use Rattle.plan_rules.specs.Rules.{notBelow, notRising}
+use Rattle.plan_format.specs.Format.{condCount, condNode, condValue}
+use Rattle.plan_rules.specs.Rules.{notBelow, notRising, cause10}
 use Rattle.runs.specs.Tests.{anyBelow}
 use Rattle.plan_rules.proofs.Laws.{or-split, and-both, none-at}
 
@@ -57,3 +59,8 @@ module _ (x y : ℕ → ℕ) (n : ℕ) (h : anyBelow (n - 1) (notRising x y) ≡
       (λ k.
       by-cases (ℕ-discrete i j) (λ (r : i ≡ j). absurd (omega (arith, ap y r)))
       (λ r. absurd (⊎-elim (λ a. omega arith) (λ a. omega arith) (rising j i (omega arith) l))))
+
+-- conditions stand in the order of their nodes
+pub nodes-rise : (b : List ℕ) → cause10 b ≡ false → (i j : ℕ) → i ≤ j → j < condCount b → condNode b i ≤ condNode b j
+unfolding cause10
+nodes-rise b h i j l m = first-rises (condNode b) (condValue b) (condCount b) h i j l m

@@ -21,7 +21,7 @@ use Rattle.plan_rules_later.specs.Passes.{passCause}
 use Rattle.plan_rules_later.proofs.Table.{refuses, backwards}
 use Rattle.plan_rules_later.proofs.Backward.{answers, judged, pass-finds}
 use Rattle.plan_rules.proofs.Causes.{root-parent, parent-group, both-signs, both-signs-of, PostOf, post-of}
-use Rattle.plan_rules.proofs.Rising.{first-rises, comes-first}
+use Rattle.plan_rules.proofs.Rising.{nodes-rise, comes-first}
 
 -- what a pass works out
 unfoldable pub passRefuses : Pass → List ℕ → Bool
@@ -130,10 +130,6 @@ module _ (b : List ℕ) (fits : Whole b) (parents : cause7 b ≡ false) where
 
 -- ---- causes 11 and 12
 module _ (b : List ℕ) (rising : cause10 b ≡ false) where
-  nodes-rise : (i j : ℕ) → i ≤ j → j < condCount b → condNode b i ≤ condNode b j
-  unfolding cause10
-  nodes-rise i j l m = first-rises (condNode b) (condValue b) (condCount b) rising i j l m
-
   before : (i j : ℕ) → i < condCount b → j < condCount b → condNode b j ≡ condNode b i → condValue b i < condValue b j
       → i < j
   unfolding cause10
@@ -150,7 +146,7 @@ module _ (b : List ℕ) (rising : cause10 b ≡ false) where
   unfolding passRefuses cause11 signStep
   signs =
       pass-finds (condCount b) (signStep b) (λ i l. omega arith)
-      (λ i j l m. omega (arith, nodes-rise i j l m)) sign-later
+      (λ i j l m. omega (arith, nodes-rise b rising i j l m)) sign-later
       ∙ some-same (condCount b) (judged (condCount b) (signStep b)) (λ i. anyBelow (condCount b) (bothSigns b i))
       (λ i l. both-found b (condCount b) i)
 
@@ -166,7 +162,7 @@ module _ (b : List ℕ) (rising : cause10 b ≡ false) where
   unfolding passRefuses cause12 postStep noPost
   posts =
       pass-finds (condCount b) (postStep b) (λ i l. omega arith)
-      (λ i j l m. omega (arith, nodes-rise i j l m)) post-later
+      (λ i j l m. omega (arith, nodes-rise b rising i j l m)) post-later
       ∙ some-same (condCount b) (judged (condCount b) (postStep b)) (noPost b)
       (λ i l.
       or-false (eqb (placeOf (condValue b i)) 1 && not (anyBelow (condCount b) (answers (postStep b) i)))

@@ -1,7 +1,6 @@
-// The conditions of an event's task: the literals that it makes true, unmet preconditions, and inconditions of other
-// running tasks that it breaks.
+// The conditions of the tasks of an event, or of several finishes in one step: the literals that they make true, unmet
+// ones, and inconditions of other running tasks that they break. The tasks are those marked by a 1 in a table.
 use base::places::INC;
-use base::places::PRE;
 use base::statuses::RUNNING;
 use base::wide;
 use plan_codes::value::flag_of;
@@ -15,22 +14,32 @@ ghost use mathlib.Core.Path.{_≡_};
 ghost use mathlib.Core.Bool.{not, true, false};
 ghost use Prim.Native.Nat.{_+_, _<_};
 ghost use lib.ListN.{replicate};
-ghost use Rattle.plan_codes.specs.Values.{flagOf};
+ghost use lib.Dec.{eqb};
+ghost use Rattle.plan_codes.specs.Values.{flagOf, placeOf};
 ghost use Rattle.plan_format.specs.Format.{condCount, condValue};
 ghost use Rattle.run_flags.specs.Flags.{allByte};
 ghost use Rattle.plan_rules.specs.Rules.{refusal};
 ghost use Rattle.runs.specs.Tests.{anyBelow, sameB};
 ghost use Rattle.run_state.specs.State.{stateRefusal};
 ghost use Rattle.run_state.specs.Made.{isOf, setAt, made};
+ghost use Rattle.run_tasks.specs.Sets.{marked};
 ghost use Rattle.run_conditions.specs.Conditions.{unmetAt, brokenAt};
 
-// Condition i is of the task, at the place (0 pre-, 1 in-, 2 postcondition).
-fn is_of(plan: &[u8], place: u16, task: usize, i: usize) -> bool
+// Condition i is at the place (0 pre-, 1 in-, 2 postcondition).
+fn is_at(plan: &[u8], place: u16, i: usize) -> bool
     requires { ⌜ (i < condCount (now plan)) × (refusal (now plan) ≡ 0) ⌝ }
-    ensures { λ r. ⌜ r ≡ isOf (now (plan .entry)) place task i ⌝ }
+    ensures { λ r. ⌜ r ≡ eqb (placeOf (condValue (now (plan .entry)) i)) place ⌝ }
+{
+    place_of(condition_value(plan, i)) == place
+}
+
+// Condition i is of a marked task, at the place.
+fn is_of(plan: &[u8], place: u16, tasks: &[u8; 128], i: usize) -> bool
+    requires { ⌜ (i < condCount (now plan)) × (refusal (now plan) ≡ 0) ⌝ }
+    ensures { λ r. ⌜ r ≡ isOf (now (plan .entry)) place (marked (now (tasks .entry))) i ⌝ }
 {
     let node = wide(condition_node(plan, i));
-    (node == task) & (place_of(condition_value(plan, i)) == place)
+    (tasks[node] == 1) & is_at(plan, place, i)
 }
 
 // The flag of condition i.
@@ -49,20 +58,19 @@ fn set_at(plan: &[u8], i: usize) -> bool
     sign_of(condition_value(plan, i)) == 1
 }
 
-// The flags with the literals of the task at the place made true: its inconditions at a start, its postconditions at a
-// finish.
-pub fn with_literals(plan: &[u8], place: u16, task: usize, flags: Flags) -> Flags
+// The flags with the literals of the marked tasks at the place made true: inconditions at a start, postconditions at
+// finishes.
+pub fn with_literals(plan: &[u8], place: u16, tasks: &[u8; 128], flags: Flags) -> Flags
     requires { ⌜ refusal (now plan) ≡ 0 ⌝ }
-    ensures { λ r. ⌜ r .bytes ≡ made (now (plan .entry)) place task (flags .bytes) ⌝ }
+    ensures { λ r. ⌜ r .bytes ≡ made (now (plan .entry)) place (marked (now (tasks .entry))) (flags .bytes) ⌝ }
 {
-    let n = conditions(plan);
     let mut next = flags;
-    let mut i = 0;
-    while i < n {
-        if is_of(plan, place, task, i) {
+    let mut i = conditions(plan);
+    while 0 < i {
+        i -= 1;
+        if is_of(plan, place, tasks, i) {
             next = next.with(flag_at(plan, i), set_at(plan, i));
         }
-        i += 1;
     }
     next
 }
@@ -73,23 +81,25 @@ fn differs(sign: bool, value: bool) -> bool
     if sign { !value } else { value }
 }
 
-// Condition i is a precondition of the task that the flags do not meet.
-fn unmet_at(plan: &[u8], flags: Flags, task: usize, i: usize) -> bool
+// Condition i is of a marked task, at the place, and the flags do not meet it.
+fn unmet_at(plan: &[u8], place: u16, tasks: &[u8; 128], flags: Flags, i: usize) -> bool
     requires { ⌜ (i < condCount (now plan)) × (refusal (now plan) ≡ 0) ⌝ }
-    ensures { λ r. ⌜ r ≡ unmetAt (now (plan .entry)) (flags .bytes) task i ⌝ }
+    ensures { λ r. ⌜ r ≡ unmetAt (now (plan .entry)) place (marked (now (tasks .entry))) (flags .bytes) i ⌝ }
 {
-    is_of(plan, PRE, task, i) & differs(set_at(plan, i), flags.has(flag_at(plan, i)))
+    is_of(plan, place, tasks, i) & differs(set_at(plan, i), flags.has(flag_at(plan, i)))
 }
 
-// 21: a precondition of the task is unmet.
-pub fn pre_unmet(plan: &[u8], flags: Flags, task: usize) -> bool
+// The flags do not meet some condition of a marked task at the place: 21 for the preconditions before a start, 26 for
+// the postconditions after several finishes.
+pub fn unmet(plan: &[u8], place: u16, tasks: &[u8; 128], flags: Flags) -> bool
     requires { ⌜ refusal (now plan) ≡ 0 ⌝ }
-    ensures { λ r. ⌜ r ≡ anyBelow (condCount (now (plan .entry))) (unmetAt (now (plan .entry)) (flags .bytes) task) ⌝ }
+    ensures { λ r. ⌜ r ≡ anyBelow (condCount (now (plan .entry)))
+        (unmetAt (now (plan .entry)) place (marked (now (tasks .entry))) (flags .bytes)) ⌝ }
 {
     let n = conditions(plan);
     let mut i = 0;
     while i < n {
-        if unmet_at(plan, flags, task, i) {
+        if unmet_at(plan, place, tasks, flags, i) {
             return true;
         }
         i += 1;
@@ -97,33 +107,42 @@ pub fn pre_unmet(plan: &[u8], flags: Flags, task: usize) -> bool
     false
 }
 
-// Condition i is an incondition of another running task, and the event turns its flag: `clear` and `set` are all clear
-// and all set flags after the event.
-fn broken_at(plan: &[u8], state: &[u8], clear: Flags, set: Flags, task: usize, i: usize) -> bool
+// Condition i is an incondition of a running task that is not marked, and its flag is turned: `clear` and `set` are all
+// clear and all set flags after the event.
+fn broken_at(
+    plan: &[u8],
+    state: &[u8],
+    clear: Flags,
+    set: Flags,
+    tasks: &[u8; 128],
+    i: usize,
+) -> bool
     requires { ⌜ (i < condCount (now plan)) × (stateRefusal (now plan) (now state) ≡ 0) ⌝ }
-    ensures { λ r. ⌜ r ≡ brokenAt (now (plan .entry)) (now (state .entry)) (clear .bytes) (set .bytes) task i ⌝ }
+    ensures { λ r. ⌜ r ≡ brokenAt (now (plan .entry)) (now (state .entry)) (clear .bytes) (set .bytes)
+        (marked (now (tasks .entry))) i ⌝ }
 {
     let node = wide(condition_node(plan, i));
     let f = flag_at(plan, i);
     let sign = set_at(plan, i);
     let kept = if sign { set.has(f) } else { clear.has(f) };
-    is_of(plan, INC, node, i) & (node != task) & (state[8 + node] == RUNNING) & differs(sign, kept)
+    is_at(plan, INC, i) & (tasks[node] != 1) & (state[8 + node] == RUNNING) & differs(sign, kept)
 }
 
-// 22: the event of the task that makes its literals at the place true breaks an incondition of another running task.
-pub fn inc_broken(plan: &[u8], state: &[u8], place: u16, task: usize) -> bool
+// 22: making the literals of the marked tasks at the place true breaks an incondition of another running task.
+pub fn inc_broken(plan: &[u8], state: &[u8], place: u16, tasks: &[u8; 128]) -> bool
     requires { ⌜ stateRefusal (now plan) (now state) ≡ 0 ⌝ }
     ensures { λ r. ⌜ r ≡ anyBelow (condCount (now (plan .entry)))
         (brokenAt (now (plan .entry)) (now (state .entry))
-        (made (now (plan .entry)) place task (replicate 8 (allByte false)))
-        (made (now (plan .entry)) place task (replicate 8 (allByte true))) task) ⌝ }
+        (made (now (plan .entry)) place (marked (now (tasks .entry))) (replicate 8 (allByte false)))
+        (made (now (plan .entry)) place (marked (now (tasks .entry))) (replicate 8 (allByte true)))
+        (marked (now (tasks .entry)))) ⌝ }
 {
-    let clear = with_literals(plan, place, task, Flags::all(false));
-    let set = with_literals(plan, place, task, Flags::all(true));
+    let clear = with_literals(plan, place, tasks, Flags::all(false));
+    let set = with_literals(plan, place, tasks, Flags::all(true));
     let n = conditions(plan);
     let mut i = 0;
     while i < n {
-        if broken_at(plan, state, clear, set, task, i) {
+        if broken_at(plan, state, clear, set, tasks, i) {
             return true;
         }
         i += 1;

@@ -17,7 +17,7 @@ use Rattle.plan_check.specs.Meaning.{planOf, kindAt, signIn}
 use Rattle.plan_check.proofs.Meaning.{kind-is, kind-of, kind-number, kind-limit, means}
 use Rattle.plan_check.proofs.Nodes.{is-node, node-is, plan-kind}
 use Rattle.runs.specs.Plan.{Kind, task, all-of, any-of, optional, post, Node, itself, kindNumber, placeNumber}
-use Rattle.runs.specs.Execution.{waiting, running, Status-discrete, Event, start, finish, skip, nodeOf, asserts}
+use Rattle.runs.specs.Execution.{Status, waiting, running, Status-discrete, Event, start, finish, skip, nodeOf, asserts}
 use Rattle.runs.specs.Calls.{one, asks, statusByte, no-task, wrong-status, branch-begun, order-open, pre-unmet}
 use Rattle.runs.specs.Calls.{inc-broken, no-optional}
 use Rattle.runs.specs.Model.Monitor.{returned, refusalOf, firstOf, orElse, code, appliesB, taskB, optionalB, statusB}
@@ -32,6 +32,7 @@ use Rattle.run_starts.specs.Starts.{nodeByte}
 use Rattle.run_state.specs.State.{stateRefusal, statusIn, flagShown, worldOf}
 use Rattle.run_state.proofs.Passed.{has-room, well-formed, byte-is, shown-moves}
 use Rattle.run_state.specs.Made.{made}
+use Rattle.run_tasks.specs.Sets.{only}
 use Rattle.run_conditions.specs.Conditions.{brokenAt}
 use Rattle.run_conditions.proofs.Refusals.{broken-is}
 use Rattle.run_refusals.specs.declared.Move.{Move}
@@ -120,7 +121,7 @@ module _ (b s : List ℕ) (ok : stateRefusal b s ≡ 0) where
         ∙ ap kindNumber (sym (plan-kind b t) ∙ x .1)));
   }
 
-  task-is : (t : ℕ) → isKind b t 0 ≡ taskB (planOf b) t
+  pub task-is : (t : ℕ) → isKind b t 0 ≡ taskB (planOf b) t
   task-is t =
       same-test _ _ (r-map (λ x. record { node = x .0; is-task = x .1 }, λ x. (x .node, x .is-task)) (r-kind t task))
       (r-task (planOf b) (well-formed b s ok) t)
@@ -129,6 +130,12 @@ module _ (b s : List ℕ) (ok : stateRefusal b s ≡ 0) where
   optional-is g = same-test _ _
       (r-map (λ x. record { node = x .0; is-optional = x .1 }, λ x. (x .node, x .is-optional)) (r-kind g optional))
       (r-optional (planOf b) (well-formed b s ok) g)
+
+  -- the status of a task, by its byte
+  pub status-is : (t : ℕ) → isKind b t 0 ≡ true → (q : Status)
+      → eqb (nodeByte s t) (statusByte q) ≡ statusB (statusIn b s t) q
+  status-is t y q = same-test _ _ (r-map (byte-is b s ok t (kind-is b t 0 y .0) q) (r-eq (nodeByte s t) (statusByte q)))
+      (r-status (statusIn b s t) q)
 
   -- the end of the chain: 22
   abbrev broken : Event → ℕ
@@ -157,14 +164,9 @@ module _ (b s : List ℕ) (ok : stateRefusal b s ≡ 0) where
     answer-17 y = sym (chain ∙ rw y)
 
     module _ (y : isKind b t 0 ≡ true) where
-      status-is : eqb (nodeByte s t) (statusByte (asks e)) ≡ statusB (statusIn b s t) (asks e)
-      status-is = let w = kind-is b t 0 y in
-          same-test _ _ (r-map (byte-is b s ok t (w .0) (asks e)) (r-eq (nodeByte s t) (statusByte (asks e))))
-          (r-status (statusIn b s t) (asks e))
-
       chain-18 : answer ≡ cond (not (eqb (nodeByte s t) (statusByte (asks e)))) 18
           (first (beginRefusal b s e) (broken e))
-      chain-18 = chain ∙ rw (y, status-is)
+      chain-18 = chain ∙ rw (y, status-is t y (asks e))
 
       pub answer-18 : (nodeByte s t ≡ statusByte (asks e) → ⊥) → 18 ≡ answer
       answer-18 n = sym (chain-18 ∙ rw (ne-eqb (nodeByte s t) (statusByte (asks e)) n))
@@ -278,15 +280,14 @@ module _ (b s : List ℕ) (ok : stateRefusal b s ≡ 0) where
   task-does (skip g) x f = absurd x
 
   -- the test of 22, by what the function has at hand
-  pub broken-by : (t : ℕ) (e : Event) → nodeOf e ≡ t → OfTask e → (q : ℕ) → q ≡ placeNumber (eventPlace e) → (r : Bool)
-      → r ≡ anyBelow (condCount b) (brokenAt b s (made b q t (replicate 8 (allByte false)))
-      (made b q t (replicate 8 (allByte true))) t) → r ≡ incBrokenB (planOf b) (statusIn b s) e
-  broken-by t e of x q k r h =
+  pub broken-by : (t : ℕ) (e : Event) → nodeOf e ≡ t → OfTask e → (q : ℕ) → q ≡ placeNumber (eventPlace e)
+      → (M : ℕ → Bool) → M ≡ only t → (r : Bool)
+      → r ≡ anyBelow (condCount b) (brokenAt b s (made b q M (replicate 8 (allByte false)))
+      (made b q M (replicate 8 (allByte true))) M) → r ≡ incBrokenB (planOf b) (statusIn b s) e
+  broken-by t e of x q k M m r h =
       let g : (f : ℕ) → asserts (planOf b) e f ≡ signIn b (eventPlace e) t f = λ f. task-does e x f
       ∙ ap (λ (n : ℕ). signIn b (eventPlace e) n f) of in
-      h ∙ ap (λ (q : ℕ). anyBelow (condCount b)
-      (brokenAt b s (made b q t (replicate 8 (allByte false))) (made b q t (replicate 8 (allByte true))) t)) k
-      ∙ broken-is b s ok t (eventPlace e) e of g
+      rw (m, k) at h ∙ broken-is b s ok t (eventPlace e) e of g
 
 -- ---- the parts
 module _ (b s : List ℕ) (t : ℕ) where

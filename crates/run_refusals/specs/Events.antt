@@ -1,11 +1,11 @@
--- The events that moves are, and the refusals 17 to 22 and 27 of an event, in terms of the states that 01 works out
+-- The events that moves are, and the refusals 17 to 22 and 25 to 27 of a call, in terms of the states that 01 works out
 -- (`returned` of runs).
 use Prim.Native.Nat.{ℕ}
 use mathlib.Core.List.{List}
 use Rattle.plan_check.specs.Meaning.{planOf}
 use Rattle.runs.specs.Plan.{Place, inc, post}
 use Rattle.runs.specs.Execution.{Event, start, finish, skip}
-use Rattle.runs.specs.Calls.{one}
+use Rattle.runs.specs.Calls.{Call, one}
 use Rattle.runs.specs.Model.Monitor.{returned}
 use Rattle.run_state.specs.State.{worldOf}
 use Rattle.run_refusals.specs.declared.Move.{Move}
@@ -22,6 +22,9 @@ eventPlace (start t) = inc
 eventPlace (finish t) = post
 eventPlace (skip g) = post
 
--- the first of 17 to 22, or of 27 and 18 to 20 for a skip, that applies, or 0
+-- the first of a call's checks that applies, or 0
+abbrev pub callRefusal : List ℕ → List ℕ → Call → ℕ
+callRefusal b s c = returned (planOf b) (worldOf b s) c
+
 abbrev pub eventRefusal : List ℕ → List ℕ → Event → ℕ
-eventRefusal b s e = returned (planOf b) (worldOf b s) (one e)
+eventRefusal b s e = callRefusal b s (one e)

@@ -1,14 +1,16 @@
-// Which refusal applies to the start or the finish of a task, or to the skip of an optional group, on a state that
-// passes 1 to 16.
+// Which refusal applies to the start or the finish of a task, to the skip of an optional group, or to several finishes
+// in one step, on a state that passes 1 to 16.
 use base::kinds::OPTIONAL;
 use base::kinds::TASK;
 use base::places::INC;
 use base::places::POST;
+use base::places::PRE;
 use base::statuses::RUNNING;
 use base::statuses::WAITING;
 use plan_format::fields::is_kind;
 use run_conditions::inc_broken;
-use run_conditions::pre_unmet;
+use run_conditions::unmet;
+use run_conditions::with_literals;
 use run_enabled::branch_begun;
 use run_enabled::order_open;
 use run_enabled::path;
@@ -16,14 +18,19 @@ use run_flags::load;
 use run_progress::Tally;
 use run_progress::children;
 use run_progress::is_begun;
+use run_tasks::mark_all;
+use run_tasks::mark_one;
+use run_tasks::no_task;
+use run_tasks::not_rising;
+use run_tasks::not_running;
 ghost use mathlib.Core.Path.{_≡_};
 ghost use Rattle.runs.specs.Plan.{placeNumber};
 ghost use Rattle.runs.specs.Execution as execution;
-ghost use Rattle.runs.specs.Calls.{asks, statusByte};
+ghost use Rattle.runs.specs.Calls.{asks, statusByte, together};
 ghost use Rattle.run_state.specs.State.{AtEvent, stateRefusal};
 ghost use Rattle.run_progress.specs.Progress.{Counted};
 ghost use Rattle.run_progress.specs.declared.Tally.the-variants.{Begun};
-ghost use Rattle.run_refusals.specs.Events.{eventOf, eventPlace, eventRefusal};
+ghost use Rattle.run_refusals.specs.Events.{eventOf, eventPlace, eventRefusal, callRefusal};
 ghost use Rattle.run_refusals.specs.Parts.{treeRefusal, beginRefusal};
 
 // How a call moves a task on.
@@ -79,7 +86,8 @@ fn start_refused(plan: &[u8], state: &[u8], task: usize) -> u32
     if r != 0 {
         return r;
     }
-    if pre_unmet(plan, load(state), task) {
+    let own = mark_one(task);
+    if unmet(plan, PRE, &own, load(state)) {
         return 21;
     }
     0
@@ -111,7 +119,8 @@ pub fn refused(plan: &[u8], state: &[u8], m: Move, task: usize) -> u32
     if r != 0 {
         return r;
     }
-    if inc_broken(plan, state, place_of(m), task) {
+    let own = mark_one(task);
+    if inc_broken(plan, state, place_of(m), &own) {
         return 22;
     }
     0
@@ -130,4 +139,30 @@ pub fn skip_refused(plan: &[u8], state: &[u8], group: usize) -> u32
         return 18;
     }
     tree_refused(plan, state, &begun, group)
+}
+
+// Refusals 25, 17, 18, 26 and 22 of several finishes in one step, or 0. What the tasks leave must all be true after it
+// (26); of the others that run, none has a hold turned (22).
+pub fn together_refused(plan: &[u8], state: &[u8], tasks: &[usize]) -> u32
+    requires { ⌜ stateRefusal (now plan) (now state) ≡ 0 ⌝ }
+    ensures { λ r. ⌜ r ≡ callRefusal (now (plan .entry)) (now (state .entry)) (together (now (tasks .entry))) ⌝ }
+{
+    if not_rising(tasks) {
+        return 25;
+    }
+    if no_task(plan, tasks) {
+        return 17;
+    }
+    if not_running(state, tasks) {
+        return 18;
+    }
+    let marks = mark_all(tasks);
+    let next = with_literals(plan, POST, &marks, load(state));
+    if unmet(plan, POST, &marks, next) {
+        return 26;
+    }
+    if inc_broken(plan, state, POST, &marks) {
+        return 22;
+    }
+    0
 }

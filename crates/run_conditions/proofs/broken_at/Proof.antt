@@ -1,5 +1,5 @@
 -- `run_conditions::broken_at` meets its contract. Assumes nothing.
-use mathlib.Core.Path.{_≡_, _∙_}
+use mathlib.Core.Path.{_≡_, refl, _∙_}
 use mathlib.Core.Bool.{cond}
 use mathlib.Core.Logic.{⊎-elim}
 use Prim.Native.Nat.{_<_}
@@ -8,6 +8,7 @@ use Rattle.run_flags.specs.Flags.{flagIn}
 use Rattle.plan_format.specs.Format.{nodeCount}
 use Rattle.run_state.proofs.Refused.{Roomy}
 use Rattle.run_state.proofs.Passed.{has-room}
+use Rattle.run_tasks.specs.Sets.{marked}
 use Rattle.run_conditions.proofs.Laws.{on-task, broken-turn, kept-set, kept-clear}
 use borrow.Author.Needs.{needs}
 use native.Mathlib.Omega.{arith}
@@ -47,26 +48,34 @@ flag-at-requires c κs = let s = c .before .before .before .before in (s .pre .0
 set-at-requires : tie.Need-set-at-requires
 set-at-requires c κs = let s = c .before .before .before .before .before in (s .pre .0, room s .accepted)
 
-is-of-requires : tie.Need-is-of-requires
-is-of-requires c κs = let s = c .before .before .before .before .before .before .before in (s .pre .0, room s .accepted)
+is-at-requires : tie.Need-is-at-requires
+is-at-requires c κs = let s = c .before .before .before .before .before .before .before in (s .pre .0, room s .accepted)
+
+element-copy-out-result : tie.Need-element-copy-out-result
+element-copy-out-result c =
+    let w = c .before .before .before .before in
+    omega (
+      arith,
+      node-below w,
+      room (w .before .before .before .before) .plan .fits .limits .nodes,
+    )
 
 add-result : tie.Need-add-result
-add-result c = omega (arith, c .before .before .before .before .wide .ensures .1)
+add-result c = omega (arith, c .before .before .before .before .before .wide .ensures .1)
 
 shared-slice-read-result : tie.Need-shared-slice-read-result
-shared-slice-read-result c = omega (
-  arith,
-  node-below (c .before .before .before .before .before),
-  room (c .before .before .before .before .before .before .before .before .before) .room,
-)
+shared-slice-read-result c =
+    let w = c .before .before .before .before .before .before in
+    omega (arith, node-below w, room (w .before .before .before .before) .room)
 
 returns : tie.Need-returns
+unfolding marked
 returns c =
-    let j = c .before .before .before in
+    let j = c .before .before .before .before in
     let w = j .before .before .before in
-    broken-turn _ _ _ _ _ _ _ _ _ _ _ _ (w .wide .ensures .0 ∙ w .before .condition-node .ensures)
-    (c .before .before .is-of .ensures) (j .before .before .flag-at .ensures .0) (j .before .set-at .ensures)
-    (kept j) (c .differs .ensures)
+    broken-turn _ _ _ _ _ _ _ _ _ _ _ _ _ (w .wide .ensures .0 ∙ w .before .condition-node .ensures)
+    (c .before .before .before .is-at .ensures) refl (j .before .before .flag-at .ensures .0)
+    (j .before .set-at .ensures) (kept j) (c .differs .ensures)
 
 pub broken-at-spec : {M : Type 1} → statement M
 broken-at-spec =
@@ -78,7 +87,8 @@ broken-at-spec =
     set-at-requires
     (λ c κs. search needs)
     (λ c κs. search needs)
-    is-of-requires
+    is-at-requires
+    element-copy-out-result
     add-result
     shared-slice-read-result
     (λ c κs. search needs)

@@ -12,36 +12,37 @@ use mathlib.Core.List.{List}
 use Prim.Native.Nat.{ℕ}
 use Rattle.run_flags.specs.Flags.{allByte}
 use Rattle.run_state.specs.Made.{made}
+use Rattle.run_tasks.specs.Sets.{marked}
 use Rattle.run_conditions.specs.Conditions.{brokenAt}
 use native.Mathlib.Omega.{arith}
 use Rattle.run_conditions.proofs.inc_broken.Statement.{statement}
 use Rattle.run_conditions.proofs.inc_broken.Tie as tie
 
 abbrev Inv-loop : tie.InvT-loop
-Inv-loop plan state place task clear set n i₀ i = (i ≤ n)
-    × (anyBelow i (brokenAt plan state (clear .bytes) (set .bytes) task) ≡ false)
+Inv-loop plan state place tasks clear set n i₀ i = (i ≤ n)
+    × (anyBelow i (brokenAt plan state (clear .bytes) (set .bytes) (marked tasks)) ≡ false)
 
 abbrev μ-loop : tie.MeasureT-loop
-μ-loop plan state place task clear set n i₀ i = n - i
+μ-loop plan state place tasks clear set n i₀ i = n - i
 
 clear-is : (c : tie.After-all2 Inv-loop μ-loop)
     → c .before .with-literals .result .bytes
     ≡ made (now (c .before .before .before .before .before .args .plan))
-    (c .before .before .before .before .before .args .place) (c .before .before .before .before .before .args .task)
+    (c .before .before .before .before .before .args .place) (marked (now (c .before .before .before .before .before .args .tasks)))
     (replicate 8 (allByte false))
 clear-is c =
     let a = c .before .before .before .before .before .args in
     c .before .with-literals .ensures
-    ∙ ap (λ (x : List ℕ). made (now (a .plan)) (a .place) (a .task) x) (c .before .before .all .ensures)
+    ∙ ap (λ (x : List ℕ). made (now (a .plan)) (a .place) (marked (now (a .tasks))) x) (c .before .before .all .ensures)
 
 set-is : (c : tie.After-with-literals2 Inv-loop μ-loop)
     → c .with-literals2 .result .bytes
     ≡ made (now (c .before .before .before .before .before .before .args .plan))
     (c .before .before .before .before .before .before .args .place)
-    (c .before .before .before .before .before .before .args .task) (replicate 8 (allByte true))
+    (marked (now (c .before .before .before .before .before .before .args .tasks))) (replicate 8 (allByte true))
 set-is c =
     let a = c .before .before .before .before .before .before .args in
-    c .with-literals2 .ensures ∙ ap (λ (x : List ℕ). made (now (a .plan)) (a .place) (a .task) x)
+    c .with-literals2 .ensures ∙ ap (λ (x : List ℕ). made (now (a .plan)) (a .place) (marked (now (a .tasks))) x)
     (c .before .all2 .ensures)
 
 loop-holds : tie.Need-loop-holds Inv-loop μ-loop

@@ -1,25 +1,27 @@
 -- `run_conditions::with_literals` meets its contract. Assumes nothing.
-use mathlib.Core.Path.{_≡_, sym, ap, _∙_}
+use mathlib.Core.Path.{_≡_, refl, sym, ap, _∙_}
 use mathlib.Core.Logic.{⊎-elim}
-use Prim.Native.Nat.{_≤_, _-_}
+use Prim.Native.Nat.{ℕ, _≤_, _+_, _-_}
 use denote.Ref.{now}
 use Rattle.run_flags.specs.declared.Flags.{Flags}
 use Rattle.plan_format.specs.Format.{condCount}
 use Rattle.plan_check.proofs.Accepted.{clean}
 use Rattle.run_state.specs.Made.{literals, made}
+use Rattle.run_tasks.specs.Sets.{marked}
 use Rattle.run_conditions.proofs.Laws.{literals-none, literals-turn, literals-kept}
 use native.Mathlib.Omega.{arith}
 use Rattle.run_conditions.proofs.with_literals.Statement.{statement}
 use Rattle.run_conditions.proofs.with_literals.Tie as tie
 
 abbrev Inv-loop : tie.InvT-loop
-Inv-loop plan place task n next₀ i₀ next i = (i ≤ n) × (next .bytes ≡ literals plan place task i (next₀ .bytes))
+Inv-loop plan place tasks next₀ i₀ next i = (i ≤ condCount plan)
+    × (literals plan place (marked tasks) i₀ (next₀ .bytes) ≡ literals plan place (marked tasks) i (next .bytes))
 
 abbrev μ-loop : tie.MeasureT-loop
-μ-loop plan place task n next₀ i₀ next i = n - i
+μ-loop plan place tasks next₀ i₀ next i = i
 
 loop-holds : tie.Need-loop-holds Inv-loop μ-loop
-loop-holds c = (omega arith, literals-none _ _ _ _)
+loop-holds c = (omega arith, refl)
 
 is-of-requires : tie.Need-is-of-requires Inv-loop μ-loop
 is-of-requires c κs = (omega arith, c .before .before .before .before .pre)
@@ -30,30 +32,40 @@ flag-at-requires c κs = (omega arith, c .before .before .before .before .before
 set-at-requires : tie.Need-set-at-requires Inv-loop μ-loop
 set-at-requires c κs = (omega arith, c .before .before .before .before .before .before .before .pre)
 
-with-requires : tie.Need-with-requires Inv-loop μ-loop
-with-requires c κs = omega arith
-
 loop-again : tie.Need-loop-again Inv-loop μ-loop
 loop-again c =
+    let l = c .before .before .before .before .before .before in
+    let a = l .before .before .before .args in
+    let k : l .loop .i ≡ l .loop .i - 1 + 1 = omega arith in (
+      omega arith,
+      l .loop .inv .1
+          ∙ ap (λ (i : ℕ). literals (now (a .plan)) (a .place) (marked (now (a .tasks))) i (l .loop .next .bytes)) k
+          ∙ literals-turn (now (a .plan)) (a .place) (marked (now (a .tasks))) (l .loop .i - 1) (l .loop .next .bytes) _ _
+          (c .before .before .flag-at .ensures .0) (c .before .set-at .ensures)
+          (sym (c .before .before .before .before .is-of .ensures) ∙ c .before .before .before .if1 .taken)
+          ∙ ap (literals (now (a .plan)) (a .place) (marked (now (a .tasks))) (l .loop .i - 1)) (sym (c .with .ensures)),
+    )
+
+loop-again-2 : tie.Need-loop-again-2 Inv-loop μ-loop
+loop-again-2 c =
     let l = c .before .before .before in
     let a = l .before .before .before .args in
-    let k = c .before .is-of .ensures in (
+    let k : l .loop .i ≡ l .loop .i - 1 + 1 = omega arith in (
       omega arith,
-      ⊎-elim
-          (λ w. ap (λ (f : Flags). f .bytes) (w .4) ∙ w .3 .ensures
-          ∙ literals-turn _ _ _ _ (l .loop .i) _ _ _ (l .loop .inv .1) (w .1 .ensures .0) (w .2 .ensures)
-          (sym k ∙ w .0 .taken))
-          (λ w. ap (λ (f : Flags). f .bytes) (w .1) ∙ l .loop .inv .1
-          ∙ literals-kept _ _ _ _ (l .loop .i) (sym k ∙ w .0 .left))
-          (c .if1 .came),
+      l .loop .inv .1
+          ∙ ap (λ (i : ℕ). literals (now (a .plan)) (a .place) (marked (now (a .tasks))) i (l .loop .next .bytes)) k
+          ∙ literals-kept (now (a .plan)) (a .place) (marked (now (a .tasks))) (l .loop .i - 1) _ (sym (c .before .is-of .ensures) ∙ c .if1 .left),
     )
 
 returns : tie.Need-returns Inv-loop μ-loop
 unfolding made
 returns c =
     let l = c .before in
-    let e : l .loop .i ≡ condCount (now (l .before .before .before .args .plan)) = omega arith in
-    rw (← e) (l .loop .inv .1)
+    let e : l .loop .i ≡ 0 = omega arith in
+    let a = l .before .before .before .args in
+    sym (rw (c .before .before .conditions .ensures) at (l .loop .inv .1
+    ∙ ap (λ (i : ℕ). literals (now (a .plan)) (a .place) (marked (now (a .tasks))) i (l .loop .next .bytes)) e
+    ∙ literals-none _ _ _ _))
 
 pub with-literals-spec : {M : Type 1} → statement M
 with-literals-spec =
@@ -63,11 +75,13 @@ with-literals-spec =
     μ-loop
     (λ c κs. clean _ (c .before .pre) .fits .limits .long)
     loop-holds
+    (λ c. omega arith)
     is-of-requires
     flag-at-requires
     set-at-requires
-    with-requires
-    (λ c. omega arith)
+    (λ c κs. omega arith)
     (λ c. omega arith)
     loop-again
+    (λ c. omega arith)
+    loop-again-2
     returns)

@@ -1,6 +1,6 @@
 -- `refused` meets its contract. Assumes nothing.
 use mathlib.Core.Path.{_≡_, sym, ap, _∙_}
-use mathlib.Core.Bool.{true}
+use mathlib.Core.Bool.{Bool, true, false, cond}
 use Prim.Native.Nat.{_<_}
 use denote.Ref.{now}
 use borrow.Author.Tests.{not-true, not-false}
@@ -14,7 +14,7 @@ use Rattle.runs.specs.Model.Monitor.{incBrokenB}
 use Rattle.run_starts.specs.Starts.{nodeByte}
 use Rattle.run_state.specs.State.{statusIn}
 use Rattle.run_state.proofs.Passed.{has-room}
-use Rattle.run_refusals.specs.Events.{eventOf}
+use Rattle.run_refusals.specs.Events.{eventOf, eventRefusal}
 use Rattle.run_refusals.specs.Parts.{beginRefusal}
 use Rattle.run_refusals.proofs.Chain.{asks-of, place-is, node-of, task-event, answer-17, answer-18, answer-begin}
 use Rattle.run_refusals.proofs.Chain.{answer-broken, broken-by}
@@ -52,21 +52,19 @@ begun : (c : tie.Else3) → beginRefusal
     (c .before .before .before .before .before .before .before .before .before .args .task)) ≡ 0
 begun c = sym (c .before .begin-refused .ensures) ∙ c .if3 .left
 
+abbrev start : tie.After-inc-broken → tie.Start
+start c = c .before .before .before .before .before .before .before .before .before .before .before .before .before
+
 broken : (c : tie.After-inc-broken)
-    → incBrokenB (planOf (now (c .before .before .before .before .before .before .before .before .before .before .before
-    .args .plan))) (statusIn (now (c .before .before .before .before .before .before .before .before .before .before
-    .before .args .plan)) (now (c .before .before .before .before .before .before .before .before .before .before
-    .before .args .state))) (eventOf
-    (c .before .before .before .before .before .before .before .before .before .before .before .args .m)
-    (c .before .before .before .before .before .before .before .before .before .before .before .args .task))
-    ≡ c .inc-broken .result
+    → incBrokenB (planOf (now (start c .args .plan))) (statusIn (now (start c .args .plan)) (now (start c .args .state)))
+    (eventOf (start c .args .m) (start c .args .task)) ≡ c .inc-broken .result
 broken c =
-    let s = c .before .before .before .before .before .before .before .before .before .before .before in
+    let s = start c in
     sym (broken-by (now (s .args .plan)) (now (s .args .state)) (s .pre) (s .args .task)
     (eventOf (s .args .m) (s .args .task)) (node-of (s .args .m) (s .args .task))
     (task-event (s .args .m) (s .args .task)) _
-    (c .before .place-of .ensures ∙ ap (λ (k : Place). placeNumber k) (place-is (s .args .m) (s .args .task))) _
-    (c .inc-broken .ensures))
+    (c .before .before .place-of .ensures ∙ ap (λ (k : Place). placeNumber k) (place-is (s .args .m) (s .args .task)))
+    _ (c .before .before .before .mark-one .ensures) _ (c .inc-broken .ensures))
 
 returns : tie.Need-returns
 returns c = answer-17 _ _ (c .before .before .before .before .pre) (c .before .before .before .before .args .task) _
@@ -105,21 +103,26 @@ returns-3 c = let s = c .before .before .before .before .before .before .before 
     (is-task (c .before .before .before .before .before)) (as-asked (c .before .before)) _
     (c .before .begin-refused .ensures) (c .if3 .taken)
 
+mark-one-requires : tie.Need-mark-one-requires
+mark-one-requires c κs = omega (
+  arith,
+  task-below (c .before .before .before .before .before),
+  has-room _ _ (c .before .before .before .before .before .before .before .before .before .pre) .plan .fits .limits .nodes,
+)
+
+-- 22, the last
+last : (c : tie.After-inc-broken) (v : Bool) → c .inc-broken .result ≡ v → cond v 22 0 ≡ eventRefusal
+    (now (start c .args .plan)) (now (start c .args .state)) (eventOf (start c .args .m) (start c .args .task))
+last c v q = let s = start c in
+    answer-broken _ _ (s .pre) (s .args .task) _ (node-of (s .args .m) (s .args .task))
+    (task-event (s .args .m) (s .args .task)) (is-task (c .before .before .before .before .before .before .before .before .before)) (as-asked (c .before .before .before .before .before .before)) (begun (c .before .before .before .before)) v
+    (broken c ∙ q)
+
 returns-4 : tie.Need-returns-4
-returns-4 c = let s = c .before .before .before .before .before .before .before .before .before .before .before .before
-    in answer-broken _ _ (s .pre) (s .args .task) _ (node-of (s .args .m) (s .args .task))
-    (task-event (s .args .m) (s .args .task))
-    (is-task (c .before .before .before .before .before .before .before .before))
-    (as-asked (c .before .before .before .before .before)) (begun (c .before .before .before)) _
-    (broken (c .before) ∙ c .if4 .taken)
+returns-4 c = last (c .before) true (c .if4 .taken)
 
 returns-5 : tie.Need-returns-5
-returns-5 c = let s = c .before .before .before .before .before .before .before .before .before .before .before .before
-    in answer-broken _ _ (s .pre) (s .args .task) _ (node-of (s .args .m) (s .args .task))
-    (task-event (s .args .m) (s .args .task))
-    (is-task (c .before .before .before .before .before .before .before .before))
-    (as-asked (c .before .before .before .before .before)) (begun (c .before .before .before)) _
-    (broken (c .before) ∙ c .if4 .left)
+returns-5 c = last (c .before) false (c .if4 .left)
 
 pub refused-spec : {M : Type 1} → statement M
 refused-spec =
@@ -133,7 +136,8 @@ refused-spec =
     returns-2
     begin-refused-requires
     returns-3
+    mark-one-requires
     (λ c κs. tt)
-    (λ c κs. c .before .before .before .before .before .before .before .before .before .before .pre)
+    (λ c κs. c .before .before .before .before .before .before .before .before .before .before .before .before .pre)
     returns-4
     returns-5)

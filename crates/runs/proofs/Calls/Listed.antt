@@ -1,10 +1,11 @@
 -- Lists of numbers: what is among them, and lists that strictly rise.
-use Rattle.runs.proofs.Base.{_≡_, refl, _≢_, _⊎_, inl, inr, Bool, List, [], _∷_, Among, here, there}
-use Rattle.runs.proofs.Base.{among-none, among-cases, ℕ, _<_, arith, eqb}
+use Rattle.runs.proofs.Base.{_≡_, refl, _≢_, _⊎_, inl, inr, Bool, true, false, List, [], _∷_, Among, here, there}
+use Rattle.runs.proofs.Base.{among-none, among-cases, ℕ, _<_, arith, T, eqb}
 use Rattle.runs.specs.Tests.{anyIn}
 use Rattle.runs.specs.Calls.{SomeOf, Rising, empty, single, rising, NotRising}
 use Rattle.runs.specs.Model.Monitor.{risingB, notRisingB}
 use Rattle.runs.proofs.Reflect.{clash, Reflects, r-map, decided, r-both, r-either, r-false, r-negate, r-eq, r-lt}
+use Rattle.runs.proofs.Reflect.{r-T, true-T, T-true}
 
 -- a test of some number of a list
 pub r-some-of : (P : ℕ → Type 0) (ts : List ℕ) (g : ℕ → Bool) → ((t : ℕ) → Reflects (g t) (P t))
@@ -21,6 +22,20 @@ r-some-of P (t ∷ ts) g r = r-map (to, λ x. from (x .0) (among-cases (x .1)) (
     from : (u : ℕ) → (u ≡ t) ⊎ Among u ts → P u → P t ⊎ SomeOf ts P
     from u (inl q) x = inl (rw q at x)
     from u (inr i) x = inr (u, i, x)
+
+-- tests that agree on the numbers of a list; a test that none of them passes
+pub any-same : (ts : List ℕ) (g h : ℕ → Bool) → ((t : ℕ) → Among t ts → g t ≡ h t) → anyIn ts g ≡ anyIn ts h
+unfolding anyIn
+any-same [] g h e = refl
+any-same (t ∷ ts) g h e = rw (e t (here refl), any-same ts g h (λ x i. e x (there i)))
+
+pub none-in : (ts : List ℕ) (g : ℕ → Bool) → anyIn ts g ≡ false → (t : ℕ) → Among t ts → g t ≡ false
+none-in ts g e t i = go (g t) refl
+  where
+    go : (v : Bool) → g t ≡ v → v ≡ false
+    go false q = refl
+    go true q = let z : anyIn ts g ≡ true =
+        T-true _ ((r-some-of (λ x. T (g x)) ts g (λ x. r-T (g x))) .from (t, i, true-T _ q)) in clash cc
 
 pub decAmong : (t : ℕ) (ts : List ℕ) → Dec (Among t ts)
 decAmong t ts = decided (r-map (λ x. rw (x .2) at (x .1), λ i. (t, i, refl))
@@ -56,6 +71,10 @@ pub rising-above : {t u : ℕ} {ts : List ℕ} → Rising (t ∷ ts) → Among u
 rising-above (rising l r) (here q) = rw q l
 rising-above (rising l r) (there i) = omega (arith, l, rising-above r i)
 rising-above single i = absurd (among-none i)
+
+pub rising-tail : {t : ℕ} {ts : List ℕ} → Rising (t ∷ ts) → Rising ts
+rising-tail single = empty
+rising-tail (rising l r) = r
 
 pub rising-once : {t : ℕ} {ts : List ℕ} → Rising (t ∷ ts) → ¬ Among t ts
 rising-once r i = omega (arith, rising-above r i)

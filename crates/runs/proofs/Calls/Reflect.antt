@@ -185,7 +185,7 @@ module _ (p : Plan) (w : WellFormed p) where
     λ x. (x .on, pre-flag p w e (x .needs), x .needs ∙ ap some (sym (ap not (x .unmet) ∙ not-not (x .sign)))),
   ) (r-any (λ f. preOf (p .cond) e f ≡ some (not (flag f))) _ _ (λ f. r-some _ _))
 
-  r-post-opposed : (ts : List ℕ) → Reflects (postOpposedB p ts) (PostOpposed p ts)
+  pub r-post-opposed : (ts : List ℕ) → Reflects (postOpposedB p ts) (PostOpposed p ts)
   unfolding postOpposedB
   r-post-opposed ts = r-map (to, from) (r-some-of (λ t. SomeOf ts (λ x. (f : ℕ) × (f < p .cond .flags) × Opposes t x f))
       ts _ (λ t. r-some-of (λ x. (f : ℕ) × (f < p .cond .flags) × Opposes t x f) ts _ (λ x. r-any (Opposes t x) _ _ (λ

@@ -1,17 +1,28 @@
 -- Several finishes in one step (02): they move on the listed tasks and make their leavings true, nothing else, and
 -- their order is immaterial; after an execution in which the listed tasks run, their finishes one by one are an
 -- execution.
-use Rattle.runs.proofs.Base.{_≡_, refl, sym, ap, _∙_, fun-ext, _≢_, _⊎_, inl, inr, _↔_, Bool, true, false, not}
+use Rattle.runs.proofs.Base.{_≡_, refl, sym, ap, _∙_, fun-ext, _≢_, _⊎_, inl, inr, _↔_, Bool, true, false, not, Bool-discrete}
 use Rattle.runs.proofs.Base.{Option, none, some, List, [], _∷_, _++_, Among, here, there, among-none, among-cases}
 use Rattle.runs.proofs.Base.{ℕ, ℕ-discrete}
-use Rattle.runs.specs.Plan.{post, Plan}
+use Rattle.runs.specs.Plan.{inc, post, Plan, WellFormed}
 use Rattle.runs.specs.Execution.{Status, waiting, running, done, State, Event, finish, History, moved, statusAfter}
 use Rattle.runs.specs.Execution.{Enabled, can-finish, Execution, one-more, preOf, Earlier}
-use Rattle.runs.specs.Calls.{together, finishes, SomeOf, Rising, empty, single, rising, World, happenAll}
+use Rattle.runs.specs.Calls.{together, finishes, SomeOf, Rising, empty, single, rising, World, fresh, happenAll}
 use Rattle.runs.specs.Calls.{inc-broken, IncBroken, PostOpposed, Applies}
-use Rattle.runs.proofs.Reflect.{clash, decided, force, r-negate, r-none}
+use Rattle.runs.proofs.Reflect.{clash, not-not, decided, force, r-negate, r-none}
 use Rattle.runs.proofs.Execution.{moved-same, moved-other, after-other, earlier-inv}
+use Rattle.runs.proofs.Calls.Reflect.{r-post-opposed}
 use Rattle.runs.proofs.Calls.Listed.{r-some-of, decAmong, rising-once}
+
+agree : (b c : Bool) → b ≢ not c → b ≡ c
+agree true true n = refl
+agree true false n = absurd (n refl)
+agree false true n = absurd (n refl)
+agree false false n = refl
+
+differ : (b : Bool) → b ≢ not b
+differ true q = clash cc
+differ false q = clash cc
 
 module _ (p : Plan) (a : World) where
   -- the states after the step
@@ -99,12 +110,6 @@ module _ (p : Plan) (a : World) where
     leaving-true (x ∷ ts) k v t i lv = go (p .cond .sign post x f) refl (among-cases i) (λ j. leaving-true ts (λ o. k
         (opposed-more (λ y. there) o)) v t j lv)
       where
-        agree : (b c : Bool) → b ≢ not c → b ≡ c
-        agree true true n = refl
-        agree true false n = absurd (n refl)
-        agree false true n = absurd (n refl)
-        agree false false n = refl
-
         go : (o : Option Bool) → p .cond .sign post x f ≡ o → (t ≡ x) ⊎ Among t ts → (Among t ts → Finished ts .flag f ≡
             v) → Finished (x ∷ ts) .flag f ≡ v
         go none q (inl e) ih = clash cc
@@ -134,12 +139,29 @@ module _ (p : Plan) (a : World) where
   ordinals-stay [] x = refl
   ordinals-stay (t ∷ ts) x = ordinals-stay ts x
 
+  -- some listed task has a leaving on the flag, or none has
+  left-or-none : (f : ℕ) (ts : List ℕ)
+      → ((t : ℕ) × Among t ts × ((v : Bool) × (p .cond .sign post t f ≡ some v)))
+      ⊎ ((t : ℕ) → Among t ts → p .cond .sign post t f ≡ none)
+  left-or-none f ts = go (decided (r-some-of (λ t. p .cond .sign post t f ≢ none) ts _ (λ t. r-negate _ (r-none _))))
+    where
+      left : (t : ℕ) → Among t ts → (o : Option Bool) → p .cond .sign post t f ≡ o → o ≢ none
+          → (u : ℕ) × Among u ts × ((v : Bool) × (p .cond .sign post u f ≡ some v))
+      left t i none q n = absurd (n refl)
+      left t i (some v) q n = (t, i, (v, q))
+
+      go : Dec (SomeOf ts (λ t. p .cond .sign post t f ≢ none))
+          → ((t : ℕ) × Among t ts × ((v : Bool) × (p .cond .sign post t f ≡ some v)))
+          ⊎ ((t : ℕ) → Among t ts → p .cond .sign post t f ≡ none)
+      go (yes (t, i, n)) = inl (left t i (p .cond .sign post t f) refl n)
+      go (no n) = inr (λ t i. force (decided (r-none _)) (λ m. n (t, i, m)))
+
   -- so, unless 26 applies, lists of the same numbers come to the same: the order of the finishes is immaterial
-  pub any-order : (ts us : List ℕ) → ((x : ℕ) → Among x ts ↔ Among x us) → ¬ PostOpposed p ts → Finished ts ≡ Finished
-      us
+  pub any-order : (ts us : List ℕ) → ((x : ℕ) → Among x ts ↔ Among x us) → ¬ PostOpposed p ts
+      → Finished ts ≡ Finished us
   any-order ts us e k = λ i. record {
     status = fun-ext (λ x. status x (decAmong x ts)) i;
-    flag = fun-ext flag i;
+    flag = fun-ext (λ f. flag f (left-or-none f ts)) i;
     starts = (starts-stay ts ∙ sym (starts-stay us)) i;
     ordinal = fun-ext (λ x. ordinals-stay ts x ∙ sym (ordinals-stay us x)) i;
   }
@@ -148,22 +170,102 @@ module _ (p : Plan) (a : World) where
       status x (yes i) = finished ts x i ∙ sym (finished us x ((e x) .0 i))
       status x (no n) = others-stay ts x n ∙ sym (others-stay us x (λ i. n ((e x) .1 i)))
 
-      flag : (f : ℕ) → Finished ts .flag f ≡ Finished us .flag f
-      flag f = go (decided (r-some-of (λ t. p .cond .sign post t f ≢ none) ts _ (λ t. r-negate _ (r-none _))))
+      flag : (f : ℕ) → ((t : ℕ) × Among t ts × ((v : Bool) × (p .cond .sign post t f ≡ some v)))
+          ⊎ ((t : ℕ) → Among t ts → p .cond .sign post t f ≡ none) → Finished ts .flag f ≡ Finished us .flag f
+      flag f (inl (t, i, (v, q))) = leaving-true f ts k v t i q
+          ∙ sym (leaving-true f us (λ o. k (opposed-more (λ x. (e x) .1) o)) v t ((e t) .0 i) q)
+      flag f (inr n) = flag-stays f ts n ∙ sym (flag-stays f us (λ t i. n t ((e t) .1 i)))
+
+-- ---- 26 and 22 by the flags after the step
+-- a listed task has a leaving that is not true then
+pub record Unkept (p : Plan) (a : World) (ts : List ℕ) : Type 0 where
+  pub who : ℕ
+  pub on : ℕ
+  pub sign : Bool
+  pub listed : Among who ts
+  pub leaves : p .cond .sign post who on ≡ some sign
+  pub turned : happenAll p a (finishes ts) .flag on ≡ not sign
+
+-- a task that runs and is not listed has a hold, and flags that were all as it says are not so then
+pub record Turned (p : Plan) (a : World) (ts : List ℕ) : Type 0 where
+  pub who : ℕ
+  pub on : ℕ
+  pub sign : Bool
+  pub unlisted : ¬ Among who ts
+  pub runs : a .status who ≡ running
+  pub holds : p .cond .sign inc who on ≡ some sign
+  pub turned : happenAll p (fresh (λ f. sign)) (finishes ts) .flag on ≡ not sign
+
+module _ (p : Plan) (w : WellFormed p) (a : World) (ts : List ℕ) where
+  pub opposed-unkept : PostOpposed p ts ↔ Unkept p a ts
+  opposed-unkept = (λ x. to x (happenAll p a (finishes ts) .flag (x .on)) refl, λ x. from x (decided (r-post-opposed p w ts)))
+    where
+      to : (x : PostOpposed p ts) (v : Bool) → happenAll p a (finishes ts) .flag (x .on) ≡ v → Unkept p a ts
+      to x v q = go (Bool-discrete v (not (x .sign)))
         where
-          left : (t : ℕ) → Among t ts → (o : Option Bool) → p .cond .sign post t f ≡ o → o ≢ none → Finished ts .flag f
-              ≡ Finished us .flag f
-          left t i none q n = absurd (n refl)
-          left t i (some v) q n = leaving-true f ts k v t i q ∙ sym (leaving-true f us (λ o. k (opposed-more (λ x. (e x)
-              .1) o)) v t ((e t) .0 i) q)
+          go : Dec (v ≡ not (x .sign)) → Unkept p a ts
+          go (yes e) = record {
+            who = x .who;
+            on = x .on;
+            sign = x .sign;
+            listed = x .listed;
+            leaves = x .leaves;
+            turned = q ∙ e;
+          }
+          go (no n) = record {
+            who = x .other;
+            on = x .on;
+            sign = not (x .sign);
+            listed = x .other-listed;
+            leaves = x .opposes;
+            turned = q ∙ agree v (x .sign) n ∙ sym (not-not (x .sign));
+          }
 
-          none-left : ¬ SomeOf ts (λ t. p .cond .sign post t f ≢ none) → (t : ℕ) → Among t ts → p .cond .sign post t f ≡
-              none
-          none-left n t i = force (decided (r-none _)) (λ m. n (t, i, m))
+      from : (x : Unkept p a ts) → Dec (PostOpposed p ts) → PostOpposed p ts
+      from x (yes o) = o
+      from x (no n) = absurd (differ (x .sign)
+          (sym (leaving-true p a (x .on) ts n (x .sign) (x .who) (x .listed) (x .leaves)) ∙ x .turned))
 
-          go : Dec (SomeOf ts (λ t. p .cond .sign post t f ≢ none)) → Finished ts .flag f ≡ Finished us .flag f
-          go (yes (t, i, n)) = left t i (p .cond .sign post t f) refl n
-          go (no n) = flag-stays f ts (none-left n) ∙ sym (flag-stays f us (λ t i. none-left n t ((e t) .1 i)))
+  pub broken-turned : ¬ PostOpposed p ts → Applies p a (together ts) inc-broken ↔ Turned p a ts
+  broken-turned k = (λ x. to ((broken-unlisted p a ts) .0 x), λ x. (broken-unlisted p a ts) .1 (from x))
+    where
+      to : SomeOf ts (λ t. (b : IncBroken p (a .status) (finish t)) × (¬ Among (b .who) ts)) → Turned p a ts
+      to (t, i, (b, n)) = record {
+        who = b .who;
+        on = b .on;
+        sign = b .sign;
+        unlisted = n;
+        runs = b .runs;
+        holds = b .holds;
+        turned = leaving-true p (fresh (λ f. b .sign)) (b .on) ts k (not (b .sign)) t i (b .breaks);
+      }
+
+      from : Turned p a ts → SomeOf ts (λ t. (b : IncBroken p (a .status) (finish t)) × (¬ Among (b .who) ts))
+      from x = go (left-or-none p a (x .on) ts)
+        where
+          flags : World
+          flags = fresh (λ f. x .sign)
+
+          go : ((t : ℕ) × Among t ts × ((v : Bool) × (p .cond .sign post t (x .on) ≡ some v)))
+              ⊎ ((t : ℕ) → Among t ts → p .cond .sign post t (x .on) ≡ none)
+              → SomeOf ts (λ t. (b : IncBroken p (a .status) (finish t)) × (¬ Among (b .who) ts))
+          go (inr n) = absurd (differ (x .sign) (sym (flag-stays p flags (x .on) ts n) ∙ x .turned))
+          go (inl (t, i, (v, q))) = (
+            t,
+            i,
+            (
+              record {
+                who = x .who;
+                on = x .on;
+                sign = x .sign;
+                another = λ e. x .unlisted (rw e at i);
+                runs = x .runs;
+                holds = x .holds;
+                breaks = q ∙ ap some (sym (leaving-true p flags (x .on) ts k v t i q) ∙ x .turned);
+              },
+              x .unlisted,
+            ),
+          )
 
 -- the states after a history
 after-finishes : (ts : List ℕ) (h : History) (x : ℕ) → ¬ Among x ts → statusAfter (finishes ts ++ h) x ≡ statusAfter h x

@@ -1,4 +1,4 @@
--- `run_conditions::pre_unmet` meets its contract. Assumes nothing.
+-- `run_conditions::unmet` meets its contract. Assumes nothing.
 use mathlib.Core.Path.{_≡_, sym, _∙_}
 use mathlib.Core.Bool.{false}
 use Prim.Native.Nat.{_≤_, _-_}
@@ -7,16 +7,18 @@ use Rattle.plan_format.specs.Format.{condCount}
 use Rattle.runs.specs.Tests.{anyBelow}
 use Rattle.plan_rules.proofs.Laws.{some-yes, none-more, none-none}
 use Rattle.plan_check.proofs.Accepted.{clean}
+use Rattle.run_tasks.specs.Sets.{marked}
 use Rattle.run_conditions.specs.Conditions.{unmetAt}
 use native.Mathlib.Omega.{arith}
-use Rattle.run_conditions.proofs.pre_unmet.Statement.{statement}
-use Rattle.run_conditions.proofs.pre_unmet.Tie as tie
+use Rattle.run_conditions.proofs.unmet.Statement.{statement}
+use Rattle.run_conditions.proofs.unmet.Tie as tie
 
 abbrev Inv-loop : tie.InvT-loop
-Inv-loop plan flags task n i₀ i = (i ≤ n) × (anyBelow i (unmetAt plan (flags .bytes) task) ≡ false)
+Inv-loop plan place tasks flags n i₀ i = (i ≤ n)
+    × (anyBelow i (unmetAt plan place (marked tasks) (flags .bytes)) ≡ false)
 
 abbrev μ-loop : tie.MeasureT-loop
-μ-loop plan flags task n i₀ i = n - i
+μ-loop plan place tasks flags n i₀ i = n - i
 
 loop-holds : tie.Need-loop-holds Inv-loop μ-loop
 loop-holds c = (omega arith, none-none _)
@@ -42,8 +44,8 @@ returns-2 c =
     let e : l .loop .i ≡ condCount (now (l .before .before .before .args .plan)) = omega arith in
     sym (rw e at (l .loop .inv .1))
 
-pub pre-unmet-spec : {M : Type 1} → statement M
-pre-unmet-spec =
+pub unmet-spec : {M : Type 1} → statement M
+unmet-spec =
     tie.close
     (tie.spec
     Inv-loop

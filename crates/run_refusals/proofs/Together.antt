@@ -1,0 +1,105 @@
+-- The chain of refusals of several finishes in one step: 25, 17, 18, 26 and 22. Assumes nothing.
+use mathlib.Core.Path.{_≡_, refl, sym, ap, _∙_, fun-ext}
+use mathlib.Core.Bool.{Bool, true, false, cond, not, true≢false}
+use mathlib.Core.List.{List}
+use mathlib.Core.Option.{none}
+use Prim.Native.Nat.{ℕ}
+use lib.ListN.{take, replicate}
+use lib.Dec.{eqb}
+use borrow.Author.Tests.{eqb-true, not-false}
+use Rattle.run_flags.specs.Flags.{allByte}
+use Rattle.plan_format.specs.Format.{isKind, condCount}
+use Rattle.plan_check.specs.Meaning.{planOf}
+use Rattle.runs.specs.Plan.{post, placeNumber}
+use Rattle.runs.specs.Execution.{running}
+use Rattle.runs.specs.Calls.{together, Rising, no-task, wrong-status, inc-broken, not-rising, post-opposed}
+use Rattle.runs.specs.Model.Monitor.{returned, refusalOf, firstOf, orElse, code, appliesB, taskB, statusB, wrongStatusB}
+use Rattle.runs.specs.Model.Monitor.{notRisingB, postOpposedB}
+use Rattle.runs.specs.Tests.{anyBelow, anyIn, negate}
+use Rattle.runs.proofs.Reflect.{T-true}
+use Rattle.runs.proofs.Calls.Listed.{r-not-rising, any-same, none-in, rises}
+use Rattle.run_starts.specs.Starts.{nodeByte}
+use Rattle.run_state.specs.State.{stateRefusal, statusIn, worldOf}
+use Rattle.run_state.specs.Made.{made}
+use Rattle.run_tasks.specs.Sets.{listed, Each}
+use Rattle.run_conditions.specs.Conditions.{unmetAt, brokenAt}
+use Rattle.run_conditions.proofs.Refusals.{opposed-is, broken-unless}
+use Rattle.run_refusals.specs.Events.{callRefusal}
+use Rattle.run_refusals.proofs.Chain.{task-is, status-is}
+
+together-chain : (a b c d e : Bool) → code
+    (orElse a not-rising (λ u. orElse b no-task (λ u. orElse c wrong-status
+    (λ u. orElse d post-opposed (λ u. orElse e inc-broken (λ u. none))))))
+    ≡ cond a 25 (cond b 17 (cond c 18 (cond d 26 (cond e 22 0))))
+together-chain true b c d e = refl
+together-chain false true c d e = refl
+together-chain false false true d e = refl
+together-chain false false false true e = refl
+together-chain false false false false true = refl
+together-chain false false false false false = refl
+
+module _ (b s : List ℕ) (ok : stateRefusal b s ≡ 0) (ts : List ℕ) where
+  abbrev answer : ℕ
+  answer = callRefusal b s (together ts)
+
+  chain : answer ≡ cond (notRisingB ts) 25 (cond (anyIn ts (λ t. not (taskB (planOf b) t))) 17
+      (cond (anyIn ts (λ t. not (statusB (statusIn b s t) running))) 18
+      (cond (postOpposedB (planOf b) ts) 26 (cond (appliesB (planOf b) (worldOf b s) (together ts) inc-broken) 22 0))))
+  unfolding returned refusalOf firstOf appliesB wrongStatusB worldOf negate
+  chain = together-chain (notRisingB ts) (anyIn ts (λ t. not (taskB (planOf b) t)))
+      (anyIn ts (λ t. not (statusB (statusIn b s t) running))) (postOpposedB (planOf b) ts)
+      (appliesB (planOf b) (worldOf b s) (together ts) inc-broken)
+
+  pub together-25 : notRisingB ts ≡ true → 25 ≡ answer
+  together-25 y = sym (chain ∙ rw y)
+
+  module _ (y : notRisingB ts ≡ false) where
+    pub is-rising : Rising ts
+    is-rising = rises (λ k. true≢false (sym (T-true _ (r-not-rising ts .from k)) ∙ y))
+
+    abbrev unfit : ℕ → Bool
+    unfit t = not (isKind b t 0)
+
+    abbrev idle : ℕ → Bool
+    idle t = not (eqb (nodeByte s t) 1)
+
+    unfit-is : anyIn ts unfit ≡ anyIn ts (λ t. not (taskB (planOf b) t))
+    unfit-is = ap (anyIn ts) (fun-ext (λ t. ap not (task-is b s ok t)))
+
+    pub together-17 : anyIn ts unfit ≡ true → 17 ≡ answer
+    together-17 z = sym (chain ∙ rw (y, sym unfit-is ∙ z))
+
+    module _ (z : anyIn ts unfit ≡ false) where
+      pub tasks : Each ts (λ t. isKind b t 0 ≡ true)
+      tasks t i = not-false _ (none-in ts unfit z t i)
+
+      idle-is : anyIn ts idle ≡ anyIn ts (λ t. not (statusB (statusIn b s t) running))
+      idle-is = any-same ts _ _ (λ t i. ap not (status-is b s ok t (tasks t i) running))
+
+      pub together-18 : anyIn ts idle ≡ true → 18 ≡ answer
+      together-18 x = sym (chain ∙ rw (y, sym unfit-is ∙ z, sym idle-is ∙ x))
+
+      module _ (x : anyIn ts idle ≡ false) where
+        pub running-all : Each ts (λ t. nodeByte s t ≡ 1)
+        running-all t i = eqb-true _ _ (not-false _ (none-in ts idle x t i))
+
+        rest : answer ≡ cond (postOpposedB (planOf b) ts) 26
+            (cond (appliesB (planOf b) (worldOf b s) (together ts) inc-broken) 22 0)
+        rest = chain ∙ rw (y, sym unfit-is ∙ z, sym idle-is ∙ x)
+
+        abbrev q : ℕ
+        q = placeNumber post
+
+        -- by what the function has at hand
+        pub together-26 : (M : ℕ → Bool) → M ≡ listed ts → (next : List ℕ) → next ≡ made b q M (take 8 s) → (r : Bool)
+            → r ≡ anyBelow (condCount b) (unmetAt b q M next) → r ≡ postOpposedB (planOf b) ts
+        together-26 M m next n r h = rw (n, m) at h ∙ opposed-is b s ok ts is-rising
+
+        pub opposed : postOpposedB (planOf b) ts ≡ true → 26 ≡ answer
+        opposed v = sym (rest ∙ rw v)
+
+        pub unopposed : postOpposedB (planOf b) ts ≡ false → (M : ℕ → Bool) → M ≡ listed ts → (r : Bool)
+            → r ≡ anyBelow (condCount b) (brokenAt b s (made b q M (replicate 8 (allByte false)))
+            (made b q M (replicate 8 (allByte true))) M) → cond r 22 0 ≡ answer
+        unopposed v M m r h = ap (λ (x : Bool). cond x 22 0) (rw m at h ∙ broken-unless b s ok ts is-rising v)
+            ∙ sym (rest ∙ rw v)

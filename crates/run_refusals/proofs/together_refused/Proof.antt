@@ -1,0 +1,99 @@
+-- `together_refused` meets its contract. Assumes nothing.
+use mathlib.Core.Path.{_≡_, sym, ap, _∙_}
+use mathlib.Core.Bool.{Bool, true, false, cond, not}
+use mathlib.Core.List.{List}
+use Prim.Native.Nat.{ℕ, _+_, _<_}
+use lib.ListN.{length}
+use lib.Dec.{eqb}
+use denote.Ref.{now}
+use Rattle.plan_format.specs.Format.{isKind}
+use Rattle.plan_check.specs.Meaning.{planOf}
+use Rattle.plan_check.proofs.Meaning.{kind-is}
+use Rattle.runs.specs.Calls.{together}
+use Rattle.runs.specs.Tests.{anyIn}
+use Rattle.runs.specs.Model.Monitor.{notRisingB, postOpposedB}
+use Rattle.run_starts.specs.Starts.{nodeByte}
+use Rattle.run_state.specs.State.{stateRefusal}
+use Rattle.run_state.proofs.Passed.{has-room}
+use Rattle.run_tasks.specs.Sets.{Each}
+use Rattle.run_refusals.specs.Events.{callRefusal}
+use Rattle.run_refusals.proofs.Together.{together-25, together-17, together-18, together-26, opposed, unopposed}
+use Rattle.run_refusals.proofs.Together.{tasks}
+use native.Mathlib.Omega.{arith}
+use Rattle.run_refusals.proofs.together_refused.Statement.{statement}
+use Rattle.run_refusals.proofs.together_refused.Tie as tie
+
+-- ---- what is known after each test
+rising : (c : tie.Else1) → notRisingB (now (c .before .before .before .before .before .args .tasks)) ≡ false
+rising c = sym (c .before .not-rising .ensures) ∙ c .if1 .left
+
+fit : (c : tie.Else2) → anyIn (now (c .before .before .before .before .before .before .before .args .tasks)) (λ t. not (isKind (now (c .before .before .before .before .before .before .before .args .plan)) t 0)) ≡ false
+fit c = sym (c .before .no-task .ensures) ∙ c .if2 .left
+
+run : (c : tie.Else3)
+    → anyIn (now (c .before .before .before .before .before .before .before .before .before .args .tasks)) (λ t. not (eqb (nodeByte (now (c .before .before .before .before .before .before .before .before .before .args .state)) t) 1)) ≡ false
+run c = sym (c .before .not-running .ensures) ∙ c .if3 .left
+
+inside : (c : tie.Else2) → Each (now (c .before .before .before .before .before .before .before .args .tasks))
+    (λ t. (t < 128) × (8 + t < length (now (c .before .before .before .before .before .before .before .args .state))))
+inside c t i =
+    let s = c .before .before .before .before .before .before .before in
+    let l = kind-is _ t 0 (tasks _ _ (s .pre) _ (rising (c .before .before)) (fit c) t i) .0 in
+    let r = has-room _ _ (s .pre) in
+    (omega (arith, l, r .plan .fits .limits .nodes), omega (arith, l, r .room))
+
+abbrev start : tie.After-unmet → tie.Start
+start c = c .before .before .before .before .before .before .before .before .before .before .before .before .before .before .before
+
+opposed-here : (c : tie.After-unmet)
+    → c .unmet .result ≡ postOpposedB (planOf (now (start c .args .plan))) (now (start c .args .tasks))
+opposed-here c = together-26 _ _ (start c .pre) _ (rising (c .before .before .before .before .before .before .before .before .before .before)) (fit (c .before .before .before .before .before .before .before .before)) (run (c .before .before .before .before .before .before)) _
+    (c .before .before .before .before .before .mark-all .ensures) _ (rw (c .before .before .before .load .ensures) at
+    (c .before .before .with-literals .ensures)) _ (c .unmet .ensures)
+
+-- ---- the answers
+returns : tie.Need-returns
+returns c = together-25 _ _ (c .before .before .before .before .before .pre) _ (sym (c .before .not-rising .ensures) ∙ c .if1 .taken)
+
+returns-2 : tie.Need-returns-2
+returns-2 c = together-17 _ _ (c .before .before .before .before .before .before .before .pre) _ (rising (c .before .before))
+    (sym (c .before .no-task .ensures) ∙ c .if2 .taken)
+
+returns-3 : tie.Need-returns-3
+returns-3 c = together-18 _ _ (c .before .before .before .before .before .before .before .before .before .pre) _ (rising (c .before .before .before .before)) (fit (c .before .before))
+    (sym (c .before .not-running .ensures) ∙ c .if3 .taken)
+
+returns-4 : tie.Need-returns-4
+returns-4 c = opposed _ _ (c .before .before .before .before .before .before .before .before .before .before .before .before .before .before .before .before .pre) _ (rising (c .before .before .before .before .before .before .before .before .before .before .before)) (fit (c .before .before .before .before .before .before .before .before .before)) (run (c .before .before .before .before .before .before .before))
+    (sym (opposed-here (c .before)) ∙ c .if4 .taken)
+
+last : (c : tie.After-inc-broken) (v : Bool) → c .inc-broken .result ≡ v → cond v 22 0 ≡ callRefusal
+    (now (c .before .before .before .before .before .before .before .before .before .before .before .before .before .before .before .before .before .before .args .plan)) (now (c .before .before .before .before .before .before .before .before .before .before .before .before .before .before .before .before .before .before .args .state)) (together (now (c .before .before .before .before .before .before .before .before .before .before .before .before .before .before .before .before .before .before .args .tasks)))
+last c v q = ap (λ (x : Bool). cond x 22 0) (sym q)
+    ∙ unopposed _ _ (c .before .before .before .before .before .before .before .before .before .before .before .before .before .before .before .before .before .before .pre) _ (rising (c .before .before .before .before .before .before .before .before .before .before .before .before .before)) (fit (c .before .before .before .before .before .before .before .before .before .before .before)) (run (c .before .before .before .before .before .before .before .before .before))
+    (sym (opposed-here (c .before .before .before)) ∙ c .before .before .if4 .left) _ (c .before .before .before .before .before .before .before .before .mark-all .ensures) _ (c .inc-broken .ensures)
+
+returns-5 : tie.Need-returns-5
+returns-5 c = last (c .before) true (c .if5 .taken)
+
+returns-6 : tie.Need-returns-6
+returns-6 c = last (c .before) false (c .if5 .left)
+
+pub together-refused-spec : {M : Type 1} → statement M
+together-refused-spec =
+    tie.close
+    (tie.spec
+    (λ c κs. tt)
+    returns
+    (λ c κs. has-room _ _ (c .before .before .before .before .before .pre) .plan .fits)
+    returns-2
+    (λ c κs. inside c)
+    returns-3
+    (λ c κs. λ t i. inside (c .before .before) t i .0)
+    (λ c κs. omega (arith, has-room _ _ (c .before .before .before .before .before .before .before .before .before .before .before .pre) .room))
+    (λ c κs. has-room _ _ (c .before .before .before .before .before .before .before .before .before .before .before .before .pre) .accepted)
+    (λ c κs. has-room _ _ (c .before .before .before .before .before .before .before .before .before .before .before .before .before .before .pre) .accepted)
+    returns-4
+    (λ c κs. c .before .before .before .before .before .before .before .before .before .before .before .before .before .before .before .before .before .pre)
+    returns-5
+    returns-6)

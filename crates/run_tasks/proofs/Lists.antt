@@ -1,0 +1,74 @@
+-- Lists read from the front: what is still to be read. Assumes nothing.
+use mathlib.Core.Path.{_≡_, refl, sym, ap, _∙_}
+use mathlib.Core.Bool.{Bool, true, false, not}
+use mathlib.Core.List.{List, [], _∷_, List·Memᴰ as Among, List·Memᴰ·head as here, List·Memᴰ·tail as there}
+use mathlib.Core.List.{List·Memᴰ·not-nil as among-none}
+use Prim.Native.Nat.{ℕ, zero, suc, _+_, _-_, _<_, _≤_}
+use native.Mathlib.Omega.{arith}
+use native.Mathlib.Numerals.{add-one}
+use lib.ListN.{length, getD, drop}
+use lib.Seq.{drop-cons}
+use lib.Dec.{ltb}
+use borrow.Author.Tests.{lt-ltb, le-ltb}
+use Rattle.runs.specs.Tests.{either, both, negate, anyIn}
+use Rattle.runs.specs.Model.Monitor.{risingB, notRisingB}
+
+pub drop-none : (l : List ℕ) → drop (length l) l ≡ []
+drop-none [] = refl
+drop-none (x ∷ l) = drop-none l
+
+-- an element of a list is among its numbers
+pub among-at : (l : List ℕ) (i : ℕ) → i < length l → Among (getD l i 0) l
+among-at [] i m = absurd (omega arith)
+among-at (x ∷ l) zero m = here refl
+among-at (x ∷ l) (suc i) m = there (among-at l i (omega arith))
+
+module _ (ts : List ℕ) where
+  -- ---- some number passes a test
+  module _ (g : ℕ → Bool) where
+    pub some-here : (i : ℕ) → i < length ts → anyIn ts g ≡ anyIn (drop i ts) g → g (getD ts i 0) ≡ true
+        → true ≡ anyIn ts g
+    unfolding anyIn either
+    some-here i l h y = sym (h ∙ rw (drop-cons ts i 0 l, y))
+
+    pub some-later : (i : ℕ) → i < length ts → anyIn ts g ≡ anyIn (drop i ts) g → g (getD ts i 0) ≡ false
+        → anyIn ts g ≡ anyIn (drop (i + 1) ts) g
+    unfolding anyIn either
+    some-later i l h y = h ∙ rw (drop-cons ts i 0 l, y, add-one i)
+
+    pub some-none : (i : ℕ) → i ≡ length ts → anyIn ts g ≡ anyIn (drop i ts) g → false ≡ anyIn ts g
+    unfolding anyIn
+    some-none i e h = sym (h ∙ rw (e, drop-none ts))
+
+  -- ---- it strictly rises: from the number before position i on
+  drop-two : (i : ℕ) → 1 ≤ i → i < length ts → drop (i - 1) ts ≡ getD ts (i - 1) 0 ∷ getD ts i 0 ∷ drop (i + 1) ts
+  drop-two i l m =
+      let e : suc (i - 1) ≡ i = omega arith in
+      drop-cons ts (i - 1) 0 (omega arith) ∙ rw (e, add-one i) (ap (λ (z : List ℕ). getD ts (i - 1) 0 ∷ z) (drop-cons ts i 0 m))
+
+  pub falls-here : (i : ℕ) → 1 ≤ i → i < length ts → risingB ts ≡ risingB (drop (i - 1) ts)
+      → getD ts i 0 ≤ getD ts (i - 1) 0 → risingB ts ≡ false
+  unfolding risingB both
+  falls-here i l m h q = h ∙ rw (drop-two i l m, le-ltb _ _ q)
+
+  pub rises-on : (i : ℕ) → 1 ≤ i → i < length ts → risingB ts ≡ risingB (drop (i - 1) ts)
+      → getD ts (i - 1) 0 < getD ts i 0 → risingB ts ≡ risingB (drop i ts)
+  unfolding risingB both
+  rises-on i l m h q = h ∙ rw (drop-two i l m, lt-ltb _ _ q, drop-cons ts i 0 m, add-one i)
+
+  pub rises-all : (i : ℕ) → 1 ≤ i → i ≡ length ts → risingB ts ≡ risingB (drop (i - 1) ts) → risingB ts ≡ true
+  unfolding risingB
+  rises-all i l e h =
+      let z : suc (i - 1) ≡ length ts = omega (arith, e) in
+      h ∙ rw (drop-cons ts (i - 1) 0 (omega (arith, e)), z, drop-none ts)
+
+-- ---- 25
+pub not-rising-nil : (ts : List ℕ) → length ts ≡ 0 → true ≡ notRisingB ts
+unfolding notRisingB
+not-rising-nil [] e = refl
+not-rising-nil (t ∷ ts) e = absurd (omega arith)
+
+pub not-rising-is : (ts : List ℕ) (v : Bool) → 1 ≤ length ts → risingB ts ≡ v → not v ≡ notRisingB ts
+unfolding notRisingB negate
+not-rising-is [] v l e = absurd (omega arith)
+not-rising-is (t ∷ ts) v l e = ap not (sym e)

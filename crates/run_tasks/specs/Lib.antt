@@ -1,0 +1,2 @@
+-- Sets of nodes.
+pub mod Sets
