@@ -142,7 +142,7 @@ module _ (b s : List ℕ) (ok : stateRefusal b s ≡ 0) (e : Event) (fit : Fit b
   after-own : nodeByte after (nodeOf e) ≡ given
   after-own = after-byte (nodeOf e) inside ∙ byte-own b s ok (eventPlace e) (nodeOf e) given inside
 
-  after-other : (n : ℕ) → n < nodeCount b → (n ≡ nodeOf e → ⊥) → nodeByte after n ≡ nodeByte s n
+  pub after-other : (n : ℕ) → n < nodeCount b → (n ≡ nodeOf e → ⊥) → nodeByte after n ≡ nodeByte s n
   after-other n l h = after-byte n l ∙ byte-other b s ok (eventPlace e) (nodeOf e) given inside n h
 
   -- the ordinals

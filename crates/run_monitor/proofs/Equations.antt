@@ -4,15 +4,15 @@ use mathlib.Core.List.{List}
 use Prim.Native.Nat.{ℕ, suc}
 use borrow.Author.Tests.{ne-eqb}
 use Rattle.runs.specs.Plan.{placeNumber}
-use Rattle.runs.specs.Execution.{Event}
+use Rattle.runs.specs.Calls.{Call, events}
 use Rattle.base.specs.Answers.{first}
 use Rattle.base.proofs.First.{first-some}
 use Rattle.run_starts.specs.Starts.{withOrdinal, startedCount}
 use Rattle.run_state.specs.State.{stateRefusal}
 use Rattle.run_refusals.specs.declared.Move.{Move}
 use Rattle.run_refusals.specs.declared.Move.the-variants.{Start, Finish}
-use Rattle.run_refusals.specs.Events.{eventOf, eventPlace, eventRefusal}
-use Rattle.run_monitor.specs.Events.{withEvent, eventReturn, afterEvent, eventState}
+use Rattle.run_refusals.specs.Events.{eventOf, eventPlace, callRefusal}
+use Rattle.run_monitor.specs.Events.{withEvent, afterEvent, afterAll, callReturn, callState}
 
 -- a move that was written part by part
 module _ (b s : List ℕ) (m : Move) (t q : ℕ) (place : q ≡ placeNumber (eventPlace (eventOf m 0))) where
@@ -23,17 +23,17 @@ module _ (b s : List ℕ) (m : Move) (t q : ℕ) (place : q ≡ placeNumber (eve
   pub finish-written : m ≡ Finish → (z : List ℕ) → z ≡ withEvent b q t 2 s → z ≡ afterEvent b s (eventOf m t)
   finish-written e z h = h ∙ rw (place, e)
 
-module _ (b s : List ℕ) (e : Event) where
-  pub refused-16 : (stateRefusal b s ≡ 0 → ⊥) → (stateRefusal b s ≡ eventReturn b s e) × (s ≡ eventState b s e)
-  unfolding eventReturn eventState
-  refused-16 n = let z = first-some (stateRefusal b s) (eventRefusal b s e) n in
-      (z, rw (ne-eqb (first (stateRefusal b s) (eventRefusal b s e)) 0 (λ y. n (z ∙ y))))
+module _ (b s : List ℕ) (c : Call) where
+  pub refused-16 : (stateRefusal b s ≡ 0 → ⊥) → (stateRefusal b s ≡ callReturn b s c) × (s ≡ callState b s c)
+  unfolding callReturn callState
+  refused-16 n = let z = first-some (stateRefusal b s) (callRefusal b s c) n in
+      (z, rw (ne-eqb (first (stateRefusal b s) (callRefusal b s c)) 0 (λ y. n (z ∙ y))))
 
   module _ (ok : stateRefusal b s ≡ 0) where
-    pub refused-22 : (eventRefusal b s e ≡ 0 → ⊥) → (eventRefusal b s e ≡ eventReturn b s e) × (s ≡ eventState b s e)
-    unfolding eventReturn eventState
-    refused-22 n = (rw ok, rw (ok, ne-eqb (eventRefusal b s e) 0 n))
+    pub refused-22 : (callRefusal b s c ≡ 0 → ⊥) → (callRefusal b s c ≡ callReturn b s c) × (s ≡ callState b s c)
+    unfolding callReturn callState
+    refused-22 n = (rw ok, rw (ok, ne-eqb (callRefusal b s c) 0 n))
 
-    pub accepted : eventRefusal b s e ≡ 0 → (0 ≡ eventReturn b s e) × (afterEvent b s e ≡ eventState b s e)
-    unfolding eventReturn eventState
+    pub accepted : callRefusal b s c ≡ 0 → (0 ≡ callReturn b s c) × (afterAll b s (events c) ≡ callState b s c)
+    unfolding callReturn callState
     accepted z = (rw (ok, z), rw (ok, z))

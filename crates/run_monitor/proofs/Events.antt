@@ -1,77 +1,125 @@
--- What an event's bytes show: the states that 01 works out. Assumes nothing.
+-- What the bytes of events and of calls show: the states that 01 works out. Assumes nothing.
 use mathlib.Core.Path.{_≡_, refl, sym, ap, _∙_, fun-ext}
 use mathlib.Core.Logic.{by-cases}
-use mathlib.Core.Bool.{Bool}
-use mathlib.Core.List.{List}
+use mathlib.Core.Bool.{Bool, true}
+use mathlib.Core.List.{List, [], _∷_, List·Memᴰ as Among, List·Memᴰ·head as here, List·Memᴰ·tail as there}
 use mathlib.Core.Option.{Option, some, none, Option·getD}
-use Prim.Native.Nat.{ℕ}
+use Prim.Native.Nat.{ℕ, _<_}
 use native.Mathlib.Decide.{ℕ-discrete}
+use native.Mathlib.Omega.{arith}
+use Rattle.plan_format.specs.Format.{nodeCount, isKind}
 use Rattle.plan_check.specs.Meaning.{planOf}
-use Rattle.runs.specs.Execution.{Event, moved, asserts}
-use Rattle.runs.specs.Calls.{one, counted, numbered, Refusal, World}
+use Rattle.plan_check.proofs.Meaning.{kind-is}
+use Rattle.runs.specs.Execution.{Event, finish, History, nodeOf, moved, asserts}
+use Rattle.runs.specs.Calls.{Call, one, together, finishes, events, Rising, asks, statusByte, counted, numbered, Refusal}
+use Rattle.runs.specs.Calls.{World, happen, happenAll}
 use Rattle.runs.specs.Model.Monitor.{returned, refusalOf, step, code, settle}
 use Rattle.runs.proofs.Calls.First.{code-inj}
-use Rattle.run_starts.specs.Starts.{startedCount}
+use Rattle.runs.proofs.Calls.Listed.{rising-once, rising-tail}
+use Rattle.run_starts.specs.Starts.{nodeByte, startedCount}
 use Rattle.run_state.specs.State.{stateRefusal, statusIn, flagShown, ordinalShown, worldOf}
 use Rattle.run_starts.proofs.Numbering.{Numbering}
-use Rattle.run_refusals.specs.Events.{eventRefusal}
+use Rattle.run_tasks.specs.Sets.{Each}
+use Rattle.run_refusals.specs.Events.{callRefusal}
 use Rattle.run_refusals.proofs.Chain.{accepted-kind, accepted-byte, event-does}
-use Rattle.run_monitor.specs.Events.{eventState}
+use Rattle.run_refusals.proofs.Together.{accepted-rises, accepted-tasks, accepted-running}
+use Rattle.run_monitor.specs.Events.{afterEvent, afterAll, callState}
 use Rattle.run_monitor.proofs.Equations.{refused-22, accepted}
 use Rattle.run_monitor.proofs.After.{Fit, after, shows-status, shows-flag, shows-ordinal, still-well, numbers}
-use Rattle.run_monitor.proofs.After.{event-written}
+use Rattle.run_monitor.proofs.After.{after-other, event-written}
 
+-- the bytes z pass all checks, and show the states a
+pub record Showing (b z : List ℕ) (a : World) : Type 0 where
+  pub well-formed : stateRefusal b z ≡ 0
+  pub shows : worldOf b z ≡ a
+
+-- ---- an event of a node of the kind that it moves, which has the byte that it asks for
+module _ (b s : List ℕ) (ok : stateRefusal b s ≡ 0) (e : Event) (fit : Fit b e)
+    (asked : nodeByte s (nodeOf e) ≡ statusByte (asks e)) where
+  abbrev next : List ℕ
+  next = after b s ok e fit
+
+  ordinals : Numbering b next (counted (startedCount b s) e)
+  ordinals = numbers b s ok e fit asked
+
+  same : worldOf b next ≡ happen (planOf b) (worldOf b s) e
+  unfolding worldOf
+  same =
+      let fs : statusIn b next ≡ moved (statusIn b s) e = fun-ext (shows-status b s ok e fit) in
+      let ff : flagShown next ≡ (λ f. Option·getD (asserts (planOf b) e f) (flagShown s f)) =
+      fun-ext (λ f. shows-flag b s ok e fit f
+      ∙ ap (λ (o : Option Bool). Option·getD o (flagShown s f)) (sym (event-does b s ok e fit f))) in
+      let fo : ordinalShown b next ≡ numbered (startedCount b s) (ordinalShown b s) e =
+      fun-ext (shows-ordinal b s ok e fit) in
+      cc (fs, ff, ordinals .count, fo)
+
+  happened : Showing b (afterEvent b s e) (happen (planOf b) (worldOf b s) e)
+  happened =
+      let q = event-written b s ok e fit in
+      record {
+        well-formed = ap (stateRefusal b) q ∙ still-well b s ok e fit ordinals;
+        shows = ap (worldOf b) q ∙ same;
+      }
+
+-- ---- several such events, each after those before it
+pub data Going (b s : List ℕ) : History → Type 0 where
+  nothing : Going b s []
+  going : {e : Event} {h : History} → Going b s h → Fit b e
+      → nodeByte (afterAll b s h) (nodeOf e) ≡ statusByte (asks e) → Going b s (e ∷ h)
+
+module _ (b s : List ℕ) (ok : stateRefusal b s ≡ 0) where
+  pub all-happened : {h : History} → Going b s h → Showing b (afterAll b s h) (happenAll (planOf b) (worldOf b s) h)
+  all-happened nothing = record { well-formed = ok; shows = refl }
+  all-happened (going {e = e} {h = h} g fit asked) =
+      let w = all-happened g in
+      let x = happened b (afterAll b s h) (w .well-formed) e fit asked in
+      record { well-formed = x .well-formed; shows = x .shows ∙ ap (λ (a : World). happen (planOf b) a e) (w .shows) }
+
+  -- the finishes of a rising list of running tasks; the bytes of other nodes stay
+  finishes-go : (ts : List ℕ) → Rising ts → Each ts (λ t. isKind b t 0 ≡ true) → Each ts (λ t. nodeByte s t ≡ 1)
+      → Going b s (finishes ts)
+      × ((n : ℕ) → n < nodeCount b → ¬ Among n ts → nodeByte (afterAll b s (finishes ts)) n ≡ nodeByte s n)
+  finishes-go [] r k y = (nothing, λ n l i. refl)
+  finishes-go (t ∷ ts) r k y =
+      let (g, stays) = finishes-go ts (rising-tail r) (λ x i. k x (there i)) (λ x i. y x (there i)) in
+      let z = all-happened g .well-formed in
+      let fit : Fit b (finish t) = k t (here refl) in (
+        going g fit (stays t (kind-is b t 0 fit .0) (rising-once r) ∙ y t (here refl)),
+        λ n l i. ap (λ (x : List ℕ). nodeByte x n) (event-written b _ z (finish t) fit)
+            ∙ after-other b _ z (finish t) fit n l (λ q. i (here q)) ∙ stays n l (λ j. i (there j)),
+      )
+
+  -- the events of an accepted call
+  pub call-goes : (c : Call) → callRefusal b s c ≡ 0 → Going b s (events c)
+  call-goes (one e) z = going nothing (accepted-kind b s ok e z) (accepted-byte b s ok e z)
+  call-goes (together ts) z = finishes-go ts (accepted-rises b s ok ts z) (accepted-tasks b s ok ts z)
+      (accepted-running b s ok ts z) .0
+
+-- ---- after a call, accepted or refused, the state passes all checks and shows the states that 01 works out
 settled : (o : Option Refusal) (old new : World) → (code o ≡ 0 → ⊥) → settle o old new ≡ old
 settled none old new h = absurd (h refl)
 settled (some r) old new h = refl
 
--- after a start, a finish or a skip, accepted or refused, the state passes all checks and shows the states that 01
--- works out
-pub record Stepped (b s : List ℕ) (e : Event) : Type 0 where
-  pub well-formed : stateRefusal b (eventState b s e) ≡ 0
-  pub shows : worldOf b (eventState b s e) ≡ step (planOf b) (worldOf b s) (one e)
+module _ (b s : List ℕ) (ok : stateRefusal b s ≡ 0) (c : Call) where
+  abbrev Stepped : Type 0
+  Stepped = Showing b (callState b s c) (step (planOf b) (worldOf b s) c)
 
-module _ (b s : List ℕ) (ok : stateRefusal b s ≡ 0) (e : Event) where
-  module _ (z : eventRefusal b s e ≡ 0) where
-    fit : Fit b e
-    fit = accepted-kind b s ok e z
+  moves : callRefusal b s c ≡ 0 → Stepped
+  unfolding returned step
+  moves z =
+      let q = sym (accepted b s c ok z .1) in
+      let w = all-happened b s ok (call-goes b s ok c z) in
+      let n : refusalOf (planOf b) (worldOf b s) c ≡ none = code-inj {x = none} z in
+      record { well-formed = ap (stateRefusal b) q ∙ w .well-formed; shows = ap (worldOf b) q ∙ w .shows ∙ rw n }
 
-    abbrev next : List ℕ
-    next = after b s ok e fit
-
-    ordinals : Numbering b next (counted (startedCount b s) e)
-    ordinals = numbers b s ok e fit (accepted-byte b s ok e z)
-
-    same : worldOf b next ≡ step (planOf b) (worldOf b s) (one e)
-    unfolding returned step worldOf
-    same =
-        let fs : statusIn b next ≡ moved (statusIn b s) e = fun-ext (shows-status b s ok e fit) in
-        let ff : flagShown next ≡ (λ f. Option·getD (asserts (planOf b) e f) (flagShown s f)) =
-        fun-ext (λ f. shows-flag b s ok e fit f
-        ∙ ap (λ (o : Option Bool). Option·getD o (flagShown s f)) (sym (event-does b s ok e fit f))) in
-        let fo : ordinalShown b next ≡ numbered (startedCount b s) (ordinalShown b s) e =
-        fun-ext (shows-ordinal b s ok e fit) in
-        let n : refusalOf (planOf b) (worldOf b s) (one e) ≡ none =
-        code-inj {x = none} z in
-        rw n (cc (fs, ff, ordinals .count, fo))
-
-    moves : Stepped b s e
-    moves =
-        let q = sym (accepted b s e ok z .1) ∙ event-written b s ok e fit in
-        record {
-          well-formed = ap (stateRefusal b) q ∙ still-well b s ok e fit ordinals;
-          shows = ap (worldOf b) q ∙ same;
-        }
-
-  refused : (eventRefusal b s e ≡ 0 → ⊥) → Stepped b s e
+  refused : (callRefusal b s c ≡ 0 → ⊥) → Stepped
   unfolding step returned
   refused n =
-      let q = refused-22 b s e ok n .1 in
+      let q = refused-22 b s c ok n .1 in
       record {
         well-formed = ap (stateRefusal b) (sym q) ∙ ok;
-        shows = ap (worldOf b) (sym q)
-            ∙ sym (settled (refusalOf (planOf b) (worldOf b s) (one e)) (worldOf b s) _ n);
+        shows = ap (worldOf b) (sym q) ∙ sym (settled (refusalOf (planOf b) (worldOf b s) c) (worldOf b s) _ n);
       }
 
-  pub event-steps : Stepped b s e
-  event-steps = by-cases (ℕ-discrete (eventRefusal b s e) 0) (λ z. moves z) (λ n. refused n)
+  pub call-steps : Stepped
+  call-steps = by-cases (ℕ-discrete (callRefusal b s c) 0) (λ z. moves z) (λ n. refused n)

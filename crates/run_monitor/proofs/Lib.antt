@@ -4,3 +4,4 @@ pub mod Written
 pub mod After
 pub mod Events
 pub mod Called
+pub mod Finishes

@@ -2,10 +2,10 @@
 -- nothing.
 use mathlib.Core.Path.{_≡_, refl, sym, ap, _∙_}
 use mathlib.Core.Logic.{_≢_}
-use mathlib.Core.Bool.{Bool, true}
+use mathlib.Core.Bool.{Bool}
 use mathlib.Core.List.{List, _++_}
 use mathlib.Core.Option.{Option, some, none, Option·getD}
-use Prim.Native.Nat.{ℕ, zero, suc, _+_, _-_, _/_, _<_, _≤_}
+use Prim.Native.Nat.{ℕ, _+_, _-_, _/_, _<_, _≤_}
 use native.Mathlib.Omega.{arith}
 use lib.ListN.{length, getD, take, drop, set, length-set, length-append, length-drop, List·getD-append}
 use lib.ListN.{take-append-drop}
@@ -20,20 +20,20 @@ use Rattle.runs.specs.Plan.{Place, placeNumber}
 use Rattle.run_starts.specs.Starts.{nodeByte}
 use Rattle.run_state.specs.State.{stateRefusal}
 use Rattle.run_state.proofs.Passed.{has-room}
-use Rattle.run_state.specs.Made.{isOf, literals, made}
-use Rattle.run_conditions.proofs.Laws.{length-literals, made-flag, of-is, on-task}
+use Rattle.run_state.specs.Made.{made}
+use Rattle.run_tasks.specs.Sets.{only}
+use Rattle.run_conditions.proofs.Laws.{literals-idle, made-length, made-flag, of-is, on-task}
 use Rattle.run_monitor.specs.Events.{withEvent}
 
 module _ (b s : List ℕ) (ok : stateRefusal b s ≡ 0) (k : Place) (t x : ℕ) (inside : t < nodeCount b) where
   abbrev flags : List ℕ
-  flags = made b (placeNumber k) t (take 8 s)
+  flags = made b (placeNumber k) (only t) (take 8 s)
 
   eight : length (take 8 s) ≡ 8
   eight = length-take-le 8 s (omega (arith, has-room b s ok .room))
 
   flags-eight : length flags ≡ 8
-  unfolding made
-  flags-eight = length-literals b (placeNumber k) t (take 8 s) _ ∙ eight
+  flags-eight = made-length b (placeNumber k) (only t) (take 8 s) ∙ eight
 
   abbrev next : List ℕ
   next = withEvent b (placeNumber k) t x s
@@ -88,16 +88,11 @@ module _ (b s : List ℕ) (ok : stateRefusal b s ≡ 0) (k : Place) (t x : ℕ) 
 -- ---- a group
 module _ (b s : List ℕ) (ok : stateRefusal b s ≡ 0) (g : ℕ) (group : kindOf b g ≢ 0) where
   -- no condition is of it
-  no-literals : (q k : ℕ) (bytes : List ℕ) → k ≤ condCount b → literals b q g k bytes ≡ bytes
-  unfolding literals
-  no-literals q zero bytes l = refl
-  no-literals q (suc k) bytes l = rw (not-passed (isOf b q g k) (λ y. elsewhere k l y))
-      (no-literals q k bytes (omega arith))
-    where
-      elsewhere : (k : ℕ) → suc k ≤ condCount b → isOf b q g k ≡ true → ⊥
-      elsewhere k l y = group (ap (kindOf b) (sym (of-is b q g k y .0))
-          ∙ on-task b (has-room b s ok .accepted) k (omega arith) .1)
+  no-literals : (q : ℕ) (bytes : List ℕ) → made b q (only g) bytes ≡ bytes
+  unfolding made
+  no-literals q bytes = literals-idle b q (only g) (condCount b) bytes (λ i l. not-passed _ (λ y. group
+      (ap (kindOf b) (sym (of-is b q g i y .0)) ∙ on-task b (has-room b s ok .accepted) i l .1)))
 
   pub only-byte : (q x : ℕ) → set s (8 + g) x ≡ withEvent b q g x s
-  unfolding withEvent made
-  only-byte q x = rw (no-literals q (condCount b) (take 8 s) (omega arith), take-append-drop 8 s)
+  unfolding withEvent
+  only-byte q x = rw (no-literals q (take 8 s), take-append-drop 8 s)

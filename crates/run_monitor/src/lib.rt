@@ -1,5 +1,6 @@
 // The monitor (01: keeper): whether the root is complete, the start and the finish of a task, the skip of an optional
-// group.
+// group, the finishes of several tasks in one step.
+use base::places::POST;
 use base::statuses::DONE;
 use base::statuses::RUNNING;
 use run_conditions::with_literals;
@@ -12,15 +13,19 @@ use run_refusals::Move;
 use run_refusals::place_of;
 use run_refusals::refused;
 use run_refusals::skip_refused;
+use run_refusals::together_refused;
 use run_starts::started;
 use run_starts::write_ordinal;
 use run_state::check_state;
+use run_tasks::mark_all;
+use run_tasks::mark_one;
 ghost use mathlib.Core.Path.{_≡_};
 ghost use Rattle.runs.specs.Execution as execution;
+ghost use Rattle.runs.specs.Calls.{one, together, finishes};
 ghost use Rattle.run_state.specs.State.{AtEvent};
 ghost use Rattle.run_refusals.specs.Events.{eventOf};
 ghost use Rattle.run_monitor.specs.Status.{Told};
-ghost use Rattle.run_monitor.specs.Events.{withEvent, afterEvent, Called};
+ghost use Rattle.run_monitor.specs.Events.{withEvent, afterEvent, afterAll, Finishing, Called};
 
 pub enum Progress {
     Refused(u32),
@@ -48,7 +53,8 @@ fn write_event(plan: &[u8], state: &mut [u8], place: u16, task: usize, byte: u8)
     requires { ⌜ AtEvent (now plan) (now state) task ⌝ }
     ensures { λ _. ⌜ now (state .exit) ≡ withEvent (now (plan .entry)) place task byte (now (state .entry)) ⌝ }
 {
-    let next = with_literals(plan, place, task, load(state));
+    let own = mark_one(task);
+    let next = with_literals(plan, place, &own, load(state));
     store(state, next);
     state[8 + task] = byte;
 }
@@ -72,7 +78,7 @@ fn write_move(plan: &[u8], state: &mut [u8], m: Move, task: usize)
 
 // The task moves on: what its move changes is written. Refused, nothing changes.
 fn call(plan: &[u8], state: &mut [u8], m: Move, task: usize) -> u32
-    ensures { λ r. ⌜ Called (now (plan .entry)) (now (state .entry)) (eventOf m task) r (now (state .exit)) ⌝ }
+    ensures { λ r. ⌜ Called (now (plan .entry)) (now (state .entry)) (one (eventOf m task)) r (now (state .exit)) ⌝ }
 {
     let r = check_state(plan, state);
     if r != 0 {
@@ -89,21 +95,24 @@ fn call(plan: &[u8], state: &mut [u8], m: Move, task: usize) -> u32
 // The task starts: its byte says running, its inconditions are made true and its start takes the next ordinal. Refused,
 // nothing changes.
 pub fn start(plan: &[u8], state: &mut [u8], task: usize) -> u32
-    ensures { λ r. ⌜ Called (now (plan .entry)) (now (state .entry)) (execution.start task) r (now (state .exit)) ⌝ }
+    ensures { λ r. ⌜ Called (now (plan .entry)) (now (state .entry)) (one (execution.start task)) r
+        (now (state .exit)) ⌝ }
 {
     call(plan, state, Move::Start, task)
 }
 
 // The task finishes: its byte says done and its postconditions are made true. Refused, nothing changes.
 pub fn finish(plan: &[u8], state: &mut [u8], task: usize) -> u32
-    ensures { λ r. ⌜ Called (now (plan .entry)) (now (state .entry)) (execution.finish task) r (now (state .exit)) ⌝ }
+    ensures { λ r. ⌜ Called (now (plan .entry)) (now (state .entry)) (one (execution.finish task)) r
+        (now (state .exit)) ⌝ }
 {
     call(plan, state, Move::Finish, task)
 }
 
 // The optional group is skipped: its byte says done, and no other byte changes. Refused, nothing changes.
 pub fn skip(plan: &[u8], state: &mut [u8], group: usize) -> u32
-    ensures { λ r. ⌜ Called (now (plan .entry)) (now (state .entry)) (execution.skip group) r (now (state .exit)) ⌝ }
+    ensures { λ r. ⌜ Called (now (plan .entry)) (now (state .entry)) (one (execution.skip group)) r
+        (now (state .exit)) ⌝ }
 {
     let r = check_state(plan, state);
     if r != 0 {
@@ -114,5 +123,38 @@ pub fn skip(plan: &[u8], state: &mut [u8], group: usize) -> u32
         return q;
     }
     state[8 + group] = DONE;
+    0
+}
+
+// Writes the postconditions of the tasks, and their bytes.
+fn write_finishes(plan: &[u8], state: &mut [u8], tasks: &[usize])
+    requires { ⌜ Finishing (now plan) (now state) (now tasks) ⌝ }
+    ensures { λ _. ⌜ now (state .exit) ≡ afterAll (now (plan .entry)) (now (state .entry))
+        (finishes (now (tasks .entry))) ⌝ }
+{
+    let marks = mark_all(tasks);
+    let next = with_literals(plan, POST, &marks, load(state));
+    store(state, next);
+    let mut i = tasks.len();
+    while 0 < i {
+        i -= 1;
+        state[8 + tasks[i]] = DONE;
+    }
+}
+
+// The tasks finish in one step: their bytes say done and their postconditions are made true. Refused, nothing changes.
+pub fn finish_together(plan: &[u8], state: &mut [u8], tasks: &[usize]) -> u32
+    ensures { λ r. ⌜ Called (now (plan .entry)) (now (state .entry)) (together (now (tasks .entry))) r
+        (now (state .exit)) ⌝ }
+{
+    let r = check_state(plan, state);
+    if r != 0 {
+        return r;
+    }
+    let q = together_refused(plan, state, tasks);
+    if q != 0 {
+        return q;
+    }
+    write_finishes(plan, state, tasks);
     0
 }

@@ -3,12 +3,14 @@ use mathlib.Core.Path.{_≡_, refl, sym, ap, _∙_, fun-ext}
 use mathlib.Core.Bool.{Bool, true, false, cond, not, true≢false}
 use mathlib.Core.List.{List}
 use mathlib.Core.Option.{none}
-use Prim.Native.Nat.{ℕ}
+use Prim.Native.Nat.{ℕ, suc}
+use native.Mathlib.Omega.{arith}
 use lib.ListN.{take, replicate}
 use lib.Dec.{eqb}
 use borrow.Author.Tests.{eqb-true, not-false}
 use Rattle.run_flags.specs.Flags.{allByte}
 use Rattle.plan_format.specs.Format.{isKind, condCount}
+use Rattle.plan_rules.proofs.Laws.{not-passed}
 use Rattle.plan_check.specs.Meaning.{planOf}
 use Rattle.runs.specs.Plan.{post, placeNumber}
 use Rattle.runs.specs.Execution.{running}
@@ -103,3 +105,24 @@ module _ (b s : List ℕ) (ok : stateRefusal b s ≡ 0) (ts : List ℕ) where
             (made b q M (replicate 8 (allByte true))) M) → cond r 22 0 ≡ answer
         unopposed v M m r h = ap (λ (x : Bool). cond x 22 0) (rw m at h ∙ broken-unless b s ok ts is-rising v)
             ∙ sym (rest ∙ rw v)
+
+  -- ---- an accepted list rises, and its tasks run
+  module _ (z : answer ≡ 0) where
+    passes : (v : Bool) (n : ℕ) → (v ≡ true → suc n ≡ answer) → v ≡ false
+    passes v n h = not-passed v (λ y. omega (arith, h y, z))
+
+    accepted-25 : notRisingB ts ≡ false
+    accepted-25 = passes _ 24 together-25
+
+    accepted-17 : anyIn ts (unfit accepted-25) ≡ false
+    accepted-17 = passes _ 16 (together-17 accepted-25)
+
+    pub accepted-rises : Rising ts
+    accepted-rises = is-rising accepted-25
+
+    pub accepted-tasks : Each ts (λ t. isKind b t 0 ≡ true)
+    accepted-tasks = tasks accepted-25 accepted-17
+
+    pub accepted-running : Each ts (λ t. nodeByte s t ≡ 1)
+    accepted-running = running-all accepted-25 accepted-17
+        (passes _ 17 (together-18 accepted-25 accepted-17))

@@ -1,4 +1,5 @@
 -- `write_event` meets its contract. Assumes nothing.
+use mathlib.Core.Path.{_≡_}
 use Rattle.run_monitor.specs.Events.{withEvent}
 use borrow.Author.Needs.{needs}
 use native.Mathlib.Omega.{arith}
@@ -6,12 +7,16 @@ use Rattle.run_state.proofs.Passed.{has-room}
 use Rattle.run_monitor.proofs.write_event.Statement.{statement}
 use Rattle.run_monitor.proofs.write_event.Tie as tie
 
+mark-one-requires : tie.Need-mark-one-requires
+mark-one-requires c κs = let s = c .before .before in
+    omega (arith, s .pre .node, has-room _ _ (s .pre .passed) .plan .fits .limits .nodes)
+
 add-state : tie.Need-add-state
-add-state c = let s = c .before .before .before .before .before .before .before .before .before in
+add-state c = let s = c .before .before .before .before .before .before .before .before .before .before .before in
     omega (arith, s .pre .node, has-room _ _ (s .pre .passed) .plan .fits .limits .nodes)
 
 slice-write-state : tie.Need-slice-write-state
-slice-write-state c = let s = c .before .before .before .before .before .before .before .before .before in
+slice-write-state c = let s = c .before .before .before .before .before .before .before .before .before .before .before in
     let l = s .pre .node in let r = has-room _ _ (s .pre .passed) .room in omega arith
 
 returns : tie.Need-returns
@@ -20,15 +25,17 @@ returns c = rw (
   c .before .before .store .ensures,
   c .before .before .before .before .with-literals .ensures,
   c .before .before .before .before .before .load .ensures,
+  c .before .before .before .before .before .before .before .before .mark-one .ensures,
 )
 
 pub write-event-spec : {M : Type 1} → statement M
 write-event-spec =
     tie.close
     (tie.spec
-    (λ c κs. omega (arith, has-room _ _ (c .before .before .before .pre .passed) .room))
-    (λ c κs. has-room _ _ (c .before .before .before .before .pre .passed) .accepted)
-    (λ c κs. omega (arith, has-room _ _ (c .before .before .before .before .before .before .pre .passed) .room))
+    mark-one-requires
+    (λ c κs. omega (arith, has-room _ _ (c .before .before .before .before .before .pre .passed) .room))
+    (λ c κs. has-room _ _ (c .before .before .before .before .before .before .pre .passed) .accepted)
+    (λ c κs. omega (arith, has-room _ _ (c .before .before .before .before .before .before .before .before .pre .passed) .room))
     add-state
     slice-write-state
     (λ c. search needs)
