@@ -27,7 +27,7 @@ fn pair_word(
     kids: &[u8; 128],
     segment: Segment,
     order: &[u8; 16384],
-    rows: &[u64; 2688],
+    rows: &[u64; 2944],
     sign: usize,
     wanted: u64,
     c: usize,
@@ -58,7 +58,7 @@ pub fn pair_words(
     kids: &[u8; 128],
     segment: Segment,
     order: &[u8; 16384],
-    rows: &[u64; 2688],
+    rows: &[u64; 2944],
     wanted: Literals,
     c: usize,
     j: usize,
@@ -77,7 +77,7 @@ pub fn pair_words(
 
 // The position of the next child to pair with c: the given one, or past them all, if c requires no wanted literal.
 pub fn next_partner(
-    rows: &[u64; 2688],
+    rows: &[u64; 2944],
     wanted: Literals,
     c: usize,
     next: usize,

@@ -13,7 +13,7 @@ use Rattle.runs.specs.Plan.{all-of, Plan, WellFormed}
 use Rattle.runs.proofs.Summary.Clobber.{clobber-all}
 use Rattle.runs.proofs.Summary.ReflectClobber.{must-clobber-all}
 use Rattle.marks_row.specs.Columns.{Column, avoid, quiet, covered, may-pre, may-post, may-inc, requires, asserts}
-use Rattle.marks_row.specs.Columns.{may-clobber, must-inc, must-clobber}
+use Rattle.marks_row.specs.Columns.{posts, may-clobber, must-inc, must-clobber}
 use Rattle.marks_row.specs.Columns.{indexOf, Fact, Row, RowIs}
 use Rattle.marks_group.specs.Groups.{Within, WithinRow}
 use Rattle.marks_row.proofs.Rows.{index-small}
@@ -73,6 +73,7 @@ module _ (p : Plan) (w : WellFormed p) {n : ℕ} (kn : p .tree .kind n ≡ all-o
   all-fact (may-inc v) d = same
   all-fact (requires v) d = same
   all-fact (asserts v) d = same
+  all-fact (posts v) d = same
   all-fact (may-clobber v) d = may v d
   all-fact (must-inc v) d = same
   all-fact (must-clobber v) d = must v
@@ -118,6 +119,7 @@ module _ {p : Plan} {n : ℕ} (w : WellFormed p) (kn : p .tree .kind n ≡ all-o
     extra (may-inc v) f l = says-none refl (λ x. x)
     extra (requires v) f l = says-none refl (λ x. x)
     extra (asserts v) f l = says-none refl (λ x. x)
+    extra (posts v) f l = says-none refl (λ x. x)
     extra (may-clobber v) f l = says-map (λ x. ((wanted v f l) .0 (x .0), x .1), λ x. ((wanted v f l) .1 (x .0), x .1))
         (a v f l)
     extra (must-inc v) f l = says-none refl (λ x. x)

@@ -8,7 +8,7 @@ use lib.ListN.{getD}
 use Rattle.runs.specs.Plan.{all-of, Plan}
 use Rattle.marks_row.specs.declared.Segment.{Segment}
 use Rattle.marks_row.specs.Columns.{Column, avoid, quiet, covered, may-pre, may-post, may-inc, requires, asserts}
-use Rattle.marks_row.specs.Columns.{may-clobber, must-inc, must-clobber, Row}
+use Rattle.marks_row.specs.Columns.{posts, may-clobber, must-inc, must-clobber, Row}
 use Rattle.marks_group.specs.Groups.{Within}
 use Rattle.marks_pair.specs.declared.Literals.{Literals}
 use Rattle.marks_between.specs.Passing.{SomePair, OfGroups}
@@ -29,6 +29,7 @@ Extra p n f (may-post v) = ⊥
 Extra p n f (may-inc v) = ⊥
 Extra p n f (requires v) = ⊥
 Extra p n f (asserts v) = ⊥
+Extra p n f (posts v) = ⊥
 Extra p n f (may-clobber v) = (¬ Within p n f (may-clobber v)) × SomePair p n (Pair p n f v)
 Extra p n f (must-inc v) = ⊥
 Extra p n f (must-clobber v) = Within p n f (must-clobber v) ⊎ SomePair p n (MustPair p n f v)
@@ -43,10 +44,11 @@ clobberOf may must (may-post v) = 0
 clobberOf may must (may-inc v) = 0
 clobberOf may must (requires v) = 0
 clobberOf may must (asserts v) = 0
+clobberOf may must (posts v) = 0
 clobberOf may must (may-clobber v) = signWord may v
 clobberOf may must (must-inc v) = 0
 clobberOf may must (must-clobber v) = signWord must v
 
 -- word by word
 pub record Ored (a b r : List ℕ) : Type 0 where
-  pub is : (k : ℕ) → k < 21 → getD r k 0 ≡ bitOr (getD a k 0) (getD b k 0)
+  pub is : (k : ℕ) → k < 23 → getD r k 0 ≡ bitOr (getD a k 0) (getD b k 0)

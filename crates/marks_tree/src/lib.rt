@@ -25,10 +25,12 @@ use marks_row::task_words;
 use marks_row::write_row;
 
 // A row with the words of may and must clobber only.
-fn clobber_words(may: Literals, must: Literals) -> [u64; 21]
+fn clobber_words(may: Literals, must: Literals) -> [u64; 23]
     ensures { λ r. ⌜ RowIs (clobberOf may must) r ⌝ }
 {
     [
+        0,
+        0,
         0,
         0,
         0,
@@ -53,12 +55,12 @@ fn clobber_words(may: Literals, must: Literals) -> [u64; 21]
     ]
 }
 
-fn ored(a: [u64; 21], b: [u64; 21]) -> [u64; 21]
+fn ored(a: [u64; 23], b: [u64; 23]) -> [u64; 23]
     ensures { λ r. ⌜ Ored a b r ⌝ }
 {
     let mut out = a;
     let mut k = 0;
-    while k < 21 {
+    while k < 23 {
         out[k] = a[k] | b[k];
         k += 1;
     }
@@ -66,7 +68,7 @@ fn ored(a: [u64; 21], b: [u64; 21]) -> [u64; 21]
 }
 
 // The row of an all-of group, from the rows of its children.
-fn all_row(kids: &[u8; 128], segment: Segment, order: &[u8; 16384], rows: &[u64; 2688]) -> [u64; 21]
+fn all_row(kids: &[u8; 128], segment: Segment, order: &[u8; 16384], rows: &[u64; 2944]) -> [u64; 23]
     requires { ⌜ AtSegment (now kids) segment ⌝ }
     ensures { λ r. ⌜ AllOfRow (now (kids .entry)) segment (now (order .entry)) (now (rows .entry)) r ⌝ }
 {
@@ -92,11 +94,11 @@ fn all_of(
     from: &[u8; 129],
     kids: &[u8; 128],
     order: &[u8; 16384],
-    rows: &mut [u64; 2688],
+    rows: &mut [u64; 2944],
     n: usize,
     node: usize,
 )
-    requires { ⌜ AtGroup (now from) (now kids) n node × (length (now rows) ≡ 2688) ⌝ }
+    requires { ⌜ AtGroup (now from) (now kids) n node × (length (now rows) ≡ 2944) ⌝ }
     ensures { λ r. ⌜ Filled (λ k. k ≡ all-of) (now (kind .entry)) (now (from .entry)) (now (kids .entry))
         (now (order .entry))
         (now (rows .entry)) (now (rows .exit)) n node ⌝ }
@@ -124,11 +126,11 @@ fn any_of(
     from: &[u8; 129],
     kids: &[u8; 128],
     order: &[u8; 16384],
-    rows: &mut [u64; 2688],
+    rows: &mut [u64; 2944],
     n: usize,
     node: usize,
 )
-    requires { ⌜ AtGroup (now from) (now kids) n node × (length (now rows) ≡ 2688) ⌝ }
+    requires { ⌜ AtGroup (now from) (now kids) n node × (length (now rows) ≡ 2944) ⌝ }
     ensures { λ r. ⌜ Filled Picks (now (kind .entry)) (now (from .entry)) (now (kids .entry)) (now (order .entry))
         (now (rows .entry)) (now (rows .exit)) n node ⌝ }
 {
@@ -149,8 +151,8 @@ fn any_of(
 }
 
 // Works out the rows of the tasks.
-fn task_rows(kind: &[u8; 128], conds: &[u64; 768], rows: &mut [u64; 2688], n: usize)
-    requires { ⌜ (n ≤ 128) × (length (now rows) ≡ 2688) ⌝ }
+fn task_rows(kind: &[u8; 128], conds: &[u64; 768], rows: &mut [u64; 2944], n: usize)
+    requires { ⌜ (n ≤ 128) × (length (now rows) ≡ 2944) ⌝ }
     ensures { λ r. ⌜ TasksFilled (now (kind .entry)) (now (conds .entry)) (now (rows .exit)) n ⌝ }
 {
     let mut i = 0;
@@ -170,10 +172,10 @@ pub fn node_rows(
     kids: &[u8; 128],
     order: &[u8; 16384],
     conds: &[u64; 768],
-    rows: &mut [u64; 2688],
+    rows: &mut [u64; 2944],
     n: usize,
 )
-    requires { ⌜ AtGroup (now from) (now kids) n 0 × (length (now rows) ≡ 2688) ⌝ }
+    requires { ⌜ AtGroup (now from) (now kids) n 0 × (length (now rows) ≡ 2944) ⌝ }
     ensures { λ r. ⌜ AllFilled (now (kind .entry)) (now (from .entry)) (now (kids .entry)) (now (order .entry))
         (now (conds .entry)) (now (rows .exit)) n ⌝ }
 {
