@@ -6,9 +6,8 @@ ghost use Rattle.runs.specs.Plan.{all-of, Picks};
 ghost use Rattle.marks_row.specs.Columns.{RowIs};
 ghost use Rattle.marks_row.specs.Segments.{AtSegment};
 ghost use Rattle.marks_row.specs.Tables.{AtGroup};
-ghost use Rattle.marks_tree.specs.Clobbers.{AllOfRow, clobberOf, Ored};
+ghost use Rattle.marks_tree.specs.Clobbers.{AllOfRow, OpenLiterals, clobberOf, Ored};
 ghost use Rattle.marks_tree.specs.Filled.{Filled, TasksFilled, AllFilled};
-use base::ALL;
 use base::kinds::ALL_OF;
 use base::kinds::TASK;
 use base::wide;
@@ -19,8 +18,11 @@ use marks_must_pairs::must_pairs;
 use marks_pair::Literals;
 use marks_row::Segment;
 use marks_row::children;
+use marks_row::columns::ASSERTS;
 use marks_row::columns::MAY_CLOBBER;
 use marks_row::columns::MUST_CLOBBER;
+use marks_row::columns::POSTS;
+use marks_row::columns::REQUIRES;
 use marks_row::task_words;
 use marks_row::write_row;
 
@@ -67,16 +69,27 @@ fn ored(a: [u64; 23], b: [u64; 23]) -> [u64; 23]
     out
 }
 
+// The literals that a pair of children of an all-of group can clobber where no child does: some task under the group
+// requires the literal and some task asserts the opposite, or the flag is left both ways.
+fn open_literals(words: [u64; 23]) -> Literals
+    ensures { λ r. ⌜ OpenLiterals words r ⌝ }
+{
+    let left = words[POSTS] & words[POSTS + 1];
+    let clear = (words[REQUIRES] & words[ASSERTS + 1]) | left;
+    let set = (words[REQUIRES + 1] & words[ASSERTS]) | left;
+    Literals {
+        clear: clear ^ (clear & words[MAY_CLOBBER]),
+        set: set ^ (set & words[MAY_CLOBBER + 1]),
+    }
+}
+
 // The row of an all-of group, from the rows of its children.
 fn all_row(kids: &[u8; 128], segment: Segment, order: &[u8; 16384], rows: &[u64; 2944]) -> [u64; 23]
     requires { ⌜ AtSegment (now kids) segment ⌝ }
     ensures { λ r. ⌜ AllOfRow (now (kids .entry)) segment (now (order .entry)) (now (rows .entry)) r ⌝ }
 {
     let words = all_words(kids, segment, order, rows);
-    let wanted = Literals {
-        clear: words[MAY_CLOBBER] ^ ALL,
-        set: words[MAY_CLOBBER + 1] ^ ALL,
-    };
+    let wanted = open_literals(words);
     let may = clobbering_pairs(kids, segment, order, rows, wanted);
     let clear = must_pairs(kids, segment, order, rows, 0, words[MUST_CLOBBER]);
     let set = must_pairs(kids, segment, order, rows, 1, words[MUST_CLOBBER + 1]);

@@ -25,6 +25,6 @@ module _ (p : Plan) (w : WellFormed p) where
     external-post-with m =
         let a = last-at (some-last p f v (m .history) (m .holds)) in
         let g : Execution p n (a .event ∷ a .before) = earlier-execution p w
-            (earlier-append (a .later) (a .event ∷ a .before)) (rw (a .splits) at (m .completed .execution)) in
+        (earlier-append (a .later) (a .event ∷ a .before)) (rw (a .splits) at (m .completed .execution)) in
         let o = event-of g in
         assertion-of p w n (a .event) (o .0) (o .1) (a .hit)
