@@ -43,7 +43,7 @@ module _ {p : Plan} {n c d f : ℕ} {v : Bool} where
       at (inl x) = x .1
       at (inr x) = absurd (u .not-after (x .0))
 
-  -- tasks under the two have it at opposite places, whatever their order
+  -- whatever the order of the two, c requires the literal and d asserts the opposite, or both leave the flag
   pub pair-opposite : WellFormed p → Pair p n f v c d → Opposite p f v c d
   pair-opposite w (inl x) = x .1
   pair-opposite w (inr x) = inl (external-pre-with p w (x .1 .0 .1), external-post-with p w (x .1 .0 .0))
@@ -71,7 +71,7 @@ module _ {kids : List ℕ} {segment : Segment} {order rows : List ℕ} {s c d : 
         → PairWord Pair kids segment order rows s w c d r
     shared-passes = pass-some w (bitAnd x y) false q (λ p n b f v. passed-pair b) shared
 
-  -- c and d are unordered
+  -- c and d are unordered: what c requires and d asserts, what both leave
   pub apart-both : (a b : ℕ) → Apart order c d → x ≡ wordAt rows c (firstOf requires + s)
       → y ≡ wordAt rows d (firstOf asserts + (1 - s)) → a ≡ wordAt rows c (firstOf posts + s)
       → b ≡ wordAt rows d (firstOf posts + (1 - s))

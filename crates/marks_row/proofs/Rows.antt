@@ -60,9 +60,9 @@ abbrev pub rowOf : (Column → ℕ) → List ℕ
 rowOf w =
     w avoid ∷ w (quiet false) ∷ w (quiet true) ∷ w (covered false) ∷ w (covered true) ∷ w (may-pre false)
     ∷ w (may-pre true) ∷ w (may-post false) ∷ w (may-post true) ∷ w (may-inc false) ∷ w (may-inc true)
-    ∷ w (requires false) ∷ w (requires true) ∷ w (asserts false) ∷ w (asserts true) ∷ w (posts false) ∷ w (posts true) ∷ w (may-clobber false)
-    ∷ w (may-clobber true) ∷ w (must-inc false) ∷ w (must-inc true) ∷ w (must-clobber false) ∷ w
-    (must-clobber true) ∷ []
+    ∷ w (requires false) ∷ w (requires true) ∷ w (asserts false) ∷ w (asserts true) ∷ w (posts false)
+    ∷ w (posts true) ∷ w (may-clobber false) ∷ w (may-clobber true) ∷ w (must-inc false) ∷ w (must-inc true)
+    ∷ w (must-clobber false) ∷ w (must-clobber true) ∷ []
 
 pub row-of : (w : Column → ℕ) → RowIs w (rowOf w)
 row-of w = record { is = at }

@@ -112,6 +112,7 @@ module _ {conds : List ℕ} {n : ℕ} {p : Plan} (t : Task conds n p) where
         at (may-inc v) f l = both v .inc f l
         at (requires v) f l = both v .pre-or-inc f l
         at (asserts v) f l = both v .inc-or-post f l
+        -- its postconditions are its may postconditions
         at (posts v) f l = says-map
             (Iff·trans (Iff·symm (may-post-is p (t .well-formed) (t .is-task) f v))
             (posts-is p (t .well-formed) (t .is-task) f v)) (both v .post f l)

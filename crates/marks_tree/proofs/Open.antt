@@ -8,7 +8,7 @@ use lib.Bits.{bitAnd, bitOr, bitXor}
 use lib.ListN.{getD}
 use Rattle.base.specs.Bits.{Says}
 use Rattle.base.proofs.Says.{says-map, says-and, says-or, says-less}
-use Rattle.runs.specs.Plan.{task, all-of, pre, inc, post, Place, Plan, Child, WellFormed}
+use Rattle.runs.specs.Plan.{task, all-of, Place, Plan, Child, WellFormed}
 use Rattle.runs.specs.Summary.{TaskWith}
 use Rattle.runs.proofs.Reflect.{clash}
 use Rattle.marks_row.specs.Columns.{Column, requires, asserts, posts, may-clobber, indexOf, Fact}
@@ -19,8 +19,8 @@ use Rattle.marks_pair.specs.Pairs.{Opposite, Pair}
 use Rattle.marks_pair.proofs.Pairs.{pair-opposite}
 use Rattle.marks_tree.specs.Clobbers.{OpenLiterals}
 
--- the word of a group in a column; the literals of one sign that tasks under it have at opposite places; of these,
--- those that no child may clobber
+-- the word of a group in a column; the literals of one sign that a task under it requires and one asserts the opposite
+-- of, or that are left both ways; of these, those that no child may clobber
 abbrev columnOf : List ℕ → Column → ℕ
 columnOf words k = getD words (indexOf k) 0
 
@@ -53,7 +53,7 @@ pub open-says : (words : List ℕ) → OpenLiterals words (record {
 open-says words p n h false f l = open-word words h false f l
 open-says words p n h true f l = open-word words h true f l
 
--- a literal that some pair of children clobbers is one of them
+-- every literal that some pair of children clobbers is one of these
 module _ (p : Plan) (w : WellFormed p) {n : ℕ} (kn : p .tree .kind n ≡ all-of) (f : ℕ) (v : Bool) where
   above : {i j : Place} {u : Bool} {c : ℕ} → Child p n c → TaskWith p i j f u c → TaskWith p i j f u n
   above {i} {j} {u} {c} hc x = with-child p w not-task i j f u .1 (c, hc, x)
