@@ -1,4 +1,4 @@
--- `open_literals` meets its contract. Assumes nothing.
+-- `open_literals` meets its contract, by the law of its words. Assumes nothing.
 use borrow.Author.Needs.{needs}
 use Rattle.marks_tree.proofs.Open.{open-says}
 use Rattle.marks_tree.proofs.open_literals.Statement.{statement}
