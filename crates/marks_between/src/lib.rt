@@ -59,7 +59,7 @@ fn in_the_way(order: &[u8; 16384], always: bool, b: usize, c: usize, d: usize) -
 }
 
 // The flags that the child b lets pass.
-fn lets_pass(rows: &[u64; 2688], always: bool, b: usize) -> u64
+fn lets_pass(rows: &[u64; 2944], always: bool, b: usize) -> u64
     requires { ⌜ b < 128 ⌝ }
     ensures { λ r. ⌜ ((f : ℕ) → f < 64 → T (bit r f) ↔ LetsPass (now (rows .entry)) always b f) ⌝ }
 {
@@ -74,7 +74,7 @@ fn passing_part(
     kids: &[u8; 128],
     segment: Segment,
     order: &[u8; 16384],
-    rows: &[u64; 2688],
+    rows: &[u64; 2944],
     always: bool,
     flags: u64,
     c: usize,
@@ -107,7 +107,7 @@ pub fn passing(
     kids: &[u8; 128],
     segment: Segment,
     order: &[u8; 16384],
-    rows: &[u64; 2688],
+    rows: &[u64; 2944],
     always: bool,
     flags: u64,
     c: usize,

@@ -11,7 +11,7 @@ use Rattle.runs.proofs.Summary.Quiet.{quiet-all}
 use Rattle.runs.proofs.Summary.Meet.{meet-all}
 use Rattle.runs.proofs.Summary.ByChildren.{avoids-all, may-pre-all, may-post-all, may-inc-all, must-inc-all}
 use Rattle.marks_row.specs.Columns.{Column, avoid, quiet, covered, may-pre, may-post, may-inc, requires, asserts}
-use Rattle.marks_row.specs.Columns.{may-clobber, must-inc, must-clobber}
+use Rattle.marks_row.specs.Columns.{posts, may-clobber, must-inc, must-clobber}
 use Rattle.marks_row.specs.Columns.{indexOf, firstOf, Fact}
 use Rattle.marks_group.specs.Groups.{Others, Within}
 use Rattle.runs.proofs.Plan.Numbers.{sign-small}
@@ -30,6 +30,7 @@ module _ (p : Plan) (w : WellFormed p) {n : ℕ} (l : Node p n) (k : p .tree .ki
   every-part (may-inc v) s = absurd (omega arith)
   every-part (requires v) s = absurd (omega arith)
   every-part (asserts v) s = absurd (omega arith)
+  every-part (posts v) s = absurd (omega arith)
   every-part (may-clobber v) s = absurd (omega arith)
   every-part (must-inc v) s = absurd (omega arith)
   every-part (must-clobber v) s = absurd (omega arith)
@@ -58,6 +59,7 @@ module _ (p : Plan) (w : WellFormed p) {n : ℕ} (l : Node p n) (k : p .tree .ki
   some-part (may-inc v) s = alone (may-inc-all p w f v l k)
   some-part (requires v) s = alone (with-child p w group-all pre inc f v)
   some-part (asserts v) s = alone (with-child p w group-all inc post f v)
+  some-part (posts v) s = alone (with-child p w group-all post post f v)
   some-part (may-clobber v) s = (λ x. (x .0, x .1, (x .2, tt)), λ x. (x .0, x .1, x .2 .0))
   some-part (must-inc v) s = alone (must-inc-all p w f v k)
   some-part (must-clobber v) s = (λ x. x, λ x. x)

@@ -20,7 +20,7 @@ use Rattle.runs.proofs.Summary.ByChildren.{avoids-skip, neutral-skip, covers-sk
 use Rattle.runs.proofs.Summary.Clobber.{clobber-any, clobber-optional}
 use Rattle.runs.proofs.Summary.ReflectClobber.{must-clobber-any, must-clobber-optional}
 use Rattle.marks_row.specs.Columns.{Column, avoid, quiet, covered, may-pre, may-post, may-inc, requires, asserts}
-use Rattle.marks_row.specs.Columns.{may-clobber, must-inc, must-clobber}
+use Rattle.marks_row.specs.Columns.{posts, may-clobber, must-inc, must-clobber}
 use Rattle.marks_row.specs.Columns.{indexOf, firstOf, Fact}
 use Rattle.runs.proofs.Plan.Numbers.{sign-small}
 
@@ -65,6 +65,7 @@ module _ (p : Plan) (w : WellFormed p) where
     some-branch (may-inc v) l = may-any p w (Incondition p f v) k
     some-branch (requires v) l = with-child (group-any k) pre inc f v
     some-branch (asserts v) l = with-child (group-any k) inc post f v
+    some-branch (posts v) l = with-child (group-any k) post post f v
     some-branch (may-clobber v) l = clobber-any p w f v k
     some-branch (must-inc v) l = absurd (omega arith)
     some-branch (must-clobber v) l = absurd (omega arith)
@@ -79,6 +80,7 @@ module _ (p : Plan) (w : WellFormed p) where
     every-branch (may-inc v) l = absurd (omega (arith, sign-small v))
     every-branch (requires v) l = absurd (omega (arith, sign-small v))
     every-branch (asserts v) l = absurd (omega (arith, sign-small v))
+    every-branch (posts v) l = absurd (omega (arith, sign-small v))
     every-branch (may-clobber v) l = absurd (omega (arith, sign-small v))
     every-branch (must-inc v) l = must-any p w (Incondition p f v) k
     every-branch (must-clobber v) l = must-clobber-any p w f v k
@@ -109,6 +111,7 @@ module _ (p : Plan) (w : WellFormed p) where
     optional-branch (may-inc v) m l = may-branch p w (Incondition p f v) k (inc-skip p w f v n)
     optional-branch (requires v) m l = with-child (group-optional k) pre inc f v
     optional-branch (asserts v) m l = with-child (group-optional k) inc post f v
+    optional-branch (posts v) m l = with-child (group-optional k) post post f v
     optional-branch (may-clobber v) m l = clobber-optional p w f v k
     optional-branch (must-inc v) m l = absurd (omega arith)
     optional-branch (must-clobber v) m l = absurd (omega arith)

@@ -6,7 +6,7 @@ use Rattle.base.specs.Bits.{Says}
 use Rattle.base.proofs.Says.{says-all}
 use Rattle.runs.specs.Plan.{Plan, Child}
 use Rattle.marks_row.specs.Columns.{Column, avoid, quiet, covered, may-pre, may-post, may-inc, requires, asserts}
-use Rattle.marks_row.specs.Columns.{may-clobber, must-inc, must-clobber}
+use Rattle.marks_row.specs.Columns.{posts, may-clobber, must-inc, must-clobber}
 use Rattle.marks_siblings.specs.declared.Siblings.{Siblings}
 use Rattle.marks_siblings.specs.Siblings.{SiblingWords}
 use Rattle.marks_group.specs.Groups.{Others}
@@ -24,6 +24,7 @@ masked h (may-post v) f l = h .avoid-after f l
 masked h (may-inc v) f l = says-all l refl tt
 masked h (requires v) f l = says-all l refl tt
 masked h (asserts v) f l = says-all l refl tt
+masked h (posts v) f l = says-all l refl tt
 masked h (may-clobber v) f l = says-all l refl tt
 masked h (must-inc v) f l = says-all l refl tt
 masked h (must-clobber v) f l = h .silent-apart f l

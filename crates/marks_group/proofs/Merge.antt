@@ -13,7 +13,7 @@ use Rattle.runs.specs.Plan.{all-of, any-of, optional, Plan}
 use Rattle.marks_row.specs.declared.Segment.{Segment}
 use Rattle.marks_row.specs.Segments.{Position}
 use Rattle.marks_row.specs.Columns.{Column, avoid, quiet, covered, may-pre, may-post, may-inc, requires, asserts}
-use Rattle.marks_row.specs.Columns.{may-clobber, must-inc, must-clobber}
+use Rattle.marks_row.specs.Columns.{posts, may-clobber, must-inc, must-clobber}
 use Rattle.marks_row.specs.Columns.{indexOf, firstOf, Fact, wordAt, Right, Row, RowIs}
 use Rattle.marks_siblings.specs.Group.{Group}
 use Rattle.marks_group.specs.Groups.{Others, WithinRow, Merged, Unmerged, Joined}
@@ -37,14 +37,14 @@ zeros-at (suc n) (suc j) = zeros-at n j
 
 -- the words of `start_words` up to k: ones from first to k, zeros else
 pub record Starting (first k : ℕ) (out : List ℕ) : Type 0 where
-  pub long : length out ≡ 21
+  pub long : length out ≡ 23
   pub every : (j : ℕ) → first ≤ j → j < k → getD out j 0 ≡ ones
   pub some : (j : ℕ) → (j < first) ⊎ (k ≤ j) → getD out j 0 ≡ 0
 
-pub start-none : (first : ℕ) → Starting first first (zeros 21)
-start-none first = record { long = refl; every = λ j a b. absurd (omega arith); some = λ j x. zeros-at 21 j }
+pub start-none : (first : ℕ) → Starting first first (zeros 23)
+start-none first = record { long = refl; every = λ j a b. absurd (omega arith); some = λ j x. zeros-at 23 j }
 
-pub start-more : {first k : ℕ} {out : List ℕ} → first ≤ k → k < 21 → Starting first k out
+pub start-more : {first k : ℕ} {out : List ℕ} → first ≤ k → k < 23 → Starting first k out
     → Starting first (k + 1) (set out k ones)
 start-more {first} {k} {out} l m s = record {
   long = length-set out k ones ∙ s .long;
@@ -83,7 +83,7 @@ module _ {first last : ℕ} {kids : List ℕ} {lo : ℕ} {P M : Column → ℕ �
   }
 
 -- a mask of ones
-pub unmasked : {mask : List ℕ} → Unmerged 0 21 mask → (k : Column) (f : ℕ) → f < 64
+pub unmasked : {mask : List ℕ} → Unmerged 0 23 mask → (k : Column) (f : ℕ) → f < 64
     → Says (getD mask (indexOf k) 0) f (Unit {0})
 unmasked u k f l = says-all l (u .every (indexOf k) (index-small k) (omega arith) (index-small k)) tt
 
@@ -94,7 +94,7 @@ module _ {kids : List ℕ} {segment : Segment} {rows : List ℕ} {p : Plan} {n :
 
   -- the words of an any-of group, over all its children
   abbrev pub AnyWords : ℕ → List ℕ → Type 0
-  AnyWords i r = Joined (firstOf must-inc) 21 kids (segment .start) i (λ k f c. Fact p c f k) (λ k f c. Unit {0}) r
+  AnyWords i r = Joined (firstOf must-inc) 23 kids (segment .start) i (λ k f c. Fact p c f k) (λ k f c. Unit {0}) r
 
   pub any-row : p .tree .kind n ≡ any-of → {r : List ℕ} → AnyWords (segment .end) r → Row p n r
   any-row kn j = record {
@@ -128,6 +128,7 @@ module _ {kids : List ℕ} {segment : Segment} {rows : List ℕ} {p : Plan} {n :
       at (may-inc v) f l = branch (may-inc v) (omega arith) (omega (arith, sign-small v)) f l
       at (requires v) f l = branch (requires v) (omega arith) (omega (arith, sign-small v)) f l
       at (asserts v) f l = branch (asserts v) (omega arith) (omega (arith, sign-small v)) f l
+      at (posts v) f l = branch (posts v) (omega arith) (omega (arith, sign-small v)) f l
       at (may-clobber v) f l = branch (may-clobber v) (omega arith) (omega (arith, sign-small v)) f l
       at (must-inc v) f l = says-none refl (optional-musts p (g .well-formed) kn f v .0)
       at (must-clobber v) f l = says-none refl (optional-musts p (g .well-formed) kn f v .1)

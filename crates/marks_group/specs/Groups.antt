@@ -11,7 +11,7 @@ use Rattle.runs.specs.Summary.{MayClobber, Silent, MustClobber}
 use Rattle.marks_row.specs.declared.Segment.{Segment}
 use Rattle.marks_row.specs.Tables.{RepresentsOrder}
 use Rattle.marks_row.specs.Columns.{Column, avoid, quiet, covered, may-pre, may-post, may-inc, requires, asserts}
-use Rattle.marks_row.specs.Columns.{may-clobber, must-inc, must-clobber}
+use Rattle.marks_row.specs.Columns.{posts, may-clobber, must-inc, must-clobber}
 use Rattle.marks_row.specs.Columns.{indexOf, Fact, wordAt, Row}
 use Rattle.marks_row.specs.Segments.{Every, Some}
 use Rattle.marks_siblings.specs.Group.{Group}
@@ -27,6 +27,7 @@ module _ (p : Plan) (n c f : ℕ) where
   Others (may-inc v) = Unit {0}
   Others (requires v) = Unit {0}
   Others (asserts v) = Unit {0}
+  Others (posts v) = Unit {0}
   Others (may-clobber v) = Unit {0}
   Others (must-inc v) = Unit {0}
   Others (must-clobber v) = (b : ℕ) → Child p n b → Unordered p b c → Silent p f b
@@ -41,11 +42,12 @@ Within p n f (may-post v) = Fact p n f (may-post v)
 Within p n f (may-inc v) = Fact p n f (may-inc v)
 Within p n f (requires v) = Fact p n f (requires v)
 Within p n f (asserts v) = Fact p n f (asserts v)
+Within p n f (posts v) = Fact p n f (posts v)
 Within p n f (may-clobber v) = (c : ℕ) × Child p n c × MayClobber p f v c
 Within p n f (must-inc v) = Fact p n f (must-inc v)
 Within p n f (must-clobber v) = (c : ℕ) × Child p n c × (MustClobber p f v c × Others p n c f (must-clobber v))
 
--- 21 words say what the all-of group n shows by its children one by one
+-- 23 words say what the all-of group n shows by its children one by one
 pub record WithinRow (p : Plan) (n : ℕ) (w : List ℕ) : Type 0 where
   pub says : (k : Column) (f : ℕ) → f < 64 → Says (getD w (indexOf k) 0) f (Within p n f k)
 
@@ -67,12 +69,12 @@ pub record JoinedWord (first last k x y mask r : ℕ) : Type 0 where
 
 -- the words r are the words a and those of a child
 pub record Merged (first last : ℕ) (a rows : List ℕ) (child : ℕ) (mask r : List ℕ) : Type 0 where
-  pub words : (k : ℕ) → k < 21 → JoinedWord first last k (getD a k 0) (wordAt rows child k) (getD mask k 0) (getD r k 0)
+  pub words : (k : ℕ) → k < 23 → JoinedWord first last k (getD a k 0) (wordAt rows child k) (getD mask k 0) (getD r k 0)
 
 -- the words before the first child
 pub record Unmerged (first last : ℕ) (r : List ℕ) : Type 0 where
-  pub every : (k : ℕ) → k < 21 → first ≤ k → k < last → getD r k 0 ≡ ones
-  pub some : (k : ℕ) → k < 21 → (k < first) ⊎ (last ≤ k) → getD r k 0 ≡ 0
+  pub every : (k : ℕ) → k < 23 → first ≤ k → k < last → getD r k 0 ≡ ones
+  pub some : (k : ℕ) → k < 23 → (k < first) ⊎ (last ≤ k) → getD r k 0 ≡ 0
 
 -- the words r say of the children at the positions from low to high: in the columns from first to last that every one
 -- has P, in the others that some one has P and M

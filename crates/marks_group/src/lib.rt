@@ -19,7 +19,7 @@ use marks_siblings::Siblings;
 use marks_siblings::all_siblings;
 
 // What each column of a child is masked by.
-fn mask_words(s: Siblings) -> [u64; 21]
+fn mask_words(s: Siblings) -> [u64; 23]
     ensures { λ r. ⌜ RowIs (maskOf s) r ⌝ }
 {
     [
@@ -42,17 +42,19 @@ fn mask_words(s: Siblings) -> [u64; 21]
         ALL,
         ALL,
         ALL,
+        ALL,
+        ALL,
         s.silent_apart,
         s.silent_apart,
     ]
 }
 
 // The words before the first child: ones in the columns from first to last.
-fn start_words(first: usize, last: usize) -> [u64; 21]
-    requires { ⌜ (first ≤ last) × (last ≤ 21) ⌝ }
+fn start_words(first: usize, last: usize) -> [u64; 23]
+    requires { ⌜ (first ≤ last) × (last ≤ 23) ⌝ }
     ensures { λ r. ⌜ Unmerged first last r ⌝ }
 {
-    let mut out = [0u64; 21];
+    let mut out = [0u64; 23];
     let mut k = first;
     while k < last {
         out[k] = ALL;
@@ -79,17 +81,17 @@ fn joined(first: usize, last: usize, k: usize, word: u64, child: u64, mask: u64)
 fn merged(
     first: usize,
     last: usize,
-    words: [u64; 21],
-    rows: &[u64; 2688],
+    words: [u64; 23],
+    rows: &[u64; 2944],
     child: usize,
-    mask: [u64; 21],
-) -> [u64; 21]
+    mask: [u64; 23],
+) -> [u64; 23]
     requires { ⌜ child < 128 ⌝ }
     ensures { λ r. ⌜ Merged first last words (now (rows .entry)) child mask r ⌝ }
 {
     let mut out = words;
     let mut k = 0;
-    while k < 21 {
+    while k < 23 {
         out[k] = joined(first, last, k, words[k], word_at(rows, child, k), mask[k]);
         k += 1;
     }
@@ -97,7 +99,7 @@ fn merged(
 }
 
 // The words of one branch more, which has no tasks: it asserts nothing and asks for nothing, and has no must.
-fn with_empty(words: [u64; 21]) -> [u64; 21]
+fn with_empty(words: [u64; 23]) -> [u64; 23]
     ensures { λ r. ⌜ RowIs (withEmpty words) r ⌝ }
 {
     [
@@ -118,6 +120,8 @@ fn with_empty(words: [u64; 21]) -> [u64; 21]
         words[14],
         words[15],
         words[16],
+        words[17],
+        words[18],
         0,
         0,
         0,
@@ -126,7 +130,7 @@ fn with_empty(words: [u64; 21]) -> [u64; 21]
 }
 
 // The row of an any-of or optional group, from the rows of its children.
-pub fn any_words(kind: u8, kids: &[u8; 128], segment: Segment, rows: &[u64; 2688]) -> [u64; 21]
+pub fn any_words(kind: u8, kids: &[u8; 128], segment: Segment, rows: &[u64; 2944]) -> [u64; 23]
     requires { ⌜ AtSegment (now kids) segment ⌝ }
     ensures { λ r. ⌜ AnyRow kind (now (kids .entry)) segment (now (rows .entry)) r ⌝ }
 {
@@ -149,8 +153,8 @@ pub fn all_words(
     kids: &[u8; 128],
     segment: Segment,
     order: &[u8; 16384],
-    rows: &[u64; 2688],
-) -> [u64; 21]
+    rows: &[u64; 2944],
+) -> [u64; 23]
     requires { ⌜ AtSegment (now kids) segment ⌝ }
     ensures { λ r. ⌜ AllRow (now (kids .entry)) segment (now (order .entry)) (now (rows .entry)) r ⌝ }
 {

@@ -14,13 +14,14 @@ use Rattle.base.proofs.Words.{or-zero}
 use Rattle.runs.specs.Plan.{Plan}
 use Rattle.marks_row.specs.declared.Segment.{Segment}
 use Rattle.marks_row.specs.Segments.{Position, Reached, Every}
-use Rattle.marks_row.specs.Columns.{may-pre, requires, indexOf, wordAt}
+use Rattle.marks_row.specs.Columns.{requires, posts, indexOf, wordAt}
 use Rattle.marks_row.proofs.Rows.{cell}
 use Rattle.marks_row.proofs.Segments.{every-next, every-child}
 use Rattle.marks_between.specs.Passing.{Pairing}
 use Rattle.marks_between.proofs.Laws.{kid}
 use Rattle.marks_pair.specs.declared.Literals.{Literals}
-use Rattle.marks_pair.specs.Pairs.{Pair, signWord, PairWords, NextPartner}
+use Rattle.marks_pair.specs.Pairs.{Opposite, signWord, PairWords, NextPartner}
+use Rattle.marks_pair.proofs.Pairs.{pair-opposite}
 use Rattle.marks_may_pairs.specs.Search.{NoClobber, Stands, Search}
 
 word-zero : (r : Literals) → bitOr (r .clear) (r .set) ≡ 0 → (v : Bool) → signWord r v ≡ 0
@@ -43,15 +44,18 @@ module _ {kids : List ℕ} {segment : Segment} {order rows : List ℕ} {wanted :
     here = λ p n g. rw e at (none p n g);
   }
     where
-      required : (p : Plan) (n : ℕ) → Pairing kids segment order rows p n → (v : Bool) (f : ℕ) → f < 64 → {d : ℕ}
-          → Pair p n f v c d
-          → T (bit (wordAt rows c (indexOf (requires v))) f) ⊎ T (bit (wordAt rows c (indexOf (may-pre v))) f)
-      required p n g v f l (inl x) = inl ((cell (g .group .children c (kid g e at)) l (requires v)) .1 (x .1 .0))
-      required p n g v f l (inr x) = inr ((cell (g .group .children c (kid g e at)) l (may-pre v)) .1 (x .1 .0 .1))
+      concerned : (p : Plan) (n : ℕ) → Pairing kids segment order rows p n → (v : Bool) (f : ℕ) → f < 64 → {d : ℕ}
+          → Opposite p f v c d
+          → T (bit (wordAt rows c (indexOf (requires v))) f) ⊎ T (bit (wordAt rows c (indexOf (posts v))) f)
+      concerned p n g v f l (inl x) = inl ((cell (g .group .children c (kid g e at)) l (requires v)) .1 (x .0))
+      concerned p n g v f l (inr x) = inr ((cell (g .group .children c (kid g e at)) l (posts v)) .1 (x .0))
 
       none : (p : Plan) (n : ℕ) → Pairing kids segment order rows p n
           → Every kids (segment .start) k (NoClobber p n wanted c)
-      none p n g = record { each = λ x y z v f l t q. h .1 .none v f l t (required p n g v f l q) }
+      none p n g = record {
+        each = λ x y z v f l t q. h .1 .none v f l t
+            (concerned p n g v f l (pair-opposite (g .group .well-formed) q));
+      }
 
   module _ {c : ℕ} {r : Literals} (at : Position segment i) (to : Position segment j) (e : c ≡ getD kids i 0)
       (w : PairWords kids segment order rows wanted c (getD kids j 0) r) where

@@ -22,7 +22,7 @@ pub fn clobbering_pair(
     kids: &[u8; 128],
     segment: Segment,
     order: &[u8; 16384],
-    rows: &[u64; 2688],
+    rows: &[u64; 2944],
     wanted: Literals,
     child: usize,
     partner: usize,
@@ -61,7 +61,7 @@ pub fn clobbering_pairs(
     kids: &[u8; 128],
     segment: Segment,
     order: &[u8; 16384],
-    rows: &[u64; 2688],
+    rows: &[u64; 2944],
     wanted: Literals,
 ) -> Literals
     requires { ⌜ AtSegment (now kids) segment ⌝ }

@@ -8,5 +8,5 @@ use Rattle.plan_check.specs.Meaning.{planOf}
 use Rattle.marks_row.specs.Columns.{Right}
 
 pub record RowsOf (b rows : List ℕ) : Type 0 where
-  pub long : length rows ≡ 2688
+  pub long : length rows ≡ 2944
   pub right : (n : ℕ) → n < nodeCount b → Right (planOf b) rows n

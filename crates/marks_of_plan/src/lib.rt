@@ -16,15 +16,15 @@ use plan_format::fields::nodes;
 use table_all::fill_tables;
 use table_orders::no_order;
 
-fn no_rows() -> [u64; 2688]
-    ensures { λ r. ⌜ length r ≡ 2688 ⌝ }
+fn no_rows() -> [u64; 2944]
+    ensures { λ r. ⌜ length r ≡ 2944 ⌝ }
 {
-    [0u64; 2688]
+    [0u64; 2944]
 }
 
 // The rows of all nodes.
-fn fill_rows(plan: &[u8], rows: &mut [u64; 2688])
-    requires { ⌜ (refusal (now plan) ≡ 0) × (length (now rows) ≡ 2688) ⌝ }
+fn fill_rows(plan: &[u8], rows: &mut [u64; 2944])
+    requires { ⌜ (refusal (now plan) ≡ 0) × (length (now rows) ≡ 2944) ⌝ }
     ensures { λ r. ⌜ RowsOf (now (plan .entry)) (now (rows .exit)) ⌝ }
 {
     let mut kind = no_nodes();

@@ -10,11 +10,12 @@ use lib.Dec.{T}
 use Rattle.base.specs.Bits.{bit, Says}
 use Rattle.base.proofs.Says.{says-map, says-self, says-and, says-or, no-flag}
 use Rattle.base.proofs.Words.{or-zero}
-use Rattle.runs.specs.Plan.{Plan, Child, Before, Unordered}
-use Rattle.runs.specs.Summary.{MayClobber, ClobberByPairs, in-child, unordered-pair, passed-on}
+use Rattle.runs.specs.Plan.{Plan, Child, Before, Unordered, WellFormed}
+use Rattle.runs.specs.Summary.{MayClobber, ClobberByPairs, in-child, unordered-pair, opposed-pair, passed-on}
+use Rattle.runs.proofs.Summary.External.{external-pre-with, external-post-with}
 use Rattle.marks_row.specs.declared.Segment.{Segment}
 use Rattle.marks_row.specs.Tables.{code}
-use Rattle.marks_row.specs.Columns.{may-pre, may-post, requires, asserts, indexOf, firstOf, Fact, wordAt}
+use Rattle.marks_row.specs.Columns.{may-pre, may-post, requires, asserts, posts, indexOf, firstOf, Fact, wordAt}
 use Rattle.runs.proofs.Plan.Numbers.{opposite}
 use Rattle.marks_row.proofs.Rows.{read}
 use Rattle.marks_siblings.specs.Siblings.{Apart}
@@ -23,7 +24,7 @@ use Rattle.marks_row.specs.Musts.{SaysOf}
 use Rattle.marks_between.specs.Passing.{Between, OfGroups, PassingWord, Pairing, PairWord, SomePair}
 use Rattle.marks_between.proofs.Pair.{no-pair, pair-of, pass-none, pass-some}
 use Rattle.marks_pair.specs.declared.Literals.{Literals}
-use Rattle.marks_pair.specs.Pairs.{Pair, signWord, PairWords, NoneRequired}
+use Rattle.marks_pair.specs.Pairs.{Opposite, Pair, signWord, PairWords, Unconcerned}
 
 -- which of the two rules a pair meets, by its order
 module _ {p : Plan} {n c d f : ℕ} {v : Bool} where
@@ -35,12 +36,17 @@ module _ {p : Plan} {n c d f : ℕ} {v : Bool} where
       at (inl x) = absurd (x .0 .not-after q)
       at (inr x) = x .1
 
-  apart-pair : Unordered p c d → (Fact p c f (requires v) × Fact p d f (asserts (not v))) ↔ Pair p n f v c d
+  apart-pair : Unordered p c d → Opposite p f v c d ↔ Pair p n f v c d
   apart-pair u = (λ x. inl (u, x), at)
     where
-      at : Pair p n f v c d → Fact p c f (requires v) × Fact p d f (asserts (not v))
+      at : Pair p n f v c d → Opposite p f v c d
       at (inl x) = x .1
       at (inr x) = absurd (u .not-after (x .0))
+
+  -- whatever the order of the two, c requires the literal and d asserts the opposite, or both leave the flag
+  pub pair-opposite : WellFormed p → Pair p n f v c d → Opposite p f v c d
+  pair-opposite w (inl x) = x .1
+  pair-opposite w (inr x) = inl (external-pre-with p w (x .1 .0 .1), external-post-with p w (x .1 .0 .0))
 
   unpaired : ¬ Before p d c → ¬ Unordered p c d → ¬ Pair p n f v c d
   unpaired k u (inl x) = u (x .0)
@@ -65,15 +71,18 @@ module _ {kids : List ℕ} {segment : Segment} {order rows : List ℕ} {s c d : 
         → PairWord Pair kids segment order rows s w c d r
     shared-passes = pass-some w (bitAnd x y) false q (λ p n b f v. passed-pair b) shared
 
-  -- c and d are unordered
-  pub apart-both : Apart order c d → x ≡ wordAt rows c (firstOf requires + s)
-      → y ≡ wordAt rows d (firstOf asserts + (1 - s))
-      → PairWord Pair kids segment order rows s w c d (bitAnd w (bitAnd x y))
-  apart-both u ex ey = pair-of w (bitAnd x y)
-      (λ p n g hc hd v e f l. says-map (apart-pair ((apart-is (g .orders) hc hd) .0 u)) (says-and {x = x} {y = y} refl
-      (read (g .group .children c hc) (requires v) (firstOf requires + s) x f (omega (arith, e)) ex l)
-      (read (g .group .children d hd) (asserts (not v)) (firstOf asserts + (1 - s)) y f
-      (omega (arith, opposite v s e)) ey l)))
+  -- c and d are unordered: what c requires and d asserts, what both leave
+  pub apart-both : (a b : ℕ) → Apart order c d → x ≡ wordAt rows c (firstOf requires + s)
+      → y ≡ wordAt rows d (firstOf asserts + (1 - s)) → a ≡ wordAt rows c (firstOf posts + s)
+      → b ≡ wordAt rows d (firstOf posts + (1 - s))
+      → PairWord Pair kids segment order rows s w c d (bitAnd w (bitOr (bitAnd x y) (bitAnd a b)))
+  apart-both a b u ex ey ea eb = pair-of w (bitOr (bitAnd x y) (bitAnd a b))
+      (λ p n g hc hd v e f l. let rc = g .group .children c hc in let rd = g .group .children d hd in
+      says-map (apart-pair ((apart-is (g .orders) hc hd) .0 u)) (says-or {x = bitAnd x y} {y = bitAnd a b} refl
+      (says-and {x = x} {y = y} refl (read rc (requires v) (firstOf requires + s) x f (omega (arith, e)) ex l)
+      (read rd (asserts (not v)) (firstOf asserts + (1 - s)) y f (omega (arith, opposite v s e)) ey l))
+      (says-and {x = a} {y = b} refl (read rc (posts v) (firstOf posts + s) a f (omega (arith, e)) ea l)
+      (read rd (posts (not v)) (firstOf posts + (1 - s)) b f (omega (arith, opposite v s e)) eb l))))
 
 pub neither-rule : {kids : List ℕ} {segment : Segment} {order rows : List ℕ} {s c d : ℕ} (w : ℕ)
     → ¬ (code order d c ≡ 1) → ¬ Apart order c d
@@ -98,29 +107,31 @@ pair-words {kids} {segment} {order} {rows} {c} {d} {wanted} {r} a b = record { a
     says p n g hc hd false f l = a .says p n g hc hd false refl f l
     says p n g hc hd true f l = b .says p n g hc hd true refl f l
 
--- 01's rule by pairs: a child has it, or some pair
+-- the rule by pairs: a child has it, or some pair
 pub by-pairs : (p : Plan) (n f : ℕ) (v : Bool)
     → ClobberByPairs p f v n ↔ (((c : ℕ) × Child p n c × MayClobber p f v c) ⊎ SomePair p n (Pair p n f v))
 by-pairs p n f v = (to, back)
   where
     to : ClobberByPairs p f v n → ((c : ℕ) × Child p n c × MayClobber p f v c) ⊎ SomePair p n (Pair p n f v)
     to (in-child c hc x) = inl (c, hc, x)
-    to (unordered-pair c d hc hd u x y) = inr (c, hc, (d, hd, inl (u, (x, y))))
+    to (unordered-pair c d hc hd u x y) = inr (c, hc, (d, hd, inl (u, inl (x, y))))
+    to (opposed-pair c d hc hd u x y) = inr (c, hc, (d, hd, inl (u, inr (x, y))))
     to (passed-on c d hc hd q x y z) = inr (c, hc, (d, hd, inr (q, ((x, y), z))))
 
     pair : (c : ℕ) → Child p n c → (d : ℕ) → Child p n d → Pair p n f v c d → ClobberByPairs p f v n
-    pair c hc d hd (inl x) = unordered-pair c d hc hd (x .0) (x .1 .0) (x .1 .1)
+    pair c hc d hd (inl (u, inl x)) = unordered-pair c d hc hd u (x .0) (x .1)
+    pair c hc d hd (inl (u, inr x)) = opposed-pair c d hc hd u (x .0) (x .1)
     pair c hc d hd (inr x) = passed-on c d hc hd (x .0) (x .1 .0 .0) (x .1 .0 .1) (x .1 .1)
 
     back : ((c : ℕ) × Child p n c × MayClobber p f v c) ⊎ SomePair p n (Pair p n f v) → ClobberByPairs p f v n
     back (inl x) = in-child (x .0) (x .1) (x .2)
     back (inr x) = pair (x .0) (x .1) (x .2 .0) (x .2 .1) (x .2 .2)
 
--- c requires no wanted literal
-pub none-required : (rows : List ℕ) (wanted : Literals) (c a b x y : ℕ) → a ≡ wordAt rows c 11 → b ≡ wordAt rows c 5
-    → x ≡ wordAt rows c 12 → y ≡ wordAt rows c 6
-    → bitOr (bitAnd (wanted .clear) (bitOr a b)) (bitAnd (wanted .set) (bitOr x y)) ≡ 0 → NoneRequired rows wanted c
-none-required rows wanted c a b x y ea eb ex ey e = record { none = λ v f l. at v f }
+-- c requires or leaves no wanted literal
+pub unconcerned : (rows : List ℕ) (wanted : Literals) (c a b x y : ℕ) → a ≡ wordAt rows c 11 → b ≡ wordAt rows c 15
+    → x ≡ wordAt rows c 12 → y ≡ wordAt rows c 16
+    → bitOr (bitAnd (wanted .clear) (bitOr a b)) (bitAnd (wanted .set) (bitOr x y)) ≡ 0 → Unconcerned rows wanted c
+unconcerned rows wanted c a b x y ea eb ex ey e = record { none = λ v f l. at v f }
   where
     none : (w s t : ℕ) → bitAnd w (bitOr s t) ≡ 0 → (f : ℕ) → T (bit w f) → ¬ (T (bit s f) ⊎ T (bit t f))
     none w s t q f h z = no-flag (bitAnd w (bitOr s t)) f q
@@ -131,6 +142,6 @@ none-required rows wanted c a b x y ea eb ex ey e = record { none = λ v f l. at
     both = or-zero (bitAnd (wanted .clear) (bitOr a b)) (bitAnd (wanted .set) (bitOr x y)) e
 
     at : (v : Bool) (f : ℕ) → T (bit (signWord wanted v) f)
-        → ¬ (T (bit (wordAt rows c (indexOf (requires v))) f) ⊎ T (bit (wordAt rows c (indexOf (may-pre v))) f))
+        → ¬ (T (bit (wordAt rows c (indexOf (requires v))) f) ⊎ T (bit (wordAt rows c (indexOf (posts v))) f))
     at false f = rw (ea, eb) at (none (wanted .clear) a b (both .0) f)
     at true f = rw (ex, ey) at (none (wanted .set) x y (both .1) f)

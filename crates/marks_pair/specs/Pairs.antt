@@ -8,13 +8,18 @@ use lib.Dec.{T}
 use Rattle.base.specs.Bits.{bit, Says}
 use Rattle.runs.specs.Plan.{Plan, Child, Before, Unordered}
 use Rattle.marks_row.specs.declared.Segment.{Segment}
-use Rattle.marks_row.specs.Columns.{may-pre, may-post, requires, asserts, Fact, wordIn}
+use Rattle.marks_row.specs.Columns.{may-pre, may-post, requires, asserts, posts, Fact, wordIn}
 use Rattle.marks_between.specs.Passing.{Between, OfGroups}
 use Rattle.marks_pair.specs.declared.Literals.{Literals}
 
--- the two rules by pairs of 01's mark 6
+-- c requires the literal and d asserts the opposite; or (02) c and d leave the flag opposite ways
+abbrev pub Opposite : Plan → ℕ → Bool → ℕ → ℕ → Type 0
+Opposite p f v c d = (Fact p c f (requires v) × Fact p d f (asserts (not v)))
+    ⊎ (Fact p c f (posts v) × Fact p d f (posts (not v)))
+
+-- the rules by pairs of mark 6: for unordered children, and for a child that stands before another
 abbrev pub Pair : Plan → ℕ → ℕ → Bool → ℕ → ℕ → Type 0
-Pair p n f v c d = (Unordered p c d × (Fact p c f (requires v) × Fact p d f (asserts (not v))))
+Pair p n f v c d = (Unordered p c d × Opposite p f v c d)
     ⊎ (Before p d c × ((Fact p d f (may-post (not v)) × Fact p c f (may-pre v)) × Between p n f c d))
 
 -- the word of one sign
@@ -29,11 +34,11 @@ pub record PairWords (kids : List ℕ) (segment : Segment) (order rows : List �
   pub says : OfGroups kids segment order rows (λ p n. Child p n c → Child p n d → (v : Bool) (f : ℕ) → f < 64
       → Says (signWord r v) f (T (bit (signWord wanted v) f) × Pair p n f v c d))
 
--- no wanted literal is one that c requires, or that may be its external precondition
-pub record NoneRequired (rows : List ℕ) (wanted : Literals) (c : ℕ) : Type 0 where
+-- by its row, c requires or leaves no wanted literal
+pub record Unconcerned (rows : List ℕ) (wanted : Literals) (c : ℕ) : Type 0 where
   pub none : (v : Bool) (f : ℕ) → f < 64 → T (bit (signWord wanted v) f)
-      → ¬ (T (bit (wordIn rows c (requires v)) f) ⊎ T (bit (wordIn rows c (may-pre v)) f))
+      → ¬ (T (bit (wordIn rows c (requires v)) f) ⊎ T (bit (wordIn rows c (posts v)) f))
 
--- where the pairs with c go on: at the next position, or at the end if none is required
+-- where the pairs with c go on: at the next position, or at the end if c is unconcerned
 abbrev pub NextPartner : List ℕ → Literals → ℕ → ℕ → ℕ → ℕ → Type 0
-NextPartner rows wanted c next end r = (r ≡ next) ⊎ ((r ≡ end) × NoneRequired rows wanted c)
+NextPartner rows wanted c next end r = (r ≡ next) ⊎ ((r ≡ end) × Unconcerned rows wanted c)

@@ -12,6 +12,7 @@ use marks_row::codes::BEFORE;
 use marks_row::columns::ASSERTS;
 use marks_row::columns::MAY_POST;
 use marks_row::columns::MAY_PRE;
+use marks_row::columns::POSTS;
 use marks_row::columns::REQUIRES;
 use marks_row::word_at;
 use marks_siblings::apart;
@@ -27,7 +28,7 @@ fn pair_word(
     kids: &[u8; 128],
     segment: Segment,
     order: &[u8; 16384],
-    rows: &[u64; 2688],
+    rows: &[u64; 2944],
     sign: usize,
     wanted: u64,
     c: usize,
@@ -47,8 +48,9 @@ fn pair_word(
         return passing(kids, segment, order, rows, false, shared, c, j);
     }
     if apart(order, c, d) {
-        return wanted
-            & (word_at(rows, c, REQUIRES + sign) & word_at(rows, d, ASSERTS + (1 - sign)));
+        let required = word_at(rows, c, REQUIRES + sign) & word_at(rows, d, ASSERTS + (1 - sign));
+        let left = word_at(rows, c, POSTS + sign) & word_at(rows, d, POSTS + (1 - sign));
+        return wanted & (required | left);
     }
     0
 }
@@ -58,7 +60,7 @@ pub fn pair_words(
     kids: &[u8; 128],
     segment: Segment,
     order: &[u8; 16384],
-    rows: &[u64; 2688],
+    rows: &[u64; 2944],
     wanted: Literals,
     c: usize,
     j: usize,
@@ -75,9 +77,10 @@ pub fn pair_words(
     }
 }
 
-// The position of the next child to pair with c: the given one, or past them all, if c requires no wanted literal.
+// The position of the next child to pair with c: the given one, or past them all, if c requires or leaves no wanted
+// literal.
 pub fn next_partner(
-    rows: &[u64; 2688],
+    rows: &[u64; 2944],
     wanted: Literals,
     c: usize,
     next: usize,
@@ -86,8 +89,8 @@ pub fn next_partner(
     requires { ⌜ c < 128 ⌝ }
     ensures { λ r. ⌜ NextPartner (now (rows .entry)) wanted c next end r ⌝ }
 {
-    let clear = word_at(rows, c, REQUIRES) | word_at(rows, c, MAY_PRE);
-    let set = word_at(rows, c, REQUIRES + 1) | word_at(rows, c, MAY_PRE + 1);
+    let clear = word_at(rows, c, REQUIRES) | word_at(rows, c, POSTS);
+    let set = word_at(rows, c, REQUIRES + 1) | word_at(rows, c, POSTS + 1);
     if ((wanted.clear & clear) | (wanted.set & set)) == 0 {
         return end;
     }

@@ -13,7 +13,7 @@ use Rattle.base.specs.Bits.{bit, Says}
 use Rattle.base.proofs.Says.{says-eq}
 use Rattle.runs.specs.Plan.{Plan}
 use Rattle.marks_row.specs.Columns.{Column, avoid, quiet, covered, may-pre, may-post, may-inc, requires, asserts}
-use Rattle.marks_row.specs.Columns.{may-clobber, must-inc, must-clobber}
+use Rattle.marks_row.specs.Columns.{posts, may-clobber, must-inc, must-clobber}
 use Rattle.marks_row.specs.Columns.{indexOf, Fact, wordAt, Right, Row, RowIs, Written}
 use Rattle.runs.proofs.Plan.Numbers.{sign-small}
 
@@ -25,23 +25,23 @@ filled P out k x l p h j m = by-cases (ℕ-discrete j k) (λ e. rw (e, getD-set-
     (λ ne. rw (getD-set-other out k j x 0 ne) (h j (omega arith)))
 
 -- one word more of the row of a node: those written stand, and so do all other rows
-pub row-here : (rows words : List ℕ) (node k : ℕ) → node < 128 → k < 21 → length rows ≡ 2688
+pub row-here : (rows words : List ℕ) (node k : ℕ) → node < 128 → k < 23 → length rows ≡ 2944
     → ((j : ℕ) → j < k → wordAt rows node j ≡ getD words j 0)
-    → (j : ℕ) → j < k + 1 → wordAt (set rows (node * 21 + k) (getD words k 0)) node j ≡ getD words j 0
+    → (j : ℕ) → j < k + 1 → wordAt (set rows (node * 23 + k) (getD words k 0)) node j ≡ getD words j 0
 row-here rows words node k l m e h j i =
     by-cases (ℕ-discrete j k)
-    (λ q. rw q (getD-set-same rows (node * 21 + k) (getD words k 0) 0 (omega arith)))
-    (λ q. getD-set-other rows (node * 21 + k) (node * 21 + j) (getD words k 0) 0
-    (λ (z : node * 21 + j ≡ node * 21 + k). q (omega arith)) ∙ h j (omega arith))
+    (λ q. rw q (getD-set-same rows (node * 23 + k) (getD words k 0) 0 (omega arith)))
+    (λ q. getD-set-other rows (node * 23 + k) (node * 23 + j) (getD words k 0) 0
+    (λ (z : node * 23 + j ≡ node * 23 + k). q (omega arith)) ∙ h j (omega arith))
 
-pub row-there : (rows rows₀ words : List ℕ) (node k : ℕ) → k < 21
-    → ((c j : ℕ) → j < 21 → (c ≡ node → ⊥) → wordAt rows c j ≡ wordAt rows₀ c j)
-    → (c j : ℕ) → j < 21 → (c ≡ node → ⊥) → wordAt (set rows (node * 21 + k) (getD words k 0)) c j ≡ wordAt rows₀ c j
+pub row-there : (rows rows₀ words : List ℕ) (node k : ℕ) → k < 23
+    → ((c j : ℕ) → j < 23 → (c ≡ node → ⊥) → wordAt rows c j ≡ wordAt rows₀ c j)
+    → (c j : ℕ) → j < 23 → (c ≡ node → ⊥) → wordAt (set rows (node * 23 + k) (getD words k 0)) c j ≡ wordAt rows₀ c j
 row-there rows rows₀ words node k m h c j i q =
-    getD-set-other rows (node * 21 + k) (c * 21 + j) (getD words k 0) 0
-    (λ (z : c * 21 + j ≡ node * 21 + k). q (omega arith)) ∙ h c j i q
+    getD-set-other rows (node * 23 + k) (c * 23 + j) (getD words k 0) 0
+    (λ (z : c * 23 + j ≡ node * 23 + k). q (omega arith)) ∙ h c j i q
 
-pub index-small : (k : Column) → indexOf k < 21
+pub index-small : (k : Column) → indexOf k < 23
 index-small avoid = omega arith
 index-small (quiet v) = omega (arith, sign-small v)
 index-small (covered v) = omega (arith, sign-small v)
@@ -50,6 +50,7 @@ index-small (may-post v) = omega (arith, sign-small v)
 index-small (may-inc v) = omega (arith, sign-small v)
 index-small (requires v) = omega (arith, sign-small v)
 index-small (asserts v) = omega (arith, sign-small v)
+index-small (posts v) = omega (arith, sign-small v)
 index-small (may-clobber v) = omega (arith, sign-small v)
 index-small (must-inc v) = omega (arith, sign-small v)
 index-small (must-clobber v) = omega (arith, sign-small v)
@@ -59,9 +60,9 @@ abbrev pub rowOf : (Column → ℕ) → List ℕ
 rowOf w =
     w avoid ∷ w (quiet false) ∷ w (quiet true) ∷ w (covered false) ∷ w (covered true) ∷ w (may-pre false)
     ∷ w (may-pre true) ∷ w (may-post false) ∷ w (may-post true) ∷ w (may-inc false) ∷ w (may-inc true)
-    ∷ w (requires false) ∷ w (requires true) ∷ w (asserts false) ∷ w (asserts true) ∷ w (may-clobber false)
-    ∷ w (may-clobber true) ∷ w (must-inc false) ∷ w (must-inc true) ∷ w (must-clobber false) ∷ w
-    (must-clobber true) ∷ []
+    ∷ w (requires false) ∷ w (requires true) ∷ w (asserts false) ∷ w (asserts true) ∷ w (posts false)
+    ∷ w (posts true) ∷ w (may-clobber false) ∷ w (may-clobber true) ∷ w (must-inc false) ∷ w (must-inc true)
+    ∷ w (must-clobber false) ∷ w (must-clobber true) ∷ []
 
 pub row-of : (w : Column → ℕ) → RowIs w (rowOf w)
 row-of w = record { is = at }
@@ -82,6 +83,8 @@ row-of w = record { is = at }
     at (requires true) = refl
     at (asserts false) = refl
     at (asserts true) = refl
+    at (posts false) = refl
+    at (posts true) = refl
     at (may-clobber false) = refl
     at (may-clobber true) = refl
     at (must-inc false) = refl

@@ -1,6 +1,6 @@
 -- The facts of a task, by its conditions. Assumes nothing.
 use mathlib.Core.Path.{_≡_, refl}
-use mathlib.Core.Logic.{_⊎_, inl, inr, _↔_, Iff·trans, Iff·symm}
+use mathlib.Core.Logic.{_⊎_, inl, inr, ⊎-elim, _↔_, Iff·trans, Iff·symm}
 use mathlib.Core.Bool.{Bool, true, false}
 use mathlib.Core.Option.{Option, none, some}
 use Prim.Native.Nat.{ℕ}
@@ -95,3 +95,6 @@ module _ (p : Plan) (w : WellFormed p) {n : ℕ} (k : p .tree .kind n ≡ task) 
       λ x. record { who = n; is-task = k; beneath = itself; has = x },
       λ x. rw (under-task p w k (x .beneath)) (x .has),
     )
+
+    pub posts-is : Has post ↔ TaskWith p post post f v n
+    posts-is = Iff·trans (inl, λ x. ⊎-elim (λ h. h) (λ h. h) x) (with-is post post)

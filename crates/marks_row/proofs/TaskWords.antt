@@ -15,12 +15,12 @@ use Rattle.runs.proofs.Summary.Clobber.{clobber-task}
 use Rattle.runs.proofs.Summary.ReflectClobber.{must-clobber-task}
 use Rattle.marks_row.specs.declared.SignWords.{SignWords}
 use Rattle.marks_row.specs.Columns.{Column, avoid, quiet, covered, may-pre, may-post, may-inc, requires, asserts}
-use Rattle.marks_row.specs.Columns.{may-clobber, must-inc, must-clobber}
+use Rattle.marks_row.specs.Columns.{posts, may-clobber, must-inc, must-clobber}
 use Rattle.marks_row.specs.Columns.{Fact, Row}
 use Rattle.marks_row.specs.Tasks.{Task, WordsOfSign}
 use Rattle.marks_row.proofs.Rows.{rowOf, row-of}
 use Rattle.marks_row.proofs.Task.{no-sign, a-sign, avoid-task, quiet-is, covered-is, may-pre-is, may-post-is}
-use Rattle.marks_row.proofs.Task.{may-inc-is, must-inc-is, with-is}
+use Rattle.marks_row.proofs.Task.{may-inc-is, must-inc-is, with-is, posts-is}
 
 -- the words of the two signs
 abbrev pub bySign : SignWords → SignWords → Bool → SignWords
@@ -37,6 +37,7 @@ taskWord x w (may-post v) = w v .post
 taskWord x w (may-inc v) = w v .inc
 taskWord x w (requires v) = w v .«pre_or_inc»
 taskWord x w (asserts v) = w v .«inc_or_post»
+taskWord x w (posts v) = w v .post
 taskWord x w (may-clobber v) = 0
 taskWord x w (must-inc v) = w v .inc
 taskWord x w (must-clobber v) = 0
@@ -111,6 +112,10 @@ module _ {conds : List ℕ} {n : ℕ} {p : Plan} (t : Task conds n p) where
         at (may-inc v) f l = both v .inc f l
         at (requires v) f l = both v .pre-or-inc f l
         at (asserts v) f l = both v .inc-or-post f l
+        -- its postconditions are its may postconditions
+        at (posts v) f l = says-map
+            (Iff·trans (Iff·symm (may-post-is p (t .well-formed) (t .is-task) f v))
+            (posts-is p (t .well-formed) (t .is-task) f v)) (both v .post f l)
         at (may-clobber v) f l = says-none refl (clobber-task p (t .well-formed) f v (t .is-task))
         -- must incondition is may incondition
         at (must-inc v) f l = says-map

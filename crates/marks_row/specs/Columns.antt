@@ -1,4 +1,4 @@
--- Rows of words: 21 words to a node, one for each column; bit f of a word speaks of flag f. Definitions only.
+-- Rows of words: 23 words to a node, one for each column; bit f of a word speaks of flag f. Definitions only.
 use mathlib.Core.Path.{_≡_}
 use mathlib.Core.Bool.{Bool, false}
 use mathlib.Core.Option.{none}
@@ -12,11 +12,11 @@ use Rattle.runs.specs.Summary.{May, Must, ExternalPre, ExternalPost, Inconditio
 use Rattle.runs.specs.Classes.{Neutral, Covers, MayQuiet, MayMeet}
 
 -- Each but the first is for a sign. `requires`: some task has the literal as pre- or incondition; `asserts`: as in- or
--- postcondition. The last two are the ones that an any-of group has where every branch has them; it has the others
--- where some branch does.
+-- postcondition; `posts`: as postcondition. The last two are the ones that an any-of group has where every branch has
+-- them; it has the others where some branch does.
 pub data Column : Type 0 where
   avoid : Column
-  quiet covered may-pre may-post may-inc requires asserts may-clobber must-inc must-clobber : Bool → Column
+  quiet covered may-pre may-post may-inc requires asserts posts may-clobber must-inc must-clobber : Bool → Column
 
 abbrev pub indexOf : Column → ℕ
 indexOf avoid = 0
@@ -27,9 +27,10 @@ indexOf (may-post v) = 7 + signNumber v
 indexOf (may-inc v) = 9 + signNumber v
 indexOf (requires v) = 11 + signNumber v
 indexOf (asserts v) = 13 + signNumber v
-indexOf (may-clobber v) = 15 + signNumber v
-indexOf (must-inc v) = 17 + signNumber v
-indexOf (must-clobber v) = 19 + signNumber v
+indexOf (posts v) = 15 + signNumber v
+indexOf (may-clobber v) = 17 + signNumber v
+indexOf (must-inc v) = 19 + signNumber v
+indexOf (must-clobber v) = 21 + signNumber v
 
 -- the first word of a column that has one for each sign
 abbrev pub firstOf : (Bool → Column) → ℕ
@@ -46,13 +47,14 @@ Fact p n f (may-post v) = May p n (ExternalPost p f v)
 Fact p n f (may-inc v) = May p n (Incondition p f v)
 Fact p n f (requires v) = TaskWith p pre inc f v n
 Fact p n f (asserts v) = TaskWith p inc post f v n
+Fact p n f (posts v) = TaskWith p post post f v n
 Fact p n f (may-clobber v) = MayClobber p f v n
 Fact p n f (must-inc v) = Must p n (Incondition p f v)
 Fact p n f (must-clobber v) = MustClobber p f v n
 
 -- word k of the row of node n; its word in a column
 abbrev pub wordAt : List ℕ → ℕ → ℕ → ℕ
-wordAt rows n k = getD rows (n * 21 + k) 0
+wordAt rows n k = getD rows (n * 23 + k) 0
 
 abbrev pub wordIn : List ℕ → ℕ → Column → ℕ
 wordIn rows n k = wordAt rows n (indexOf k)
@@ -61,7 +63,7 @@ wordIn rows n k = wordAt rows n (indexOf k)
 pub record Right (p : Plan) (rows : List ℕ) (n : ℕ) : Type 0 where
   pub says : (k : Column) (f : ℕ) → f < 64 → Says (wordIn rows n k) f (Fact p n f k)
 
--- 21 words say the facts of n
+-- 23 words say the facts of n
 pub record Row (p : Plan) (n : ℕ) (w : List ℕ) : Type 0 where
   pub says : (k : Column) (f : ℕ) → f < 64 → Says (getD w (indexOf k) 0) f (Fact p n f k)
 
@@ -71,6 +73,6 @@ pub record RowIs (w : Column → ℕ) (r : List ℕ) : Type 0 where
 
 -- rows' is rows with the words w in the row of n
 pub record Written (rows rows′ : List ℕ) (n : ℕ) (w : List ℕ) : Type 0 where
-  pub long : length rows′ ≡ 2688
-  pub here : (k : ℕ) → k < 21 → wordAt rows′ n k ≡ getD w k 0
-  pub there : (c k : ℕ) → k < 21 → (c ≡ n → ⊥) → wordAt rows′ c k ≡ wordAt rows c k
+  pub long : length rows′ ≡ 2944
+  pub here : (k : ℕ) → k < 23 → wordAt rows′ n k ≡ getD w k 0
+  pub there : (c k : ℕ) → k < 23 → (c ≡ n → ⊥) → wordAt rows′ c k ≡ wordAt rows c k

@@ -16,11 +16,13 @@ pub const REQUIRES: usize = 11;
 
 pub const ASSERTS: usize = 13;
 
-pub const MAY_CLOBBER: usize = 15;
+pub const POSTS: usize = 15;
 
-pub const MUST_INC: usize = 17;
+pub const MAY_CLOBBER: usize = 17;
 
-pub const MUST_CLOBBER: usize = 19;
+pub const MUST_INC: usize = 19;
+
+pub const MUST_CLOBBER: usize = 21;
 
 // The end of a row.
-pub const END: usize = 21;
+pub const END: usize = 23;

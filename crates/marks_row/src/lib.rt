@@ -1,4 +1,4 @@
-// Rows of words, 21 to a node, one for each column (specs/Columns.antt): bit f of a word speaks of flag f. The rows of
+// Rows of words, 23 to a node, one for each column (specs/Columns.antt): bit f of a word speaks of flag f. The rows of
 // tasks; what is read off a row.
 pub mod codes;
 pub mod columns;
@@ -81,7 +81,7 @@ fn words_of_sign(conds: &[u64; 768], node: usize, sign: usize) -> SignWords
 }
 
 // The row of a task.
-pub fn task_words(conds: &[u64; 768], node: usize) -> [u64; 21]
+pub fn task_words(conds: &[u64; 768], node: usize) -> [u64; 23]
     requires { ⌜ node < 128 ⌝ }
     ensures { λ r. ⌜ ((p : Plan) → Task (now (conds .entry)) node p → Row p node r) ⌝ }
 {
@@ -104,6 +104,8 @@ pub fn task_words(conds: &[u64; 768], node: usize) -> [u64; 21]
         set.pre_or_inc,
         clear.inc_or_post,
         set.inc_or_post,
+        clear.post,
+        set.post,
         0,
         0,
         clear.inc,
@@ -113,28 +115,28 @@ pub fn task_words(conds: &[u64; 768], node: usize) -> [u64; 21]
     ]
 }
 
-pub fn write_row(rows: &mut [u64; 2688], node: usize, words: [u64; 21])
-    requires { ⌜ (node < 128) × (length (now rows) ≡ 2688) ⌝ }
+pub fn write_row(rows: &mut [u64; 2944], node: usize, words: [u64; 23])
+    requires { ⌜ (node < 128) × (length (now rows) ≡ 2944) ⌝ }
     ensures { λ r. ⌜ Written (now (rows .entry)) (now (rows .exit)) node words ⌝ }
 {
     let mut k = 0;
-    while k < 21 {
-        rows[node * 21 + k] = words[k];
+    while k < 23 {
+        rows[node * 23 + k] = words[k];
         k += 1;
     }
 }
 
 // The word of a node in a column.
-pub fn word_at(rows: &[u64; 2688], node: usize, k: usize) -> u64
-    requires { ⌜ (node < 128) × (k < 21) ⌝ }
+pub fn word_at(rows: &[u64; 2944], node: usize, k: usize) -> u64
+    requires { ⌜ (node < 128) × (k < 23) ⌝ }
     ensures { λ r. ⌜ r ≡ wordAt (now (rows .entry)) node k ⌝ }
 {
-    rows[node * 21 + k]
+    rows[node * 23 + k]
 }
 
 // The flags that a node has in neither of two columns.
-pub fn neither(rows: &[u64; 2688], node: usize, j: usize, k: usize) -> u64
-    requires { ⌜ (node < 128) × ((j < 21) × (k < 21)) ⌝ }
+pub fn neither(rows: &[u64; 2944], node: usize, j: usize, k: usize) -> u64
+    requires { ⌜ (node < 128) × ((j < 23) × (k < 23)) ⌝ }
     ensures { λ r. ⌜ r ≡ bitXor (bitOr (wordAt (now (rows .entry)) node j) (wordAt (now (rows .entry)) node k)) ones ⌝ }
 {
     let x = word_at(rows, node, j);
@@ -144,7 +146,7 @@ pub fn neither(rows: &[u64; 2688], node: usize, j: usize, k: usize) -> u64
 
 // The literals of one sign that are external preconditions in every completed execution: the node is neither quiet nor
 // covered.
-pub fn must_pre(rows: &[u64; 2688], node: usize, sign: usize) -> u64
+pub fn must_pre(rows: &[u64; 2944], node: usize, sign: usize) -> u64
     requires { ⌜ (node < 128) × (sign < 2) ⌝ }
     ensures { λ r. ⌜ MustPreWord (now (rows .entry)) node sign r ⌝ }
 {
@@ -153,7 +155,7 @@ pub fn must_pre(rows: &[u64; 2688], node: usize, sign: usize) -> u64
 
 // The literals of one sign that are external postconditions in every completed execution: none avoids the flag or
 // asserts the opposite last.
-pub fn must_post(rows: &[u64; 2688], node: usize, sign: usize) -> u64
+pub fn must_post(rows: &[u64; 2944], node: usize, sign: usize) -> u64
     requires { ⌜ (node < 128) × (sign < 2) ⌝ }
     ensures { λ r. ⌜ MustPostWord (now (rows .entry)) node sign r ⌝ }
 {

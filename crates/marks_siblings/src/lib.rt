@@ -53,7 +53,7 @@ pub fn narrowed(word: u64, applies: bool, by: u64) -> u64
 
 fn with_sibling(
     order: &[u8; 16384],
-    rows: &[u64; 2688],
+    rows: &[u64; 2944],
     child: usize,
     sibling: usize,
     s: Siblings,
@@ -97,7 +97,7 @@ pub fn all_siblings(
     kids: &[u8; 128],
     segment: Segment,
     order: &[u8; 16384],
-    rows: &[u64; 2688],
+    rows: &[u64; 2944],
     child: usize,
 ) -> Siblings
     requires { ⌜ AtSegment (now kids) segment × (child < 128) ⌝ }

@@ -4,16 +4,15 @@ use mathlib.Core.Logic.{_⊎_, inl, inr, ⊎-elim, _↔_, Iff·trans}
 use mathlib.Core.Bool.{Bool, true, false}
 use mathlib.Core.List.{List}
 use Prim.Native.Nat.{ℕ, _<_}
-use lib.Bits.{bitXor}
 use lib.Dec.{T}
 use lib.ListN.{getD}
-use Rattle.base.specs.Bits.{bit, ones, Says}
-use Rattle.base.proofs.Says.{says-map, says-eq, says-dec, says-or, says-not, says-none}
+use Rattle.base.specs.Bits.{bit, Says}
+use Rattle.base.proofs.Says.{says-map, says-eq, says-dec, says-or, says-none}
 use Rattle.runs.specs.Plan.{all-of, Plan, WellFormed}
 use Rattle.runs.proofs.Summary.Clobber.{clobber-all}
 use Rattle.runs.proofs.Summary.ReflectClobber.{must-clobber-all}
 use Rattle.marks_row.specs.Columns.{Column, avoid, quiet, covered, may-pre, may-post, may-inc, requires, asserts}
-use Rattle.marks_row.specs.Columns.{may-clobber, must-inc, must-clobber}
+use Rattle.marks_row.specs.Columns.{posts, may-clobber, must-inc, must-clobber}
 use Rattle.marks_row.specs.Columns.{indexOf, Fact, Row, RowIs}
 use Rattle.marks_group.specs.Groups.{Within, WithinRow}
 use Rattle.marks_row.proofs.Rows.{index-small}
@@ -22,7 +21,8 @@ use Rattle.marks_between.specs.Passing.{SomePair}
 use Rattle.marks_pair.specs.Pairs.{Pair, signWord}
 use Rattle.marks_pair.proofs.Pairs.{by-pairs}
 use Rattle.marks_must_pairs.specs.MustPairs.{MustPair}
-use Rattle.marks_tree.specs.Clobbers.{Extra, clobberOf, Ored}
+use Rattle.marks_tree.specs.Clobbers.{OpenLiterals, Extra, clobberOf, Ored}
+use Rattle.marks_tree.proofs.Open.{pair-open}
 
 -- nothing is added
 same : {A : Type 0} → (A ⊎ ⊥) ↔ A
@@ -73,34 +73,21 @@ module _ (p : Plan) (w : WellFormed p) {n : ℕ} (kn : p .tree .kind n ≡ all-o
   all-fact (may-inc v) d = same
   all-fact (requires v) d = same
   all-fact (asserts v) d = same
+  all-fact (posts v) d = same
   all-fact (may-clobber v) d = may v d
   all-fact (must-inc v) d = same
   all-fact (must-clobber v) d = must v
 
 module _ {p : Plan} {n : ℕ} (w : WellFormed p) (kn : p .tree .kind n ≡ all-of) {words : List ℕ}
-    (h : WithinRow p n words) {may must : Literals} where
+    (h : WithinRow p n words) {wanted may must : Literals} (o : OpenLiterals words wanted) where
   module _
-      (a : (v : Bool) (f : ℕ) → f < 64 → Says (signWord may v) f
-      (T (bit (signWord (record {
-        clear = bitXor (getD words (indexOf (may-clobber false)) 0) ones;
-        set = bitXor (getD words (indexOf (may-clobber true)) 0) ones;
-      }) v) f) × SomePair p n (Pair p n f v)))
+      (a : (v : Bool) (f : ℕ) → f < 64
+      → Says (signWord may v) f (T (bit (signWord wanted v) f) × SomePair p n (Pair p n f v)))
       (b : (v : Bool) (f : ℕ) → f < 64 → Says (signWord must v) f
       (T (bit (signWord (record {
         clear = getD words (indexOf (must-clobber false)) 0;
         set = getD words (indexOf (must-clobber true)) 0;
       }) v) f) ⊎ SomePair p n (MustPair p n f v))) where
-    -- the literals that no child may clobber were wanted
-    wanted : (v : Bool) (f : ℕ) → f < 64
-        → T (bit (signWord (record {
-          clear = bitXor (getD words (indexOf (may-clobber false)) 0) ones;
-          set = bitXor (getD words (indexOf (may-clobber true)) 0) ones;
-        }) v) f) ↔ (¬ Within p n f (may-clobber v))
-    wanted false f l = let s = says-not {x = getD words (indexOf (may-clobber false)) 0} l refl
-        (h .says (may-clobber false) f l) in (s .to, s .from)
-    wanted true f l = let s = says-not {x = getD words (indexOf (may-clobber true)) 0} l refl
-        (h .says (may-clobber true) f l) in (s .to, s .from)
-
     known : (v : Bool) (f : ℕ) → f < 64
         → T (bit (signWord (record {
           clear = getD words (indexOf (must-clobber false)) 0;
@@ -118,8 +105,11 @@ module _ {p : Plan} {n : ℕ} (w : WellFormed p) (kn : p .tree .kind n ≡ all-o
     extra (may-inc v) f l = says-none refl (λ x. x)
     extra (requires v) f l = says-none refl (λ x. x)
     extra (asserts v) f l = says-none refl (λ x. x)
-    extra (may-clobber v) f l = says-map (λ x. ((wanted v f l) .0 (x .0), x .1), λ x. ((wanted v f l) .1 (x .0), x .1))
-        (a v f l)
+    extra (posts v) f l = says-none refl (λ x. x)
+    extra (may-clobber v) f l = says-map (
+      λ x. (o p n h v f l .to (x .0) .1, x .1),
+      λ x. (o p n h v f l .from (pair-open p w kn f v (x .1), x .0), x .1),
+    ) (a v f l)
     extra (must-inc v) f l = says-none refl (λ x. x)
     extra (must-clobber v) f l = says-map (
       λ x. ⊎-elim (λ t. inl ((known v f l) .0 t)) inr x,
@@ -127,7 +117,7 @@ module _ {p : Plan} {n : ℕ} (w : WellFormed p) (kn : p .tree .kind n ≡ all-o
     ) (b v f l)
 
     pub all-row : {x r : List ℕ} → RowIs (clobberOf may must) x → Ored words x r → Row p n r
-    all-row c o = record {
+    all-row c q = record {
       says = λ k f l. says-map (all-fact p w kn f k (says-dec (h .says k f l)))
-          (says-or (o .is (indexOf k) (index-small k)) (h .says k f l) (says-eq (c .is k) (extra k f l)));
+          (says-or (q .is (indexOf k) (index-small k)) (h .says k f l) (says-eq (c .is k) (extra k f l)));
     }

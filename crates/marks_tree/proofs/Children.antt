@@ -46,7 +46,7 @@ module _ (kind : List ℕ) (c : ℕ) where
   is-task e p r l = kind-inj (p .tree .kind c) task (sym (r .is c l) ∙ e)
 
 -- a task, whose row stands
-pub task-filled : {kind from kids order rows : List ℕ} {n node : ℕ} → length rows ≡ 2688
+pub task-filled : {kind from kids order rows : List ℕ} {n node : ℕ} → length rows ≡ 2944
     → Filled (λ k. k ≡ task) kind from kids order rows rows n node
 task-filled {node = node} e = record {
   long = e;
@@ -59,11 +59,11 @@ task-filled {node = node} e = record {
 module _ (kind from kids order : List ℕ) (n node : ℕ) (segment : Segment) where
   -- the children at the positions before i are worked out, with all under them
   pub record ChildrenTo (rows₀ rows : List ℕ) (i : ℕ) : Type 0 where
-    pub long : length rows ≡ 2688
+    pub long : length rows ≡ 2944
     pub walked : (p : Plan) → Given kind from kids order rows₀ n node p
         → RightTo p kids (segment .start) (Right p rows₀) (Right p rows) i
 
-  pub children-none : (rows : List ℕ) → length rows ≡ 2688 → ChildrenTo rows rows (segment .start)
+  pub children-none : (rows : List ℕ) → length rows ≡ 2944 → ChildrenTo rows rows (segment .start)
   children-none rows e = record { long = e; walked = λ p g. right-none refl }
 
   -- one child more
@@ -119,7 +119,7 @@ module _ (kind from kids order : List ℕ) (n node : ℕ) (segment : Segment) wh
 
 -- the tasks below i
 module _ {kind conds rows : List ℕ} where
-  pub tasks-none : length rows ≡ 2688 → TasksFilled kind conds rows 0
+  pub tasks-none : length rows ≡ 2944 → TasksFilled kind conds rows 0
   tasks-none e = record { long = e; right = λ p w k c t l. absurd (omega arith) }
 
   pub task-more : {i : ℕ} {rows′ rows″ words : List ℕ} → rows″ ≡ rows′ → TasksFilled kind conds rows i

@@ -6,9 +6,8 @@ ghost use Rattle.runs.specs.Plan.{all-of, Picks};
 ghost use Rattle.marks_row.specs.Columns.{RowIs};
 ghost use Rattle.marks_row.specs.Segments.{AtSegment};
 ghost use Rattle.marks_row.specs.Tables.{AtGroup};
-ghost use Rattle.marks_tree.specs.Clobbers.{AllOfRow, clobberOf, Ored};
+ghost use Rattle.marks_tree.specs.Clobbers.{AllOfRow, OpenLiterals, clobberOf, Ored};
 ghost use Rattle.marks_tree.specs.Filled.{Filled, TasksFilled, AllFilled};
-use base::ALL;
 use base::kinds::ALL_OF;
 use base::kinds::TASK;
 use base::wide;
@@ -19,16 +18,21 @@ use marks_must_pairs::must_pairs;
 use marks_pair::Literals;
 use marks_row::Segment;
 use marks_row::children;
+use marks_row::columns::ASSERTS;
 use marks_row::columns::MAY_CLOBBER;
 use marks_row::columns::MUST_CLOBBER;
+use marks_row::columns::POSTS;
+use marks_row::columns::REQUIRES;
 use marks_row::task_words;
 use marks_row::write_row;
 
 // A row with the words of may and must clobber only.
-fn clobber_words(may: Literals, must: Literals) -> [u64; 21]
+fn clobber_words(may: Literals, must: Literals) -> [u64; 23]
     ensures { λ r. ⌜ RowIs (clobberOf may must) r ⌝ }
 {
     [
+        0,
+        0,
         0,
         0,
         0,
@@ -53,28 +57,39 @@ fn clobber_words(may: Literals, must: Literals) -> [u64; 21]
     ]
 }
 
-fn ored(a: [u64; 21], b: [u64; 21]) -> [u64; 21]
+fn ored(a: [u64; 23], b: [u64; 23]) -> [u64; 23]
     ensures { λ r. ⌜ Ored a b r ⌝ }
 {
     let mut out = a;
     let mut k = 0;
-    while k < 21 {
+    while k < 23 {
         out[k] = a[k] | b[k];
         k += 1;
     }
     out
 }
 
+// The literals that a pair of children of an all-of group can clobber where no child does: some task under the group
+// requires the literal and some task asserts the opposite, or the flag is left both ways.
+fn open_literals(words: [u64; 23]) -> Literals
+    ensures { λ r. ⌜ OpenLiterals words r ⌝ }
+{
+    let left = words[POSTS] & words[POSTS + 1];
+    let clear = (words[REQUIRES] & words[ASSERTS + 1]) | left;
+    let set = (words[REQUIRES + 1] & words[ASSERTS]) | left;
+    Literals {
+        clear: clear ^ (clear & words[MAY_CLOBBER]),
+        set: set ^ (set & words[MAY_CLOBBER + 1]),
+    }
+}
+
 // The row of an all-of group, from the rows of its children.
-fn all_row(kids: &[u8; 128], segment: Segment, order: &[u8; 16384], rows: &[u64; 2688]) -> [u64; 21]
+fn all_row(kids: &[u8; 128], segment: Segment, order: &[u8; 16384], rows: &[u64; 2944]) -> [u64; 23]
     requires { ⌜ AtSegment (now kids) segment ⌝ }
     ensures { λ r. ⌜ AllOfRow (now (kids .entry)) segment (now (order .entry)) (now (rows .entry)) r ⌝ }
 {
     let words = all_words(kids, segment, order, rows);
-    let wanted = Literals {
-        clear: words[MAY_CLOBBER] ^ ALL,
-        set: words[MAY_CLOBBER + 1] ^ ALL,
-    };
+    let wanted = open_literals(words);
     let may = clobbering_pairs(kids, segment, order, rows, wanted);
     let clear = must_pairs(kids, segment, order, rows, 0, words[MUST_CLOBBER]);
     let set = must_pairs(kids, segment, order, rows, 1, words[MUST_CLOBBER + 1]);
@@ -92,11 +107,11 @@ fn all_of(
     from: &[u8; 129],
     kids: &[u8; 128],
     order: &[u8; 16384],
-    rows: &mut [u64; 2688],
+    rows: &mut [u64; 2944],
     n: usize,
     node: usize,
 )
-    requires { ⌜ AtGroup (now from) (now kids) n node × (length (now rows) ≡ 2688) ⌝ }
+    requires { ⌜ AtGroup (now from) (now kids) n node × (length (now rows) ≡ 2944) ⌝ }
     ensures { λ r. ⌜ Filled (λ k. k ≡ all-of) (now (kind .entry)) (now (from .entry)) (now (kids .entry))
         (now (order .entry))
         (now (rows .entry)) (now (rows .exit)) n node ⌝ }
@@ -124,11 +139,11 @@ fn any_of(
     from: &[u8; 129],
     kids: &[u8; 128],
     order: &[u8; 16384],
-    rows: &mut [u64; 2688],
+    rows: &mut [u64; 2944],
     n: usize,
     node: usize,
 )
-    requires { ⌜ AtGroup (now from) (now kids) n node × (length (now rows) ≡ 2688) ⌝ }
+    requires { ⌜ AtGroup (now from) (now kids) n node × (length (now rows) ≡ 2944) ⌝ }
     ensures { λ r. ⌜ Filled Picks (now (kind .entry)) (now (from .entry)) (now (kids .entry)) (now (order .entry))
         (now (rows .entry)) (now (rows .exit)) n node ⌝ }
 {
@@ -149,8 +164,8 @@ fn any_of(
 }
 
 // Works out the rows of the tasks.
-fn task_rows(kind: &[u8; 128], conds: &[u64; 768], rows: &mut [u64; 2688], n: usize)
-    requires { ⌜ (n ≤ 128) × (length (now rows) ≡ 2688) ⌝ }
+fn task_rows(kind: &[u8; 128], conds: &[u64; 768], rows: &mut [u64; 2944], n: usize)
+    requires { ⌜ (n ≤ 128) × (length (now rows) ≡ 2944) ⌝ }
     ensures { λ r. ⌜ TasksFilled (now (kind .entry)) (now (conds .entry)) (now (rows .exit)) n ⌝ }
 {
     let mut i = 0;
@@ -170,10 +185,10 @@ pub fn node_rows(
     kids: &[u8; 128],
     order: &[u8; 16384],
     conds: &[u64; 768],
-    rows: &mut [u64; 2688],
+    rows: &mut [u64; 2944],
     n: usize,
 )
-    requires { ⌜ AtGroup (now from) (now kids) n 0 × (length (now rows) ≡ 2688) ⌝ }
+    requires { ⌜ AtGroup (now from) (now kids) n 0 × (length (now rows) ≡ 2944) ⌝ }
     ensures { λ r. ⌜ AllFilled (now (kind .entry)) (now (from .entry)) (now (kids .entry)) (now (order .entry))
         (now (conds .entry)) (now (rows .exit)) n ⌝ }
 {

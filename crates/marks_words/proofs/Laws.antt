@@ -63,10 +63,10 @@ module _ {k : ℕ} (v : Bool) (m : Mark) (e : k ≡ wordIndex v m) where
 pub word-small : (v : Bool) (m : Mark) → wordIndex v m < 16
 word-small v m = omega (arith, sign-small v, mark-small m)
 
-pub first-small : (k : ℕ) → k < 8 → getD firstWords k 0 < 20
+pub first-small : (k : ℕ) → k < 8 → getD firstWords k 0 < 22
 first-small k l = rw (← byte-mark k l) (at (markAt k))
   where
-    at : (m : Mark) → getD firstWords (byteOf m) 0 < 20
+    at : (m : Mark) → getD firstWords (byteOf m) 0 < 22
     at may-pre = omega arith
     at must-pre = omega arith
     at may-post = omega arith

@@ -31,7 +31,7 @@ fn column(mark: usize) -> usize
 }
 
 // The word of a node for one sign and one mark: k is mark + 8 * sign. Two marks are worked out from two columns each.
-fn mark_word(rows: &[u64; 2688], node: usize, k: usize) -> u64
+fn mark_word(rows: &[u64; 2944], node: usize, k: usize) -> u64
     requires { ⌜ (node < 128) × (k < 16) ⌝ }
     ensures { λ r. ⌜ WordIs (now (rows .entry)) node k r ⌝ }
 {
@@ -47,7 +47,7 @@ fn mark_word(rows: &[u64; 2688], node: usize, k: usize) -> u64
 }
 
 // The sixteen words of a node.
-pub fn mark_words(rows: &[u64; 2688], node: usize) -> [u64; 16]
+pub fn mark_words(rows: &[u64; 2944], node: usize) -> [u64; 16]
     requires { ⌜ node < 128 ⌝ }
     ensures { λ r. ⌜ WordsAre (now (rows .entry)) node r ⌝ }
 {

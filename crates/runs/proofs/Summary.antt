@@ -11,6 +11,7 @@ pub mod Postconditions
 pub mod Concurrent
 pub mod PairsComplete
 pub mod PairsSound
+pub mod External
 pub mod Clobber
 pub mod MustClobber
 pub mod ReflectConditions

@@ -31,8 +31,8 @@ answerOf b = refusedOr (refusal b) (verdict (planOf b) (startOf b))
 
 pub record Assessed (b : List ℕ) (a : Answer) : Type 0 where
   pub returns : said a ≡ answerOf b
-  -- of an accepted plan: 01's words for each verdict; CLEAR exactly if no call in any list returns 21 or 22; DOOMED:
-  -- the root is complete after no list
+  -- of an accepted plan: 01's words for each verdict; CLEAR exactly if no call in any list returns 21, 22 or 26;
+  -- DOOMED: the root is complete after no list
   pub judged : refusal b ≡ 0 → (v : verdicts.Verdict) → (said a ≡ inr v) ↔ Judged (planOf b) (startOf b) v
   pub clear : refusal b ≡ 0 → (said a ≡ inr CLEAR) ↔ NeverViolates (planOf b) (startOf b)
   pub doomed : refusal b ≡ 0 → said a ≡ inr DOOMED → NeverCompletes (planOf b) (startOf b)

@@ -12,11 +12,11 @@ use Rattle.marks_group.proofs.merged.Tie as tie
 
 abbrev Inv-loop : tie.InvT-loop
 Inv-loop first last rows child words mask out₀ k₀ out k =
-    (k ≤ 21) × ((length out ≡ 21)
+    (k ≤ 23) × ((length out ≡ 23)
     × ((j : ℕ) → j < k → JoinedWord first last j (getD words j 0) (wordAt rows child j) (getD mask j 0) (getD out j 0)))
 
 abbrev μ-loop : tie.MeasureT-loop
-μ-loop first last rows child words mask out₀ k₀ out k = 21 - k
+μ-loop first last rows child words mask out₀ k₀ out k = 23 - k
 
 loop-holds : tie.Need-loop-holds Inv-loop μ-loop
 loop-holds c = (omega arith, (search needs, λ j l. absurd (omega arith)))

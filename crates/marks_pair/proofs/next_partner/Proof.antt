@@ -1,7 +1,7 @@
 -- `next_partner` meets its contract. Assumes nothing.
 use mathlib.Core.Path.{refl}
 use mathlib.Core.Logic.{inl, inr}
-use Rattle.marks_pair.proofs.Pairs.{none-required}
+use Rattle.marks_pair.proofs.Pairs.{unconcerned}
 use borrow.Author.Needs.{needs}
 use Rattle.marks_pair.proofs.next_partner.Statement.{statement}
 use Rattle.marks_pair.proofs.next_partner.Tie as tie
@@ -11,7 +11,7 @@ returns c =
     let w = c .before .before .before in
     inr (
       refl,
-      none-required _ _ _ _ _ _ _ (w .before .before .before .word-at .ensures) (w .before .before .word-at2 .ensures)
+      unconcerned _ _ _ _ _ _ _ (w .before .before .before .word-at .ensures) (w .before .before .word-at2 .ensures)
           (w .before .word-at3 .ensures) (w .word-at4 .ensures)
           (c .if1 .taken),
     )

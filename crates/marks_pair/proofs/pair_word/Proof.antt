@@ -20,9 +20,12 @@ returns-2 c = let e = c .before .before .before .before .before .before .wide .e
     (passing-kid e (c .passing .ensures)))
 
 returns-3 : tie.Need-returns-3
-returns-3 c = pair-kid (c .before .before .before .before .before .before .wide .ensures .0)
-    (apart-both _ _ _ ((c .before .before .before .apart .ensures) .0 (rw (c .before .before .if3 .taken) tt))
-    (c .before .word-at3 .ensures) (c .word-at4 .ensures))
+returns-3 c =
+    let t = c .before .before .before .before in
+    pair-kid (t .before .before .before .before .wide .ensures .0)
+    (apart-both _ _ _ _ _ ((t .before .apart .ensures) .0 (rw (t .if3 .taken) tt))
+    (c .before .before .before .word-at3 .ensures) (c .before .before .word-at4 .ensures)
+    (c .before .word-at5 .ensures) (c .word-at6 .ensures))
 
 returns-4 : tie.Need-returns-4
 returns-4 c = pair-kid (c .before .before .before .before .wide .ensures .0)
@@ -53,6 +56,11 @@ word-at-requires-4 : tie.Need-word-at-requires-4
 word-at-requires-4 c κs = let s = c .before .before .before .before .before .before .before in
     omega (arith, s .pre .1, pair-small (s .pre .0) (c .before .before .before .before .before .wide .ensures .0))
 
+word-at-requires-6 : tie.Need-word-at-requires-6
+word-at-requires-6 c κs = let d = c .before .before .before .before .before .before .before in
+    let s = d .before .before in
+    omega (arith, s .pre .1, pair-small (s .pre .0) (d .wide .ensures .0))
+
 pub pair-word-spec : {M : Type 1} → statement M
 pair-word-spec =
     tie.close
@@ -76,5 +84,10 @@ pair-word-spec =
     (λ c. search needs)
     (λ c. search needs)
     word-at-requires-4
+    (λ c. search needs)
+    (λ c κs. search needs)
+    (λ c. search needs)
+    (λ c. search needs)
+    word-at-requires-6
     returns-3
     returns-4)

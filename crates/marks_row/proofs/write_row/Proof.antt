@@ -11,11 +11,11 @@ use Rattle.marks_row.proofs.write_row.Tie as tie
 
 abbrev Inv-loop : tie.InvT-loop
 Inv-loop rows₀ node words k₀ rows k =
-    (k ≤ 21) × ((length rows ≡ 2688) × (((j : ℕ) → j < k → wordAt rows node j ≡ getD words j 0)
-    × ((c j : ℕ) → j < 21 → (c ≡ node → ⊥) → wordAt rows c j ≡ wordAt rows₀ c j)))
+    (k ≤ 23) × ((length rows ≡ 2944) × (((j : ℕ) → j < k → wordAt rows node j ≡ getD words j 0)
+    × ((c j : ℕ) → j < 23 → (c ≡ node → ⊥) → wordAt rows c j ≡ wordAt rows₀ c j)))
 
 abbrev μ-loop : tie.MeasureT-loop
-μ-loop rows₀ node words k₀ rows k = 21 - k
+μ-loop rows₀ node words k₀ rows k = 23 - k
 
 loop-holds : tie.Need-loop-holds Inv-loop μ-loop
 loop-holds c = (omega arith, (search needs, (λ j l. absurd (omega arith), λ d j l n. refl)))

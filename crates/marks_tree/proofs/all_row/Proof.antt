@@ -9,7 +9,8 @@ use Rattle.marks_tree.proofs.all_row.Tie as tie
 returns : tie.Need-returns
 returns c =
     λ p n g kn. all-row (g .group .well-formed) kn
-    (c .before .before .before .before .before .all-words .ensures p n (g .group) (g .orders) kn)
+    (c .before .before .before .before .before .before .all-words .ensures p n (g .group) (g .orders) kn)
+    (c .before .before .before .before .before .open-literals .ensures)
     (c .before .before .before .before .clobbering-pairs .ensures .says p n g)
     (λ v. elim v [
       | false ↦ c .before .before .before .must-pairs .ensures p n g false refl
@@ -23,10 +24,7 @@ all-row-spec =
     tie.close
     (tie.spec
     (λ c κs. search needs)
-    (λ c. search needs)
-    (λ c. search needs)
-    (λ c. search needs)
-    (λ c. search needs)
+    (λ c κs. search needs)
     (λ c κs. search needs)
     (λ c. search needs)
     (λ c κs. search needs)

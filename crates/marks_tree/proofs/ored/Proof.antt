@@ -11,10 +11,10 @@ use Rattle.marks_tree.proofs.ored.Tie as tie
 
 abbrev Inv-loop : tie.InvT-loop
 Inv-loop a b out₀ k₀ out k =
-    (k ≤ 21) × ((length out ≡ 21) × ((j : ℕ) → j < k → getD out j 0 ≡ bitOr (getD a j 0) (getD b j 0)))
+    (k ≤ 23) × ((length out ≡ 23) × ((j : ℕ) → j < k → getD out j 0 ≡ bitOr (getD a j 0) (getD b j 0)))
 
 abbrev μ-loop : tie.MeasureT-loop
-μ-loop a b out₀ k₀ out k = 21 - k
+μ-loop a b out₀ k₀ out k = 23 - k
 
 loop-holds : tie.Need-loop-holds Inv-loop μ-loop
 loop-holds c = (omega arith, (search needs, λ j l. absurd (omega arith)))

@@ -23,14 +23,16 @@ use Rattle.runs.proofs.Summary.Preconditions.{may-pre-is-meet}
 
 module _ (p : Plan) (w : WellFormed p) where
   -- what an event needs, its task needs
-  need-of : {f : ℕ} {v : Bool} (d : ℕ) (e : Event) → OfKind p e → Under p d (nodeOf e) → preOf (p .cond) e f ≡ some v
+  pub need-of : {f : ℕ} {v : Bool} (d : ℕ) (e : Event) → OfKind p e → Under p d (nodeOf e)
+      → preOf (p .cond) e f ≡ some v
       → TaskWith p pre inc f v d
   need-of d (start t) k u q = record { who = t; is-task = k; beneath = u; has = inl q }
   need-of d (finish t) k u q = clash cc
   need-of d (skip g) k u q = clash cc
 
   -- what an event asserts, its task holds or leaves
-  assertion-of : {f : ℕ} {v : Bool} (d : ℕ) (e : Event) → OfKind p e → Under p d (nodeOf e) → asserts p e f ≡ some v
+  pub assertion-of : {f : ℕ} {v : Bool} (d : ℕ) (e : Event) → OfKind p e → Under p d (nodeOf e)
+      → asserts p e f ≡ some v
       → TaskWith p inc post f v d
   assertion-of d (start t) k u q = record { who = t; is-task = k; beneath = u; has = inl q }
   assertion-of d (finish t) k u q = record { who = t; is-task = k; beneath = u; has = inr q }
