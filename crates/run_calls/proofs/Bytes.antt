@@ -13,13 +13,14 @@ use lib.Pow.{pow-lt}
 use borrow.Author.Tests.{ne-eqb, lt-ltb}
 use Rattle.base.specs.Bits.{bit}
 use Rattle.run_flags.specs.Flags.{flagIn, byteWith, withFlag}
+use Rattle.run_flags.proofs.Laws.{length-with}
 use Rattle.plan_rules.proofs.Laws.{either}
 use Rattle.plan_codes.specs.Values.{flagOf}
 use Rattle.plan_format.specs.Format.{condValue, condCount}
 use Rattle.run_state.specs.State.{flagShown}
 use Rattle.base.specs.Count.{num}
 use Rattle.run_state.specs.Made.{isOf, setAt, literals, made}
-use Rattle.run_conditions.proofs.Laws.{length-literals, flag-small}
+use Rattle.run_conditions.proofs.Laws.{flag-small}
 use Rattle.run_calls.specs.Shown.{flagByte}
 
 -- ---- a byte is the sum of its bits
@@ -87,18 +88,19 @@ with-small bytes f v l h i =
     (byte-with (getD bytes (f / 8) 0) (f % 8) v (h (f / 8)) (omega arith)))
     (λ e. rw (getD-set-other bytes (f / 8) i (byteWith (getD bytes (f / 8) 0) (f % 8) v) 0 e) (h i))
 
-module _ (b : List ℕ) (q t : ℕ) (bytes : List ℕ) (long : 8 ≤ length bytes) (h : Small bytes) where
-  literals-small : (k : ℕ) → Small (literals b q t k bytes)
+module _ (b : List ℕ) (q : ℕ) (M : ℕ → Bool) where
+  literals-small : (k : ℕ) (bytes : List ℕ) → 8 ≤ length bytes → Small bytes → Small (literals b q M k bytes)
   unfolding literals
-  literals-small zero = h
-  literals-small (suc k) =
+  literals-small zero bytes long h = h
+  literals-small (suc k) bytes long h =
+      let f = flagOf (condValue b k) in
       ⊎-elim
-      (λ (y : isOf b q t k ≡ true). rw y
-      (with-small (literals b q t k bytes) (flagOf (condValue b k)) (setAt b k)
-      (omega (arith, length-literals b q t bytes k, flag-small (condValue b k))) (literals-small k)))
-      (λ (y : isOf b q t k ≡ false). rw y (literals-small k))
-      (either (isOf b q t k))
+      (λ (y : isOf b q M k ≡ true). rw y
+      (literals-small k _ (omega (arith, length-with bytes f (setAt b k)))
+      (with-small bytes f (setAt b k) (omega (arith, flag-small (condValue b k))) h)))
+      (λ (y : isOf b q M k ≡ false). rw y (literals-small k bytes long h))
+      (either (isOf b q M k))
 
-  pub made-small : Small (made b q t bytes)
+  pub made-small : (bytes : List ℕ) → 8 ≤ length bytes → Small bytes → Small (made b q M bytes)
   unfolding made
-  made-small = literals-small (condCount b)
+  made-small bytes long h = literals-small (condCount b) bytes long h

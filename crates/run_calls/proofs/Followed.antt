@@ -7,20 +7,19 @@ use lib.ListN.{length}
 use Rattle.plan_format.specs.Format.{nodeCount}
 use Rattle.plan_rules.specs.Rules.{refusal}
 use Rattle.plan_check.specs.Meaning.{planOf, startOf}
-use Rattle.runs.specs.Execution.{Event}
 use Rattle.runs.specs.Plan.{Plan}
-use Rattle.runs.specs.Calls.{Call, one, World, Answered, Worked}
+use Rattle.runs.specs.Calls.{Call, World, Answered, Worked}
 use Rattle.runs.specs.Calls as runs
 use Rattle.run_state.specs.State.{stateRefusal, roomRefusal, worldOf}
 use Rattle.run_state.specs.Fresh.{freshState, Freshened}
 use Rattle.run_state.proofs.Refused.{room-long}
 use Rattle.run_state.proofs.Shown.{fresh-started}
-use Rattle.run_monitor.specs.Events.{eventReturn, eventState, Called}
-use Rattle.run_monitor.proofs.Events.{event-steps}
+use Rattle.run_monitor.specs.Events.{callReturn, callState, Called}
+use Rattle.run_monitor.proofs.Events.{call-steps}
 use Rattle.run_monitor.proofs.Called.{called}
 use Rattle.run_calls.specs.Lists.{Calls, no-calls, next-call, Listed}
 use Rattle.run_calls.specs.Demand3.{Bytes, Shows, Follows, EachCall}
-use Rattle.run_calls.proofs.Kept.{Kept, fresh-kept, event-kept, group-none, shown-is}
+use Rattle.run_calls.proofs.Kept.{Kept, fresh-kept, call-kept, group-none, shown-is}
 
 -- one list of calls after another
 pub calls-append : {b s z y : List ℕ} {cs ds : List Call} {rs ns : List ℕ} → Calls b s cs rs z → Calls b z ds ns y
@@ -34,8 +33,8 @@ one-answered (runs.next-call x runs.no-calls) = x
 
 module _ (b : List ℕ) where
   -- a call leaves a state that passes all checks as one that does
-  called-well : {s s′ : List ℕ} {e : Event} {r : ℕ} → stateRefusal b s ≡ 0 → Called b s e r s′ → stateRefusal b s′ ≡ 0
-  called-well {s} {e = e} ok c = ap (stateRefusal b) (c .leaves) ∙ event-steps b s ok e .well-formed
+  called-well : {s s′ : List ℕ} {c : Call} {r : ℕ} → stateRefusal b s ≡ 0 → Called b s c r s′ → stateRefusal b s′ ≡ 0
+  called-well {s} {c = c} ok x = ap (stateRefusal b) (x .leaves) ∙ call-steps b s ok c .well-formed
 
   -- the calls of a list after a state s, which keeps what s₀ has
   record Walked (s₀ s : List ℕ) (cs : List Call) (rs z : List ℕ) : Type 0 where
@@ -46,9 +45,9 @@ module _ (b : List ℕ) where
   walked : (s₀ : List ℕ) {s z : List ℕ} {cs : List Call} {rs : List ℕ} → stateRefusal b s ≡ 0 → Kept b s₀ s
       → Calls b s cs rs z → Walked s₀ s cs rs z
   walked s₀ ok k no-calls = record { well-formed = ok; worked = runs.no-calls; kept = k }
-  walked s₀ ok k (next-call {s = s} {e = e} c x) =
-      let w = walked s₀ (called-well ok c) (rw (c .leaves) (event-kept b s₀ s ok k e)) x in
-      record { well-formed = w .well-formed; worked = runs.next-call (c .answered ok) (w .worked); kept = w .kept }
+  walked s₀ ok k (next-call {s = s} {c = c} x y) =
+      let w = walked s₀ (called-well ok x) (rw (x .leaves) (call-kept b s₀ s ok k c)) y in
+      record { well-formed = w .well-formed; worked = runs.next-call (x .answered ok) (w .worked); kept = w .kept }
 
   -- the state that fresh wrote: it passes all checks, keeps what it should, and shows the states at first
   record Begun (s at-first : List ℕ) : Type 0 where
@@ -89,12 +88,12 @@ module _ (b : List ℕ) where
 
   make : (cs : List Call) (s : List ℕ) → Made s cs
   make [] s = record { returns = []; leaves = s; made = no-calls }
-  make (one e ∷ cs) s =
-      let m = make cs (eventState b s e) in
+  make (c ∷ cs) s =
+      let m = make cs (callState b s c) in
       record {
-        returns = eventReturn b s e ∷ m .returns;
+        returns = callReturn b s c ∷ m .returns;
         leaves = m .leaves;
-        made = next-call (called b s e refl refl) (m .made);
+        made = next-call (called b s c refl refl) (m .made);
       }
 
   pub list-made : refusal b ≡ 0 → (s : List ℕ) → 8 + 3 * nodeCount b ≤ length s → (cs : List Call)
@@ -137,7 +136,7 @@ module _ (b : List ℕ) where
         itself = next-call x no-calls;
         rest = y;
       }
-  parted s (one e ∷ cs) c ds rs z (next-call {s′ = s′} {r = r} {rs = ns} x y) =
+  parted s (d ∷ cs) c ds rs z (next-call {s′ = s′} {r = r} {rs = ns} x y) =
       let p = parted s′ cs c ds ns z y in
       record {
         earlier = r ∷ p .earlier;

@@ -13,8 +13,8 @@ use borrow.Author.Tests.{eq-eqb, ne-eqb, lt-ltb, le-ltb}
 use Rattle.plan_format.specs.Format.{u16At, nodeCount, isKind}
 use Rattle.plan_rules.proofs.Laws.{either}
 use Rattle.runs.specs.Plan.{placeNumber}
-use Rattle.runs.specs.Execution.{Event, nodeOf, statusOf}
-use Rattle.runs.specs.Calls.{statusByte}
+use Rattle.runs.specs.Execution.{Event, History, nodeOf, statusOf}
+use Rattle.runs.specs.Calls.{Call, statusByte}
 use Rattle.run_starts.specs.Starts.{nodeByte, ordinalAt, ordinalIn, startedIn}
 use Rattle.run_state.specs.State.{roomRefusal, stateRefusal, moves, ordinalShown, worldOf}
 use Rattle.run_state.specs.Fresh.{freshByte, freshState}
@@ -24,9 +24,10 @@ use Rattle.base.proofs.Overlay.{length-overlay, at-overlay, past-overlay}
 use Rattle.run_state.proofs.Left.{fresh-accepted}
 use Rattle.run_state.proofs.Passed.{has-room, is-well, byte-rests, byte-optional, byte-shown}
 use Rattle.run_starts.proofs.Numbers.{unstarted-none, ordinal-small}
-use Rattle.run_refusals.specs.Events.{eventPlace, eventRefusal}
-use Rattle.run_refusals.proofs.Chain.{accepted-kind}
-use Rattle.run_monitor.specs.Events.{eventState}
+use Rattle.run_tasks.specs.Sets.{only}
+use Rattle.run_refusals.specs.Events.{eventPlace, callRefusal}
+use Rattle.run_monitor.specs.Events.{afterAll, callState}
+use Rattle.run_monitor.proofs.Events.{Going, nothing, going, all-happened, call-goes}
 use Rattle.run_monitor.proofs.Equations.{refused-22, accepted}
 use Rattle.run_monitor.proofs.Written.{byte-flags}
 use Rattle.run_monitor.proofs.After.{Fit, after, inside, after-length, after-past, after-flags, event-written}
@@ -72,15 +73,22 @@ module _ (b s z : List ℕ) (ok : stateRefusal b z ≡ 0) (h : Kept b s z) (e : 
           after-flags b z ok e y j m,
           byte-flags b z ok k (nodeOf e) (statusByte (statusOf e)) (inside b z ok e y) j m,
         )
-            (made-small b (placeNumber k) (nodeOf e) (take 8 z) (omega (arith, eight-long)) first-small j);
+            (made-small b (placeNumber k) (only (nodeOf e)) (take 8 z) (omega (arith, eight-long)) first-small j);
       }
 
-  pub event-kept : Kept b s (eventState b z e)
-  event-kept =
-      by-cases (ℕ-discrete (eventRefusal b z e) 0)
-      (λ w. let y = accepted-kind b z ok e w in
-      rw (sym (accepted b z e ok w .1) ∙ event-written b z ok e y) (written-kept y))
-      (λ n. rw (sym (refused-22 b z e ok n .1)) h)
+-- ---- calls
+module _ (b s z : List ℕ) (ok : stateRefusal b z ≡ 0) (h : Kept b s z) where
+  events-kept : {es : History} → Going b z es → Kept b s (afterAll b z es)
+  events-kept nothing = h
+  events-kept (going {e = e} {h = es} g fit asked) =
+      let w = all-happened b z ok g .well-formed in
+      rw (event-written b (afterAll b z es) w e fit) (written-kept b s (afterAll b z es) w (events-kept g) e fit)
+
+  pub call-kept : (c : Call) → Kept b s (callState b z c)
+  call-kept c =
+      by-cases (ℕ-discrete (callRefusal b z c) 0)
+      (λ w. rw (sym (accepted b z c ok w .1)) (events-kept (call-goes b z ok c w)))
+      (λ n. rw (sym (refused-22 b z c ok n .1)) h)
 
 -- ---- the bytes of a state are those of what it shows
 -- a small number in two bytes

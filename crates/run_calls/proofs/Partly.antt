@@ -11,7 +11,7 @@ use borrow.Author.Tests.{ne-eqb}
 use Rattle.base.specs.Answers.{overlay}
 use Rattle.plan_format.specs.Format.{nodeCount}
 use Rattle.plan_check.specs.Meaning.{planOf}
-use Rattle.runs.specs.Execution.{Event, start}
+use Rattle.runs.specs.Execution.{start}
 use Rattle.runs.specs.Calls.{Call, one, World}
 use Rattle.runs.specs.Model.Monitor.{returns}
 use Rattle.runs.proofs.Calls.First.{worked-only}
@@ -62,10 +62,10 @@ module _ (b at-first out : List ℕ) (cs : List Call) (i : ℕ) (s out′ : List
       ∙ ap (λ (k : ℕ). k + length (drop i out)) (h .long) in
       ap length (h .written) ∙ q ∙ omega (arith, length-drop i out)
 
-  pub partly-more : i < length cs → i < length out → (e : Event) (r : ℕ) (s′ : List ℕ)
-      → getD cs i (one (start 0)) ≡ one e → Called b s e r s′ → Partly b at-first out cs (i + 1) s′ (set out′ i r)
-  partly-more l m e r s′ q c =
-      let p : take (suc i) cs ≡ take i cs ++ (one e ∷ []) = take-suc cs i (one (start 0)) l
+  pub partly-more : i < length cs → i < length out → (d : Call) (r : ℕ) (s′ : List ℕ)
+      → getD cs i (one (start 0)) ≡ d → Called b s d r s′ → Partly b at-first out cs (i + 1) s′ (set out′ i r)
+  partly-more l m d r s′ q c =
+      let p : take (suc i) cs ≡ take i cs ++ (d ∷ []) = take-suc cs i (one (start 0)) l
       ∙ ap (λ (x : Call). take i cs ++ (x ∷ [])) q in
       record {
         returned = h .returned ++ (r ∷ []);

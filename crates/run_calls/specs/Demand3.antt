@@ -1,7 +1,7 @@
 -- Demand 3 over bytes: one claim over every accepted plan and over whole lists of calls with any numbers, refused calls
 -- anywhere among them, on any bytes that have room for a state.
--- Its hypotheses are the relations that `fresh`, `start`, `finish`, `skip`, `assess` and `status` promise; what it says
--- comes from the plan and the calls alone.
+-- Its hypotheses are the relations that `fresh`, `start`, `finish`, `skip`, `finish_together`, `assess` and `status`
+-- promise; what it says comes from the plan and the calls alone.
 use Prim.Native.Nat.{ℕ, suc, _+_, _*_, _≤_, _<_}
 use mathlib.Core.Path.{_≡_}
 use mathlib.Core.Logic.{_≢_, _⊎_, _↔_, inr}
@@ -86,11 +86,11 @@ pub record Demand3Of (b : List ℕ) : Type 0 where
   pub answer : (r : Answer) → Assessed b r
       → (v : Verdict) × (said r ≡ inr v) × Judged (planOf b) (startOf b) v
       × ((u : Verdict) → Judged (planOf b) (startOf b) u → u ≡ v)
-  -- it is CLEAR exactly if no call in any list returns 21 or 22
+  -- it is CLEAR exactly if no call in any list returns 21, 22 or 26
   pub clear : (r : Answer) → Assessed b r
       → (said r ≡ inr CLEAR) ↔ ((s : List ℕ) (cs : List Call) (rs z : List ℕ) → Listed b s cs rs z → (n : ℕ)
       → Among n rs
-      → (n ≢ 21) × (n ≢ 22))
+      → (n ≢ 21) × (n ≢ 22) × (n ≢ 26))
   -- if it is DOOMED, the root is complete after no list: not in the states worked out, and `status` never says so
   pub doomed : (r : Answer) → Assessed b r → said r ≡ inr DOOMED
       → (s : List ℕ) (cs : List Call) (rs z : List ℕ) → Listed b s cs rs z

@@ -1,8 +1,7 @@
--- A list of start, finish and skip calls on one plan, by the relations that the calls promise.
+-- A list of start, finish, skip and finish-together calls on one plan, by the relation that the calls promise.
 use Prim.Native.Nat.{ℕ}
 use mathlib.Core.List.{List, [], _∷_}
-use Rattle.runs.specs.Execution.{Event}
-use Rattle.runs.specs.Calls.{Call, one}
+use Rattle.runs.specs.Calls.{Call}
 use Rattle.run_state.specs.Fresh.{Freshened}
 use Rattle.run_monitor.specs.Events.{Called}
 
@@ -10,8 +9,8 @@ use Rattle.run_monitor.specs.Events.{Called}
 -- them
 pub data Calls (b : List ℕ) : List ℕ → List Call → List ℕ → List ℕ → Type 0 where
   no-calls : {s : List ℕ} → Calls b s [] [] s
-  next-call : {s s′ z : List ℕ} {e : Event} {cs : List Call} {r : ℕ} {rs : List ℕ} → Called b s e r s′
-      → Calls b s′ cs rs z → Calls b s (one e ∷ cs) (r ∷ rs) z
+  next-call : {s s′ z : List ℕ} {c : Call} {cs : List Call} {r : ℕ} {rs : List ℕ} → Called b s c r s′
+      → Calls b s′ cs rs z → Calls b s (c ∷ cs) (r ∷ rs) z
 
 -- a list begins with the state that fresh wrote into the bytes s
 pub record Listed (b s : List ℕ) (cs : List Call) (rs : List ℕ) (z : List ℕ) : Type 0 where

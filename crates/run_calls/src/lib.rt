@@ -5,6 +5,7 @@ use run_monitor::start;
 use run_state::fresh;
 ghost use mathlib.Core.Path.{_≡_};
 ghost use Prim.Native.Nat.{min};
+ghost use Rattle.runs.specs.Calls.{one};
 ghost use Rattle.run_monitor.specs.Events.{Called};
 ghost use Rattle.run_calls.specs.Replay.{eventFor, Replayed};
 
@@ -16,7 +17,8 @@ fn least(a: usize, b: usize) -> usize
 
 // The call of this code: 0 starts the node, 1 finishes it, another number skips it.
 fn make(plan: &[u8], state: &mut [u8], code: u8, node: usize) -> u32
-    ensures { λ r. ⌜ Called (now (plan .entry)) (now (state .entry)) (eventFor code node) r (now (state .exit)) ⌝ }
+    ensures { λ r. ⌜ Called (now (plan .entry)) (now (state .entry)) (one (eventFor code node)) r
+        (now (state .exit)) ⌝ }
 {
     if code == 0 {
         return start(plan, state, node);
