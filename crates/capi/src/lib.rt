@@ -3,6 +3,7 @@ ghost use mathlib.Core.Path.{_≡_};
 ghost use Rattle.plan_rules.specs.Rules.{refusal};
 ghost use Rattle.summary.specs.Summary.{Summarised};
 ghost use Rattle.runs.specs.Execution as execution;
+ghost use Rattle.runs.specs.Calls.{one, together};
 ghost use Rattle.run_state.specs.Fresh.{Freshened};
 ghost use Rattle.run_monitor.specs.Events.{Called};
 ghost use Rattle.capi.specs.Told.{VerdictNumber, StatusNumber, ListingNumber};
@@ -41,21 +42,32 @@ pub extern "C" fn knowetop_fresh(plan: &[u8], state: &mut [u8]) -> u32
 
 #[no_mangle]
 pub extern "C" fn knowetop_start(plan: &[u8], state: &mut [u8], task: usize) -> u32
-    ensures { λ r. ⌜ Called (now (plan .entry)) (now (state .entry)) (execution.start task) r (now (state .exit)) ⌝ }
+    ensures { λ r. ⌜ Called (now (plan .entry)) (now (state .entry)) (one (execution.start task)) r
+        (now (state .exit)) ⌝ }
 {
     run_monitor::start(plan, state, task)
 }
 
 #[no_mangle]
 pub extern "C" fn knowetop_finish(plan: &[u8], state: &mut [u8], task: usize) -> u32
-    ensures { λ r. ⌜ Called (now (plan .entry)) (now (state .entry)) (execution.finish task) r (now (state .exit)) ⌝ }
+    ensures { λ r. ⌜ Called (now (plan .entry)) (now (state .entry)) (one (execution.finish task)) r
+        (now (state .exit)) ⌝ }
 {
     run_monitor::finish(plan, state, task)
 }
 
 #[no_mangle]
+pub extern "C" fn knowetop_finish_together(plan: &[u8], state: &mut [u8], tasks: &[usize]) -> u32
+    ensures { λ r. ⌜ Called (now (plan .entry)) (now (state .entry)) (together (now (tasks .entry))) r
+        (now (state .exit)) ⌝ }
+{
+    run_monitor::finish_together(plan, state, tasks)
+}
+
+#[no_mangle]
 pub extern "C" fn knowetop_skip(plan: &[u8], state: &mut [u8], group: usize) -> u32
-    ensures { λ r. ⌜ Called (now (plan .entry)) (now (state .entry)) (execution.skip group) r (now (state .exit)) ⌝ }
+    ensures { λ r. ⌜ Called (now (plan .entry)) (now (state .entry)) (one (execution.skip group)) r
+        (now (state .exit)) ⌝ }
 {
     run_monitor::skip(plan, state, group)
 }

@@ -38,7 +38,7 @@ refuses b s r e n =
     let k : stateRefusal b s ≡ 0 → ⊥ = λ z. n (sym e ∙ z) in
     record {
       status = λ p t. t .returns ∙ sym (answer-some (stateRefusal b s) _ k) ∙ ap inl e;
-      event = λ v m z c. let w = refused-16 b s v k in (c .returns ∙ sym (w .0) ∙ e, c .leaves ∙ sym (w .1));
+      call = λ v m z c. let w = refused-16 b s v k in (c .returns ∙ sym (w .0) ∙ e, c .leaves ∙ sym (w .1));
       room = λ q m z f. (
         f .returns ∙ no-room b s (e ∙ q),
         f .leaves ∙ sym (fresh-refused b s (λ y.
@@ -50,7 +50,7 @@ passes : (b s : List ℕ) → stateRefusal b s ≡ 0 → Passes b s
 unfolding statusAnswer
 passes b s e = record {
   status = λ p t. (wordFor (completeB (planOf b) (statusIn b s) 0), t .returns ∙ rw e);
-  event = λ v n z c. c .answered e;
+  call = λ v n z c. c .answered e;
 }
 
 check-of : (b s : List ℕ) (r : ℕ) → stateRefusal b s ≡ r → CheckOf b s r

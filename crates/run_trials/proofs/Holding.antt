@@ -23,6 +23,7 @@ use Rattle.run_trials.specs.Written.{two, twos, eight, names, nodes, con
 use Rattle.run_trials.specs.Written.{earlierNodes, laterNodes, bytesOf}
 use Rattle.run_trials.specs.Trial.{statusBytes, stateBytes, AllHold}
 use Rattle.run_trials.specs.Starred.{starred, of-starts, of-places, of-skips, of-groups, of-words}
+use Rattle.run_trials.specs.Starred.{of-finishes}
 use Rattle.run_trials.specs.Checked.{AllChecked, AllWorded}
 use Rattle.run_trials.proofs.Tests.{showsB, leftB, holdsB, allHoldB, all-hold}
 use Rattle.run_trials.proofs.Checks.{allCheckedB, all-checked, completeIs, allWordedB, all-worded}
@@ -75,3 +76,8 @@ groups-checked = all-checked of-groups tt
 pub words-told : AllWorded of-words
 unfolding rows checks moves statusAt statusIn completeIs allWordedB
 words-told = all-worded of-words tt
+
+-- every row for 02's finishes in one step
+pub finishes-hold : AllHold of-finishes
+unfolding rows
+finishes-hold = all-hold of-finishes tt

@@ -5,8 +5,7 @@ use mathlib.Core.Path.{_≡_}
 use mathlib.Core.Logic.{inl, inr}
 use mathlib.Core.List.{List, [], _∷_}
 use Rattle.plan_check.specs.Meaning.{planOf}
-use Rattle.runs.specs.Execution.{Event}
-use Rattle.runs.specs.Calls.{one, Answered}
+use Rattle.runs.specs.Calls.{Call, Answered}
 use Rattle.run_state.specs.State.{worldOf}
 use Rattle.run_state.specs.Fresh.{Freshened}
 use Rattle.run_monitor.specs.declared.Progress.{Progress}
@@ -20,17 +19,17 @@ pub record Checked : Type 0 where
   pub state : List ℕ
   pub refusal : ℕ
 
--- `status`, `start`, `finish` and `skip` refuse with r and change nothing, and `fresh` too where r is 15
+-- `status` and every call that moves something refuse with r and change nothing, and `fresh` too where r is 15
 pub record Refuses (b s : List ℕ) (r : ℕ) : Type 0 where
   pub status : (p : Progress) → Told b s p → said p ≡ inl r
-  pub event : (e : Event) (n : ℕ) (z : List ℕ) → Called b s e n z → (n ≡ r) × (z ≡ s)
+  pub call : (c : Call) (n : ℕ) (z : List ℕ) → Called b s c n z → (n ≡ r) × (z ≡ s)
   pub room : r ≡ 15 → (n : ℕ) (z : List ℕ) → Freshened b s n z → (n ≡ 15) × (z ≡ s)
 
--- `status` says a word, and `start`, `finish` and `skip` answer as 01 says of the states that the bytes show
+-- `status` says a word, and the calls that move something answer as 01 says of the states that the bytes show
 pub record Passes (b s : List ℕ) : Type 0 where
   pub status : (p : Progress) → Told b s p → (w : Word) × (said p ≡ inr w)
-  pub event : (e : Event) (n : ℕ) (z : List ℕ) → Called b s e n z
-      → Answered (planOf b) (worldOf b s) (one e) n (worldOf b z)
+  pub call : (c : Call) (n : ℕ) (z : List ℕ) → Called b s c n z
+      → Answered (planOf b) (worldOf b s) c n (worldOf b z)
 
 abbrev pub CheckOf : List ℕ → List ℕ → ℕ → Type 0
 CheckOf b s zero = Passes b s

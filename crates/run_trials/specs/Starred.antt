@@ -1,5 +1,5 @@
--- The trial plans and calls of 01 that are marked *, as one table; and rows for 02's order of starts and its optional
--- groups. Definitions only.
+-- The trial plans and calls of 01 that are marked *, as one table; and rows for 02's order of starts, its optional
+-- groups and its finishes in one step. Definitions only.
 use Prim.Native.Nat.{ℕ}
 use mathlib.Core.Bool.{Bool, true, false}
 use mathlib.Core.List.{List, [], _∷_, _++_}
@@ -10,8 +10,8 @@ use Rattle.plan_codes.specs.Values.{valueOf}
 use Rattle.runs.specs.Execution.{Status, waiting, running, done, start, finish, skip}
 use Rattle.runs.specs.Summary.{may-pre, must-pre, may-inc, may-clobber}
 use Rattle.runs.specs.Verdict.{Verdict, CLEAR, OPEN, DOOMED}
-use Rattle.runs.specs.Calls.{Call, one, no-task, wrong-status, branch-begun, order-open, pre-unmet, inc-broken}
-use Rattle.runs.specs.Calls.{no-optional, number}
+use Rattle.runs.specs.Calls.{Call, one, together, no-task, wrong-status, branch-begun, order-open, pre-unmet}
+use Rattle.runs.specs.Calls.{inc-broken, no-optional, not-rising, post-opposed, number}
 use Rattle.run_trials.specs.Written.{Entry, Order, then, Written, eight, twos}
 use Rattle.run_trials.specs.Trial.{Trial, Shown, shown, stateBytes}
 use Rattle.run_monitor.specs.Status.{Word, COMPLETE, UNFINISHED}
@@ -357,4 +357,50 @@ of-words =
     ∷ root-says (nested any-of optional) (waiting ∷ waiting ∷ done ∷ waiting ∷ []) (none 4) COMPLETE
     ∷ root-says (nested all-of optional) (waiting ∷ done ∷ waits 2) (0 ∷ 1 ∷ 0 ∷ 0 ∷ []) UNFINISHED
     ∷ root-says (nested all-of optional) (waiting ∷ done ∷ done ∷ waiting ∷ []) (0 ∷ 1 ∷ 0 ∷ 0 ∷ []) COMPLETE
+    ∷ []
+
+-- ---- 02's finishes in one step
+-- A leaves flag 0 set, Z leaves it clear
+abbrev opposed : List Order → Written
+opposed os = under-root (a-task (leaves 0 on ∷ []) ∷ z-task (leaves 0 off ∷ []) ∷ []) os
+
+-- and C holds it set
+abbrev opposed-held : Written
+opposed-held = under-root (a-task (leaves 0 on ∷ []) ∷ work 0 (short C) 3 (holds 0 on ∷ leaves 0 on ∷ []) ∷ z-task
+    (leaves 0 off ∷ []) ∷ []) []
+
+-- A holds flag 0 set and leaves it clear, Z too, and needs it set
+abbrev joint : Written
+joint = under-root (a-task (holds 0 on ∷ leaves 0 off ∷ []) ∷ z-task
+    (needs 0 on ∷ holds 0 on ∷ leaves 0 off ∷ []) ∷ []) []
+
+abbrev pub of-finishes : List Trial
+of-finishes =
+    -- opposite leavings: not in one step, one after the other
+    trial (opposed []) OPEN (shown 0 0 on may-clobber ∷ shown 0 0 off may-clobber ∷ [])
+    (begin 1 ∷ begin 2 ∷ together (1 ∷ 2 ∷ []) ∷ together (1 ∷ []) ∷ together (2 ∷ []) ∷ [])
+    (ok ∷ ok ∷ number post-opposed ∷ ok ∷ ok ∷ [])
+    (stateBytes none-set (waiting ∷ done ∷ done ∷ []) (0 ∷ 1 ∷ 2 ∷ []))
+    ∷ trial (opposed (then 1 2 ∷ [])) CLEAR [] [] [] (stateBytes none-set (waits 3) (none 3))
+    -- holds of the listed tasks are not tried, those of another are
+    ∷ trial holder OPEN [] (begin 1 ∷ begin 2 ∷ together (2 ∷ []) ∷ together (1 ∷ 2 ∷ []) ∷ [])
+    (ok ∷ ok ∷ number inc-broken ∷ ok ∷ [])
+    (stateBytes none-set (waiting ∷ done ∷ done ∷ []) (0 ∷ 1 ∷ 2 ∷ []))
+    -- 26 before 22
+    ∷ trial opposed-held OPEN []
+    (begin 1 ∷ begin 2 ∷ begin 3 ∷ together (1 ∷ 3 ∷ []) ∷ together (3 ∷ []) ∷ together (1 ∷ 2 ∷ []) ∷ end 3 ∷ [])
+    (ok ∷ ok ∷ ok ∷ number post-opposed ∷ number inc-broken ∷ ok ∷ ok ∷ [])
+    (stateBytes none-set (waiting ∷ done ∷ done ∷ done ∷ []) (0 ∷ 1 ∷ 2 ∷ 3 ∷ []))
+    -- only in one step can both end
+    ∷ trial joint OPEN [] (begin 1 ∷ begin 2 ∷ end 1 ∷ end 2 ∷ together (1 ∷ []) ∷ together (1 ∷ 2 ∷ []) ∷ [])
+    (ok ∷ ok ∷ number inc-broken ∷ number inc-broken ∷ number inc-broken ∷ ok ∷ [])
+    (stateBytes none-set (waiting ∷ done ∷ done ∷ []) (0 ∷ 1 ∷ 2 ∷ []))
+    -- 25: empty, repeated, falling, and before 17; 17: the root, past the nodes, and before 18; 18: waiting, done
+    ∷ trial holder OPEN []
+    (together [] ∷ together (2 ∷ 2 ∷ []) ∷ together (2 ∷ 1 ∷ []) ∷ together (1 ∷ 9 ∷ 9 ∷ []) ∷ together (0 ∷ 1 ∷ [])
+    ∷ together (1 ∷ 9 ∷ []) ∷ together (1 ∷ 256 ∷ []) ∷ together (1 ∷ 2 ∷ []) ∷ begin 1 ∷ together (1 ∷ 2 ∷ [])
+    ∷ together (1 ∷ []) ∷ together (1 ∷ []) ∷ [])
+    (number not-rising ∷ number not-rising ∷ number not-rising ∷ number not-rising ∷ number no-task ∷ number no-task
+    ∷ number no-task ∷ number wrong-status ∷ ok ∷ number wrong-status ∷ ok ∷ number wrong-status ∷ [])
+    (stateBytes none-set (waiting ∷ done ∷ waiting ∷ []) (0 ∷ 1 ∷ 0 ∷ []))
     ∷ []
