@@ -68,7 +68,7 @@ fn lengths_and_refusals() {
         let mut plan = plan_of(name);
         assert_eq!(plan.len(), len, "{name}");
         assert_eq!(refusal(&plan), want, "{name}");
-        let found = archive::make(Call::Refusal, &mut plan, &mut []);
+        let found = archive::make(&Call::Refusal, &mut plan, &mut []);
         assert_eq!(found, want, "{name}");
     }
 }
@@ -85,7 +85,7 @@ fn states_of_calls() {
         let (mut plan, mut state) = (plan_of(name), vec![7; len]);
         let events = events.iter().map(|&event| Call::Event(event));
         for call in [Call::Fresh].into_iter().chain(events) {
-            assert_eq!(archive::make(call, &mut plan, &mut state), 0, "{call:?}");
+            assert_eq!(archive::make(&call, &mut plan, &mut state), 0, "{call:?}");
         }
         let path = folder().join(format!("{name}.state"));
         assert_eq!(fs::read(path).unwrap(), state, "{name}");

@@ -23,10 +23,11 @@ fn for_each_plan(seed: u64, mut check: impl FnMut(&Plan)) {
 }
 
 /// Marks 0 to 6 of every node and literal; mark 7 where runs bear it out, and only with mark 6.
+/// Opposed postconditions are those of tasks that some run has running at once.
 #[test]
 fn rules_and_runs() {
     let mut set = [0; 8];
-    let mut entries = 0;
+    let (mut entries, mut only_opposed) = (0, 0);
     for_each_plan(31, |plan| {
         for (node, by_rules) in marks(plan).iter().enumerate() {
             let by_runs = runs::shown(plan, node);
@@ -40,7 +41,11 @@ fn rules_and_runs() {
                     "{}",
                     place()
                 );
+                let flag = (entry / 2) as u16;
+                let opposed = plan.has_opposed(node, flag);
+                assert_eq!(runs.opposed_at_once, opposed, "{}", place());
                 entries += 1;
+                only_opposed += usize::from(opposed && !runs.clobbered);
                 for (count, value) in set.iter_mut().zip(rules) {
                     *count += usize::from(value);
                 }
@@ -48,19 +53,22 @@ fn rules_and_runs() {
         }
     });
     println!("{entries} entries, of which so many have each mark: {set:?}");
+    println!("{only_opposed} have mark 6 by opposed postconditions alone");
     assert!(set.iter().all(|&count| count > 1_000));
+    assert!(only_opposed > 1_000);
 }
 
-/// CLEAR exactly when no call of any list returns 21 or 22; DOOMED never completes.
+/// CLEAR exactly when no call of any list returns 21, 22 or 26; DOOMED never completes.
 #[test]
 fn verdicts_and_lists() {
     let mut verdicts = [0; 3];
+    let mut only_opposed = 0;
     for_each_plan(32, |plan| {
         let verdict = verdict(plan);
         let found = search(plan);
         assert_eq!(
             verdict == Verdict::Clear,
-            !found.conflict,
+            found.is_clear(),
             "{}",
             shown(plan)
         );
@@ -70,9 +78,11 @@ fn verdicts_and_lists() {
             shown(plan)
         );
         verdicts[verdict as usize] += 1;
+        only_opposed += usize::from(found.opposed && !found.conflict);
     });
-    println!("CLEAR, DOOMED, OPEN: {verdicts:?}");
+    println!("CLEAR, DOOMED, OPEN: {verdicts:?}, by 26 alone not CLEAR: {only_opposed}");
     assert!(verdicts.iter().all(|&count| count > 3_000));
+    assert!(only_opposed > 150);
 }
 
 /// On plans too large to search: a must comes with its may, the verdict is only one.

@@ -114,7 +114,7 @@ fn times(cases: &[Case]) -> Vec<f64> {
         let (mut plan, mut lent) = (case.plan.clone(), case.lent.clone());
         let mut call = || {
             lent.copy_from_slice(&case.lent);
-            archive::make(case.call, black_box(&mut plan), black_box(&mut lent))
+            archive::make(&case.call, black_box(&mut plan), black_box(&mut lent))
         };
         let [time] = medians([&mut call]);
         time

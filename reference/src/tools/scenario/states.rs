@@ -47,8 +47,8 @@ fn any_places(random: &mut Random, statuses: &Statuses) -> Places {
 pub fn reached_state(random: &mut Random, plan: &Plan) -> State {
     let calls = random.below(3 * plan.nodes.len());
     let list = lists::list(random, plan, calls);
-    list.iter().fold(State::fresh(plan), |state, &event| {
-        state.step(plan, event).unwrap_or(state)
+    list.iter().fold(State::fresh(plan), |state, call| {
+        lists::after(plan, &state, call).unwrap_or(state)
     })
 }
 

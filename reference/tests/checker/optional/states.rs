@@ -14,7 +14,7 @@ fn state(flags: u8, statuses: [u8; 5], places: [u8; 5]) -> Vec<u8> {
 
 /// The call returns this and leaves these bytes.
 #[track_caller]
-fn leaves(call: Call, before: &[u8], want: u32, after: &[u8]) {
+fn leaves(call: &Call, before: &[u8], want: u32, after: &[u8]) {
     let mut lent = before.to_vec();
     assert_eq!(make(call, &plan(BEFORE), &mut lent), want, "{call:?}");
     assert_eq!(lent, after, "{call:?}");
@@ -28,14 +28,14 @@ fn written_bytes() {
         let before = later(state(flags, [0; 5], [0; 5]));
         let skipped = later(state(flags, [0, 2, 0, 0, 0], [0; 5]));
         let started = later(state(flags, [0, 2, 0, 0, 1], [0, 0, 0, 0, 1]));
-        leaves(Call::Event(Skip(1)), &before, 0, &skipped);
-        leaves(Call::Event(Skip(1)), &skipped, 18, &skipped);
-        leaves(Call::Event(Start(4)), &skipped, 0, &started);
+        leaves(&Call::Event(Skip(1)), &before, 0, &skipped);
+        leaves(&Call::Event(Skip(1)), &skipped, 18, &skipped);
+        leaves(&Call::Event(Start(4)), &skipped, 0, &started);
     }
     // Though T was started before, which no run permits.
     let before = state(1, [0, 0, 0, 0, 1], [0, 0, 0, 0, 1]);
     let after = state(1, [0, 2, 0, 0, 1], [0, 0, 0, 0, 1]);
-    leaves(Call::Event(Skip(1)), &before, 0, &after);
+    leaves(&Call::Event(Skip(1)), &before, 0, &after);
 }
 
 /// The calls that check a state.
@@ -66,17 +66,17 @@ fn malformed_states() {
         placed([1, 0, 0, 0, 0]),
     ] {
         for call in CHECKING {
-            leaves(call, &malformed, 16, &malformed);
+            leaves(&call, &malformed, 16, &malformed);
         }
     }
     // A group that is not skipped has none either, and starts are counted without skips.
     let waiting = state(0, [0; 5], [0, 1, 0, 0, 0]);
     let second = state(0, [0, 2, 0, 0, 1], [0, 0, 0, 0, 2]);
     let first = state(0, [0, 2, 0, 0, 1], [0, 0, 0, 0, 1]);
-    leaves(Call::Status, &waiting, 16, &waiting);
-    leaves(Call::Status, &second, 16, &second);
-    leaves(Call::Status, &first, UNFINISHED, &first);
-    leaves(Call::Status, &with(1, 2), UNFINISHED, &with(1, 2));
+    leaves(&Call::Status, &waiting, 16, &waiting);
+    leaves(&Call::Status, &second, 16, &second);
+    leaves(&Call::Status, &first, UNFINISHED, &first);
+    leaves(&Call::Status, &with(1, 2), UNFINISHED, &with(1, 2));
 }
 
 /// Each byte at an any-of, an all-of and an optional group.
@@ -91,7 +91,7 @@ fn bytes_of_groups() {
                 true => UNFINISHED,
                 false => 16,
             };
-            let returned = make(Call::Status, &plan, &mut lent);
+            let returned = make(&Call::Status, &plan, &mut lent);
             assert_eq!(returned, want, "{byte} at {node}");
         }
     }
@@ -102,15 +102,15 @@ fn bytes_of_groups() {
 fn skipped_and_begun() {
     let before = state(0, [0, 2, 1, 0, 0], [0, 0, 1, 0, 0]);
     let after = state(0, [0, 2, 2, 0, 0], [0, 0, 1, 0, 0]);
-    leaves(Call::Event(Skip(1)), &before, 18, &before);
-    leaves(Call::Event(Start(3)), &before, 19, &before);
-    leaves(Call::Event(Finish(2)), &before, 0, &after);
+    leaves(&Call::Event(Skip(1)), &before, 18, &before);
+    leaves(&Call::Event(Start(3)), &before, 19, &before);
+    leaves(&Call::Event(Finish(2)), &before, 0, &after);
     // In its own branch, too.
     let plan = plan(
         "flags 1\n0 ROOT optional\n1 GRP- all-of under 0\n2 A--- task 0 under 1\n\
          3 B--- task 0 under 1\n",
     );
     let mut lent = [&[0; 8][..], &[2, 0, 1, 0], &[0, 0, 0, 0, 1, 0, 0, 0]].concat();
-    assert_eq!(make(Call::Event(Start(3)), &plan, &mut lent), 19);
-    assert_eq!(make(Call::Status, &plan, &mut lent), COMPLETE);
+    assert_eq!(make(&Call::Event(Start(3)), &plan, &mut lent), 19);
+    assert_eq!(make(&Call::Status, &plan, &mut lent), COMPLETE);
 }
