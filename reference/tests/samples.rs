@@ -12,13 +12,14 @@ use reference::tools::archive;
 use reference::tools::text::{make, show, Error, Source};
 
 /// Each sample with its length and its refusal.
-const SAMPLES: [(&str, usize, u32); 20] = [
+const SAMPLES: [(&str, usize, u32); 21] = [
     ("b", 82, 0),
     ("b-flag-set", 82, 0),
     ("b-without-order", 80, 0),
     ("calibration-optional", 104, 0),
     ("equal-waits", 90, 0),
     ("fifteen-bytes", 15, 1),
+    ("finish-together", 46, 0),
     ("incondition-broken", 49, 0),
     ("large", 5136, 0),
     ("minutes-10080", 24, 0),
@@ -78,9 +79,11 @@ fn lengths_and_refusals() {
 fn states_of_calls() {
     let of_b = [Start(1), Finish(1), Start(4)];
     let of_calibration = [Start(1), Finish(1), Skip(2), Start(5)];
+    let of_tank = [Start(1), Start(2)];
     for (name, len, events) in [
         ("b", 23, &of_b[..]),
         ("calibration-optional", 26, &of_calibration),
+        ("finish-together", 17, &of_tank),
     ] {
         let (mut plan, mut state) = (plan_of(name), vec![7; len]);
         let events = events.iter().map(|&event| Call::Event(event));

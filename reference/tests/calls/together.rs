@@ -1,12 +1,13 @@
 //! Finishes of a list of tasks in one step.
 
 use reference::model::calls::{Answers, Call};
-use reference::model::events::Status;
 use reference::model::format::{Plan, Sizes};
-use reference::model::monitor::{self, State};
+use reference::model::monitor;
 use reference::tools::generate::{any_plan, dense_plan, LIMITS};
 use reference::tools::random::Random;
-use reference::tools::scenario::states::{any_state, bytes, reached_state};
+use reference::tools::scenario::states::{
+    all_running, any_state, bytes, mostly_running, reached_state,
+};
 use reference::tools::scenario::tally::Tally;
 use reference::tools::scenario::together::{any_tasks, some_of};
 use reference::tools::search::subsets;
@@ -38,30 +39,6 @@ fn up_to_three(numbers: &[usize]) -> impl Iterator<Item = Vec<usize>> + '_ {
     let digits = move |at: usize| [at / count / count, at / count % count, at % count];
     let number = |digit: usize| numbers.get(digit).copied();
     (0..count.pow(3)).map(move |at| digits(at).into_iter().filter_map(number).collect())
-}
-
-/// A well-formed state in which all tasks run, started in the order of their numbers.
-fn all_running(plan: &Plan) -> State {
-    let mut state = State::fresh(plan);
-    for (place, task) in (1..).zip(plan.tasks()) {
-        state.statuses.0[task] = Status::Running;
-        state.places.0[task] = place;
-    }
-    state
-}
-
-/// A well-formed state in which most tasks run.
-fn mostly_running(random: &mut Random, plan: &Plan) -> State {
-    let mut state = State {
-        flags: random.draw() >> (64 - plan.flags),
-        ..all_running(plan)
-    };
-    for task in plan.tasks() {
-        if random.below(4) == 0 {
-            state.statuses.0[task] = Status::Done;
-        }
-    }
-    state
 }
 
 /// Lists of running tasks, all of them on small plans, and lists near such.

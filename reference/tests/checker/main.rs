@@ -10,6 +10,7 @@ mod optional;
 mod past;
 mod places;
 mod readings;
+mod together;
 mod trials;
 mod waits;
 

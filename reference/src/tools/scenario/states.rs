@@ -31,6 +31,30 @@ pub fn any_state(random: &mut Random, plan: &Plan) -> State {
     state
 }
 
+/// A well-formed state in which all tasks run, started in the order of their numbers.
+pub fn all_running(plan: &Plan) -> State {
+    let mut state = State::fresh(plan);
+    for (place, task) in (1..).zip(plan.tasks()) {
+        state.statuses.0[task] = Status::Running;
+        state.places.0[task] = place;
+    }
+    state
+}
+
+/// A well-formed state in which most tasks run.
+pub fn mostly_running(random: &mut Random, plan: &Plan) -> State {
+    let mut state = State {
+        flags: random.draw() >> (64 - plan.flags),
+        ..all_running(plan)
+    };
+    for task in plan.tasks() {
+        if random.below(4) == 0 {
+            state.statuses.0[task] = Status::Done;
+        }
+    }
+    state
+}
+
 /// Places as they are after starts in any order.
 fn any_places(random: &mut Random, statuses: &Statuses) -> Places {
     let nodes = statuses.0.len();
