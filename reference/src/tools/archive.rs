@@ -73,8 +73,20 @@ mod c {
 /// Makes the call. What it is lent is an output or a state; some calls take neither. A list of tasks
 /// is lent too, and must stay as it is.
 pub fn make(call: &Call, plan: &mut [u8], lent: &mut [u8]) -> u32 {
+    let Call::FinishTogether(tasks) = call else {
+        return make_with(call, plan, lent, &mut []);
+    };
+    let mut list = Lent::new(tasks);
+    let returned = make_with(call, plan, lent, list.items());
+    assert_eq!(list.back(), *tasks, "the list of tasks was written");
+    returned
+}
+
+/// Makes the call with its list of tasks, if it is to have one, in this memory.
+pub fn make_with(call: &Call, plan: &mut [u8], lent: &mut [u8], tasks: &mut [usize]) -> u32 {
     let (plan, plan_len) = (plan.as_mut_ptr(), plan.len());
     let (lent, lent_len) = (lent.as_mut_ptr(), lent.len());
+    let (tasks, tasks_len) = (tasks.as_mut_ptr(), tasks.len());
     // SAFETY: each pointer and length are those of one slice, borrowed for the length of the call.
     unsafe {
         match *call {
@@ -91,13 +103,8 @@ pub fn make(call: &Call, plan: &mut [u8], lent: &mut [u8]) -> u32 {
             Call::Event(Event::Skip(group)) => {
                 c::knowetop_skip(plan, plan_len, lent, lent_len, group)
             }
-            Call::FinishTogether(ref tasks) => {
-                let mut list = Lent::new(tasks);
-                let (from, len) = (list.items().as_mut_ptr(), tasks.len());
-                let returned =
-                    c::knowetop_finish_together(plan, plan_len, lent, lent_len, from, len);
-                assert_eq!(list.back(), *tasks, "the list of tasks was written");
-                returned
+            Call::FinishTogether(_) => {
+                c::knowetop_finish_together(plan, plan_len, lent, lent_len, tasks, tasks_len)
             }
             Call::Status => c::knowetop_status(plan, plan_len, lent, lent_len),
             Call::Listing => c::knowetop_listing(plan, plan_len, lent, lent_len),

@@ -6,7 +6,7 @@ use reference::model::monitor;
 use reference::tools::generate::{any_plan, dense_plan, LIMITS};
 use reference::tools::random::Random;
 use reference::tools::scenario::states::{
-    all_running, any_state, bytes, mostly_running, reached_state,
+    any_state, bytes, mostly_running, reached_state, with_running,
 };
 use reference::tools::scenario::tally::Tally;
 use reference::tools::scenario::together::{any_tasks, some_of};
@@ -88,7 +88,8 @@ pub fn long(tally: &mut Tally) {
             lists.push((0..len).chain([len - 1]).collect());
         }
         lists.extend((0..100).map(|_| any_tasks(&mut random, &plan, &[])));
-        let state = bytes(&mut random, &plan, &all_running(&plan), 0);
+        let state = with_running(&plan, plan.tasks());
+        let state = bytes(&mut random, &plan, &state, 0);
         let calls = lists.into_iter().map(Call::FinishTogether);
         on_state(tally, &plan, &answers, &state, calls);
     }

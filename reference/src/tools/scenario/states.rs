@@ -31,10 +31,11 @@ pub fn any_state(random: &mut Random, plan: &Plan) -> State {
     state
 }
 
-/// A well-formed state in which all tasks run, started in the order of their numbers.
-pub fn all_running(plan: &Plan) -> State {
+/// A well-formed state with the start flags in which these tasks run, started in this order, and all
+/// others wait.
+pub fn with_running(plan: &Plan, tasks: impl Iterator<Item = usize>) -> State {
     let mut state = State::fresh(plan);
-    for (place, task) in (1..).zip(plan.tasks()) {
+    for (place, task) in (1..).zip(tasks) {
         state.statuses.0[task] = Status::Running;
         state.places.0[task] = place;
     }
@@ -45,7 +46,7 @@ pub fn all_running(plan: &Plan) -> State {
 pub fn mostly_running(random: &mut Random, plan: &Plan) -> State {
     let mut state = State {
         flags: random.draw() >> (64 - plan.flags),
-        ..all_running(plan)
+        ..with_running(plan, plan.tasks())
     };
     for task in plan.tasks() {
         if random.below(4) == 0 {
