@@ -39,12 +39,15 @@ fn written_bytes() {
 }
 
 /// The calls that check a state.
-const CHECKING: [Call; 4] = [
-    Call::Status,
-    Call::Event(Start(4)),
-    Call::Event(Finish(2)),
-    Call::Event(Skip(1)),
-];
+fn checking() -> [Call; 5] {
+    [
+        Call::Status,
+        Call::Event(Start(4)),
+        Call::Event(Finish(2)),
+        Call::Event(Skip(1)),
+        Call::FinishTogether(vec![2]),
+    ]
+}
 
 /// At an optional group 0 and 2 pass, at other groups 0; a skipped group has no place.
 #[test]
@@ -65,7 +68,7 @@ fn malformed_states() {
         placed([0, 2, 0, 0, 0]),
         placed([1, 0, 0, 0, 0]),
     ] {
-        for call in CHECKING {
+        for call in checking() {
             leaves(&call, &malformed, 16, &malformed);
         }
     }

@@ -3,7 +3,7 @@
 use reference::model::calls::Call;
 
 use super::{finish, start, together, OPPOSED};
-use crate::{make, plan, returns, sample, verdict, OPEN};
+use crate::{fields, listed, make, plan, returns, sample, verdict, CLEAR, OPEN};
 
 /// Calls on the state return these, each from the same bytes; a refused one leaves them.
 #[track_caller]
@@ -34,6 +34,21 @@ fn opposed_postconditions() {
         let list = [start(1), start(2), together(&[1]), together(&[2])];
         assert_eq!(returns(&plan, &list), [0; 4]);
     }
+}
+
+/// The rows of `samples/README.md`: a tank that is filled and vented.
+#[test]
+fn tank() {
+    let tank = sample("finish-together");
+    let both = state(0, [0, 1, 1], [0, 1, 2]);
+    check(&tank, &both, &[(&[1, 2], 26), (&[1], 0), (&[2], 0)]);
+    let not_rising: [&[usize]; 4] = [&[], &[2, 1], &[1, 1], &[9, 9]];
+    check(&tank, &both, &not_rising.map(|tasks| (tasks, 25)));
+    check(&tank, &both, &[(&[0, 1], 17), (&[1, 3], 17)]);
+    assert_eq!(returns(&tank, &[start(1), together(&[1, 2])]), [0, 18]);
+    assert_eq!(listed(&tank), "OPEN 10\nFILL 0\nVENT 0\n");
+    let in_order = fields(&tank).order(1, 2);
+    assert_eq!(verdict(&in_order.bytes()), CLEAR);
 }
 
 /// A holds the flag set and leaves it clear, Z leaves it clear: A's hold is tried only while A runs.
