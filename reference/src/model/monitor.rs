@@ -60,12 +60,6 @@ pub fn status(plan: &Plan, state: &[u8]) -> Result<Progress, u32> {
     Ok(State::read(plan, state)?.progress(plan))
 }
 
-/// The tasks whose byte is that of a running one in a state, which may be of any bytes and length.
-pub fn running(plan: &Plan, state: &[u8]) -> Vec<usize> {
-    let runs = |task: &usize| state.get(8 + task) == Some(&1);
-    plan.tasks().filter(runs).collect()
-}
-
 /// 15: lent state too short.
 fn long_enough(plan: &Plan, state: &[u8]) -> Result<(), u32> {
     if state.len() < state_len(plan) {
@@ -211,7 +205,7 @@ impl State {
         nodes: &[usize],
         asserted: &HashSet<Literal>,
     ) -> bool {
-        let running = plan.tasks().filter(|&task| self.statuses.runs(task));
+        let running = self.statuses.running(plan);
         let mut others = running.filter(|task| !nodes.contains(task));
         others.any(|other| {
             let mut held = plan.conditions_of(other, INCONDITION);

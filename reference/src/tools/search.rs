@@ -5,7 +5,7 @@ use std::collections::HashSet;
 use crate::model::calls::{Answers, Call};
 use crate::model::events::Event;
 use crate::model::format::Plan;
-use crate::model::monitor::{places_begin, running, state_len};
+use crate::model::monitor::{places_begin, state_len};
 
 /// What the status call returns then.
 const COMPLETE: u32 = 128;
@@ -66,6 +66,12 @@ pub fn search_by(plan: &Plan, make: impl Fn(&Call, &mut [u8], &mut [u8]) -> u32)
         }
     }
     outcome
+}
+
+/// The tasks whose byte is that of a running one, in a state of any bytes and length.
+pub fn running(plan: &Plan, state: &[u8]) -> Vec<usize> {
+    let runs = |task: &usize| state.get(8 + task) == Some(&1);
+    plan.tasks().filter(runs).collect()
 }
 
 /// The lists of some of these tasks, in their order; not the empty one.

@@ -5,7 +5,7 @@ use std::iter::{once, repeat_with};
 use reference::model::calls::{Answers, Call};
 use reference::model::events::Event;
 use reference::model::format::{Plan, Sizes};
-use reference::model::monitor::{places_begin, running, state_len};
+use reference::model::monitor::{places_begin, state_len};
 use reference::model::places::Places;
 use reference::tools::archive;
 use reference::tools::generate::clear::{clear_plan, shaken_plan};
@@ -18,7 +18,7 @@ use reference::tools::scenario::states::{
 use reference::tools::scenario::tally::Tally;
 use reference::tools::scenario::together::any_tasks;
 use reference::tools::scenario::Case;
-use reference::tools::search::{search_by, subsets};
+use reference::tools::search::{running, search_by, subsets};
 
 /// Fresh and then the list. At first the state is of any bytes.
 fn replay(tally: &mut Tally, random: &mut Random, plan: &Plan, list: &[Call]) {

@@ -2,7 +2,6 @@
 
 use reference::model::calls::{Answers, Call};
 use reference::model::format::{Plan, Sizes};
-use reference::model::monitor;
 use reference::tools::generate::{any_plan, dense_plan, LIMITS};
 use reference::tools::random::Random;
 use reference::tools::scenario::states::{
@@ -10,7 +9,7 @@ use reference::tools::scenario::states::{
 };
 use reference::tools::scenario::tally::Tally;
 use reference::tools::scenario::together::{any_tasks, some_of};
-use reference::tools::search::subsets;
+use reference::tools::search::{self, subsets};
 
 use crate::lists::on_state;
 
@@ -60,7 +59,7 @@ pub fn running(tally: &mut Tally) {
         for draw in [mostly_running, reached_state] {
             let state = draw(&mut random, &plan);
             let state = bytes(&mut random, &plan, &state, 2);
-            let running = monitor::running(&plan, &state);
+            let running = search::running(&plan, &state);
             let lists: Vec<Vec<usize>> = match running.len() {
                 0..=5 => subsets(running).collect(),
                 _ => (0..30).map(|_| some_of(&mut random, &running)).collect(),

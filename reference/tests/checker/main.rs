@@ -57,6 +57,12 @@ fn make(call: &Call, plan: &[u8], lent: &mut [u8]) -> u32 {
     case.compare(archive::make)
 }
 
+/// A state with this flag byte, these bytes at the nodes and these places.
+fn state<const N: usize>(flags: u8, statuses: [u8; N], places: [u8; N]) -> Vec<u8> {
+    let places = places.map(|place| [place, 0]).concat();
+    [&[flags, 0, 0, 0, 0, 0, 0, 0][..], &statuses, &places].concat()
+}
+
 fn verdict(plan: &[u8]) -> u32 {
     make(&Call::Verdict, plan, &mut [])
 }

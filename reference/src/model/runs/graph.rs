@@ -44,7 +44,7 @@ impl Graph {
     pub fn opposed_at_once(&self, plan: &Plan, literal: Literal) -> bool {
         self.points.iter().any(|point| {
             let runs_one_with = |literal| {
-                let mut running = plan.tasks().filter(|&task| point.statuses.runs(task));
+                let mut running = point.statuses.running(plan);
                 running.any(|task| plan.has(task, POSTCONDITION, literal))
             };
             runs_one_with(literal) && runs_one_with(literal.opposite())

@@ -8,10 +8,11 @@ use crate::model::calls::Call;
 use crate::model::events::Event;
 use crate::model::format::Plan;
 use crate::model::listing::LISTING_LEN;
-use crate::model::monitor::{places_begin, running, state_len};
+use crate::model::monitor::{places_begin, state_len};
 use crate::model::rules::accept;
 use crate::model::summary::summary_len;
 use crate::tools::random::Random;
+use crate::tools::search::running;
 
 /// Lengths of lent memory below, at and above the length that a call needs.
 fn lengths_around(needed: usize) -> [usize; 6] {

@@ -42,7 +42,7 @@ pub fn long_list(random: &mut Random, plan: &Plan) -> Vec<Call> {
     let mut state = State::fresh(plan);
     let mut list = Vec::new();
     loop {
-        let running = running(plan, &state);
+        let running: Vec<usize> = state.statuses.running(plan).collect();
         let together = [some_of(random, &running), running].map(Call::FinishTogether);
         let calls = Event::under(plan, 0).map(Call::Event).chain(together);
         let accepted = calls.filter_map(|call| Some((after(plan, &state, &call).ok()?, call)));
@@ -71,11 +71,6 @@ pub fn after(plan: &Plan, state: &State, call: &Call) -> Result<State, u32> {
     }
 }
 
-fn running(plan: &Plan, state: &State) -> Vec<usize> {
-    let running = plan.tasks().filter(|&task| state.statuses.runs(task));
-    running.collect()
-}
-
 /// An event or, less often, finishes together.
 fn any_call(random: &mut Random, plan: &Plan, state: &State) -> Call {
     let draw = random.pick(&[single, single, single, single, single, together]);
@@ -91,7 +86,8 @@ fn single(random: &mut Random, plan: &Plan, _: &State) -> Call {
 }
 
 fn together(random: &mut Random, plan: &Plan, state: &State) -> Call {
-    Call::FinishTogether(any_tasks(random, plan, &running(plan, state)))
+    let running: Vec<usize> = state.statuses.running(plan).collect();
+    Call::FinishTogether(any_tasks(random, plan, &running))
 }
 
 /// Mostly one that the kind of its node permits.

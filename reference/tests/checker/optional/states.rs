@@ -4,13 +4,7 @@ use reference::model::calls::Call;
 use reference::model::events::Event::{Finish, Skip, Start};
 
 use super::{BEFORE, COMPLETE, IN_BRANCH, UNFINISHED};
-use crate::{make, plan};
-
-/// A state of the plan BEFORE with this flag byte, these bytes at the nodes and these places.
-fn state(flags: u8, statuses: [u8; 5], places: [u8; 5]) -> Vec<u8> {
-    let places = places.map(|place| [place, 0]).concat();
-    [&[flags, 0, 0, 0, 0, 0, 0, 0][..], &statuses, &places].concat()
-}
+use crate::{make, plan, state};
 
 /// The call returns this and leaves these bytes.
 #[track_caller]

@@ -2,39 +2,8 @@
 
 use reference::model::calls::Call;
 
-use super::{finish, start, together, OPPOSED};
-use crate::{fields, listed, make, plan, returns, sample, verdict, CLEAR, OPEN};
-
-/// Calls on the state return these, each from the same bytes; a refused one leaves them.
-#[track_caller]
-fn check(plan: &[u8], state: &[u8], rows: &[(&[usize], u32)]) {
-    for (tasks, want) in rows {
-        let mut lent = state.to_vec();
-        assert_eq!(make(&together(tasks), plan, &mut lent), *want, "{tasks:?}");
-        assert!(*want == 0 || lent == state, "{tasks:?}");
-    }
-}
-
-/// A state with this flag byte, these bytes at the nodes and these places.
-fn state<const N: usize>(flags: u8, statuses: [u8; N], places: [u8; N]) -> Vec<u8> {
-    let places = places.map(|place| [place, 0]).concat();
-    [&[flags, 0, 0, 0, 0, 0, 0, 0][..], &statuses, &places].concat()
-}
-
-/// 02's trial: two tasks that leave a flag opposite ways.
-#[test]
-fn opposed_postconditions() {
-    for plan in [plan(OPPOSED), sample("finish-together")] {
-        assert_eq!(verdict(&plan), OPEN);
-        let list = [start(1), start(2), together(&[1, 2])];
-        assert_eq!(returns(&plan, &list), [0, 0, 26]);
-        // One by one, or each as a list of its own, they end.
-        let list = [start(1), start(2), finish(2), finish(1)];
-        assert_eq!(returns(&plan, &list), [0; 4]);
-        let list = [start(1), start(2), together(&[1]), together(&[2])];
-        assert_eq!(returns(&plan, &list), [0; 4]);
-    }
-}
+use super::{check, start, together};
+use crate::{fields, listed, make, plan, returns, sample, state, verdict, CLEAR};
 
 /// The rows of `samples/README.md`: a tank that is filled and vented.
 #[test]
@@ -49,45 +18,6 @@ fn tank() {
     assert_eq!(listed(&tank), "OPEN 10\nFILL 0\nVENT 0\n");
     let in_order = fields(&tank).order(1, 2);
     assert_eq!(verdict(&in_order.bytes()), CLEAR);
-}
-
-/// A holds the flag set and leaves it clear, Z leaves it clear: A's hold is tried only while A runs.
-#[test]
-fn incondition_of_a_listed_task() {
-    let plan = sample("incondition-broken");
-    let running = state(1, [0, 1, 1], [0, 1, 2]);
-    check(&plan, &running, &[(&[1, 2], 0), (&[1], 0), (&[2], 22)]);
-    let mut lent = running;
-    assert_eq!(make(&together(&[1, 2]), &plan, &mut lent), 0);
-    assert_eq!(lent, state(0, [0, 2, 2], [0, 1, 2]));
-    assert_eq!(make(&Call::Status, &plan, &mut lent), 128);
-}
-
-/// Only together do A and Z end: each leaves the opposite of what the other holds.
-#[test]
-fn ended_only_together() {
-    let plan = plan(
-        "flags 1\n0 ROOT all-of\n1 A--- task 0 under 0 holds 0-set leaves 0-clear\n\
-         2 Z--- task 0 under 0 needs 0-set holds 0-set leaves 0-clear\n",
-    );
-    assert_eq!(verdict(&plan), OPEN);
-    let mut lent = vec![7; 17];
-    for (call, want, status) in [
-        (Call::Fresh, 0, 129),
-        (start(2), 21, 129),
-        (start(1), 0, 129),
-        (start(2), 0, 129),
-        (finish(1), 22, 129),
-        (finish(2), 22, 129),
-        (together(&[1]), 22, 129),
-        (together(&[2]), 22, 129),
-        (together(&[1, 2]), 0, 128),
-        (together(&[1, 2]), 18, 128),
-    ] {
-        assert_eq!(make(&call, &plan, &mut lent), want, "{call:?}");
-        assert_eq!(make(&Call::Status, &plan, &mut lent), status, "{call:?}");
-    }
-    assert_eq!(lent, state(0, [0, 2, 2], [0, 1, 2]));
 }
 
 /// A plan of tasks and one group of each kind.
@@ -130,7 +60,7 @@ fn lists_that_do_not_rise() {
 
 #[test]
 fn numbers_of_no_task() {
-    let rows: [&[usize]; 15] = [
+    let rows: [&[usize]; 17] = [
         &[0],
         &[4],
         &[6],
@@ -145,7 +75,9 @@ fn numbers_of_no_task() {
         &[3, 128],
         &[1, usize::MAX],
         &[1, 1 + (1 << 16)],
-        &[1 + (1 << 8), 1 + (1 << 32)],
+        &[1 + (1 << 8)],
+        &[1 + (1 << 32)],
+        &[1, 3 + (1 << 32)],
     ];
     let rows = rows.map(|tasks| (tasks, 17));
     check(&plan(KINDS), &state(0, RUNNING, PLACES), &rows);
@@ -251,37 +183,4 @@ fn longest_lists() {
     assert_eq!(lent[392..], [7; 2]);
     assert_eq!(make(&Call::Status, &plan, &mut lent), 128);
     check(&plan, &lent, &[(&all, 18), (&[127], 18)]);
-}
-
-/// The flags that are held are those of every task still running, whatever its number.
-#[test]
-fn inconditions_of_others() {
-    let plan = plan(
-        "flags 2\n0 ROOT all-of\n1 A--- task 0 under 0 holds 0-set leaves 0-set\n\
-         2 B--- task 0 under 0 leaves 0-clear\n3 C--- task 0 under 0 leaves 1-clear\n\
-         4 D--- task 0 under 0 holds 1-set leaves 1-clear\n",
-    );
-    let places = [0, 1, 2, 3, 4];
-    let running = state(3, [0, 1, 1, 1, 1], places);
-    check(
-        &plan,
-        &running,
-        &[
-            (&[2], 22),
-            (&[3], 22),
-            (&[2, 3], 22),
-            (&[2, 3, 4], 22),
-            (&[1, 2], 26),
-            (&[3, 4], 0),
-            (&[1, 3], 22),
-            (&[1, 4], 0),
-        ],
-    );
-    // Done, or waiting, they hold nothing; and a hold is broken whatever the flag's value is.
-    let done = state(3, [0, 2, 1, 1, 2], places);
-    check(&plan, &done, &[(&[2, 3], 0)]);
-    let waiting = state(3, [0, 0, 1, 1, 0], [0, 0, 1, 2, 0]);
-    check(&plan, &waiting, &[(&[2, 3], 0)]);
-    let clear = state(0, [0, 1, 1, 1, 1], places);
-    check(&plan, &clear, &[(&[2], 22), (&[2, 3, 4], 22)]);
 }

@@ -1,8 +1,7 @@
 //! Mark 6 and the verdict where postconditions are opposed.
 
-use crate::{entries, plan, verdict, CLEAR, DOOMED, OPEN};
-
 use super::OPPOSED;
+use crate::{entries, plan, sample, verdict, CLEAR, DOOMED, OPEN};
 
 /// May clobber (01: may clash) of "flag 0 clear" and "flag 0 set" at each of the first nodes.
 fn clobbered<const N: usize>(text: &str) -> [[u8; 2]; N] {
@@ -22,8 +21,11 @@ const BOTH: [u8; 2] = [1, 1];
 #[test]
 fn at_the_group_alone() {
     assert_eq!(clobbered(OPPOSED), [BOTH, NO, NO]);
-    let root = entries(&plan(OPPOSED), 0);
-    assert_eq!(root, [[0, 0, 1, 0, 0, 0, 1, 0], [0, 0, 1, 0, 0, 0, 1, 0]]);
+    // In 01's trial A leaves the flag set, C leaves it clear, and Z after C needs it clear.
+    for plan in [plan(OPPOSED), sample("restored-unordered")] {
+        let root = entries(&plan, 0);
+        assert_eq!(root, [[0, 0, 1, 0, 0, 0, 1, 0], [0, 0, 1, 0, 0, 0, 1, 0]]);
+    }
 }
 
 /// In their order one after the other, by a chain too, they are not opposed.
@@ -114,6 +116,10 @@ fn inconditions_do_not_count() {
     let both = "flags 1\n0 ROOT all-of\n1 A--- task 0 under 0 holds 0-set leaves 0-clear\n\
         2 Z--- task 0 under 0 holds 0-set leaves 0-clear\n";
     assert_eq!(clobbered(both), [[0, 1], NO, NO]);
+    // A task that holds the flag leaves it all the same: "set" is broken, and both are opposed.
+    let held_and_left = "flags 1\n0 ROOT all-of\n1 A--- task 0 under 0 holds 0-set leaves 0-set\n\
+        2 Z--- task 0 under 0 leaves 0-clear\n";
+    assert_eq!(clobbered(held_and_left), [BOTH, NO, NO]);
     // The same postcondition twice, and on two flags.
     let same = OPPOSED.replace("leaves 0-set", "leaves 0-clear");
     assert_eq!(clobbered(&same), [NO; 3]);

@@ -2,12 +2,11 @@
 
 use reference::model::calls::Call;
 use reference::model::format::{Plan, Sizes};
-use reference::model::monitor::running;
 use reference::tools::generate::{any_plan, dense_plan};
 use reference::tools::random::Random;
 use reference::tools::scenario::any_number;
 use reference::tools::scenario::states::{any_state, bytes, mostly_running, reached_state};
-use reference::tools::search::subsets;
+use reference::tools::search::{running, subsets};
 
 use super::{finish, together};
 use crate::{make, shown};
