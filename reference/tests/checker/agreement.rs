@@ -1,7 +1,7 @@
 //! On random small plans: marks by rules against marks by runs, verdicts against all lists of
 //! calls.
 
-use reference::model::format::{Plan, Sizes};
+use reference::model::format::{Plan, Sizes, POSTCONDITION};
 use reference::model::marks::marks;
 use reference::model::runs;
 use reference::model::verdict::{verdict, Verdict};
@@ -83,6 +83,31 @@ fn verdicts_and_lists() {
     println!("CLEAR, DOOMED, OPEN: {verdicts:?}, by 26 alone not CLEAR: {only_opposed}");
     assert!(verdicts.iter().all(|&count| count > 3_000));
     assert!(only_opposed > 150);
+}
+
+/// Plans whose tasks have postconditions alone: 26 is all that can keep them from CLEAR.
+#[test]
+fn postconditions_alone() {
+    let mut random = Random::new(34);
+    let mut verdicts = [0; 3];
+    for nodes in 4..=8 {
+        for _ in 0..400 {
+            let mut plan = dense_plan(&mut random, nodes);
+            plan.conditions.retain(|c| c.place() == POSTCONDITION);
+            let mut flags = 0..plan.flags;
+            let want = match flags.any(|flag| plan.has_opposed(0, flag)) {
+                true => Verdict::Open,
+                false => Verdict::Clear,
+            };
+            let found = search(&plan);
+            assert_eq!(verdict(&plan), want, "{}", shown(&plan));
+            assert_eq!(found.opposed, want == Verdict::Open, "{}", shown(&plan));
+            assert!(!found.conflict && found.completable, "{}", shown(&plan));
+            verdicts[want as usize] += 1;
+        }
+    }
+    println!("CLEAR, DOOMED, OPEN: {verdicts:?}");
+    assert!(verdicts[0] > 1_000 && verdicts[2] > 300);
 }
 
 /// On plans too large to search: a must comes with its may, the verdict is only one.
