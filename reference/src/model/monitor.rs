@@ -47,8 +47,8 @@ pub fn happen(plan: &Plan, state: &mut [u8], event: Event) -> Result<(), u32> {
     Ok(())
 }
 
-/// The call on an accepted plan: takes in the finishes of the listed tasks in one step, or meets the
-/// first of refusals 15, 16, 25, 17, 18, 26 and 22.
+/// The call on an accepted plan: takes in the finishes of the listed tasks in one step, or meets
+/// the first of refusals 15, 16, 25, 17, 18, 26 and 22.
 pub fn finish_together(plan: &Plan, state: &mut [u8], tasks: &[usize]) -> Result<(), u32> {
     let before = State::read(plan, state)?;
     before.step_together(plan, tasks)?.write(state);
@@ -214,8 +214,8 @@ impl State {
     }
 }
 
-/// 26, of all postconditions of the listed tasks: two are opposites. By rule 11 these are not of one
-/// task.
+/// 26, of all postconditions of the listed tasks: two are opposites. By rule 11 these are not of
+/// one task.
 fn opposed(postconditions: &HashSet<Literal>) -> bool {
     let mut literals = postconditions.iter();
     literals.any(|literal| postconditions.contains(&literal.opposite()))

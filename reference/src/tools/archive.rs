@@ -70,8 +70,8 @@ mod c {
     }
 }
 
-/// Makes the call. What it is lent is an output or a state; some calls take neither. A list of tasks
-/// is lent too, and must stay as it is.
+/// Makes the call. What it is lent is an output or a state; some calls take neither. A list of
+/// tasks is lent too, and must stay as it is.
 pub fn make(call: &Call, plan: &mut [u8], lent: &mut [u8]) -> u32 {
     let Call::FinishTogether(tasks) = call else {
         return make_with(call, plan, lent, &mut []);

@@ -70,6 +70,11 @@ fn returns_and_states() {
     let long = long_list(&mut random, &flat);
     check(&mut random, &flat, &long, &mut counts);
     println!("{counts:?}");
+    met(counts);
+}
+
+/// Each return was met often enough, and there were no others.
+fn met(mut counts: Counts) {
     let accepted = ["start", "finish", "skip"].map(|name| counts[&(name, 0)]);
     assert!(accepted.iter().sum::<usize>() > 10_000);
     for returned in 17..=22 {

@@ -9,8 +9,8 @@ use reference::model::format::{
 
 use crate::shown;
 
-/// A plan and the events of the calls that were accepted, the latest last. Of finishes together each
-/// is one; their order makes no difference.
+/// A plan and the events of the calls that were accepted, the latest last. Of finishes together
+/// each is one; their order makes no difference.
 pub struct Past<'a> {
     plan: &'a Plan,
     accepted: Vec<Event>,

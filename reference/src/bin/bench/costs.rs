@@ -51,8 +51,8 @@ pub fn print() {
 
 /// Every call as it is timed: accepted, so that it makes all its checks. Start and finish are those
 /// of one task that nothing has to come before, with its needs met; the status is that after both.
-/// Finished together are as many tasks as may be, which alone run. The skip is that of the last group
-/// for which it is accepted at first, if there is one.
+/// Finished together are as many tasks as may be, which alone run. The skip is that of the last
+/// group for which it is accepted at first, if there is one.
 fn cases(plan: &Plan) -> Vec<Case> {
     let task = first_task(plan);
     let (start, finish) = (Event::Start(task), Event::Finish(task));

@@ -132,8 +132,8 @@ fn chain(tasks: usize, toggled: u16, broken: u16) -> Plan {
     plan
 }
 
-/// An all-of root with a task for each flag that leaves it set, bare ones, and a last task that needs
-/// all flags clear: the search finds one clash at a time, each at the last child.
+/// An all-of root with a task for each flag that leaves it set, bare ones, and a last task that
+/// needs all flags clear: the search finds one clash at a time, each at the last child.
 fn needed_by_last() -> Plan {
     let root = Plan::new(64).all_of(b"ROOT", NO_PARENT);
     let plan = (0..126).fold(root, |plan, task| match task {

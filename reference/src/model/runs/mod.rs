@@ -19,7 +19,8 @@ pub struct Shown {
     /// In every completed execution a task with this precondition starts after the opposite was
     /// last asserted. The rule for mark 7 is to give no less.
     pub always_clobbered: bool,
-    /// In some execution the literal is clobbered as 01 says: mark 6 but for opposed postconditions.
+    /// In some execution the literal is clobbered as 01 says: mark 6 but for opposed
+    /// postconditions.
     pub clobbered: bool,
     /// In some execution a task with this postcondition and one with the opposite run at once. 02
     /// says when by the groups above them, and is to give the same.

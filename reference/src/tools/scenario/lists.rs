@@ -36,8 +36,8 @@ pub fn list(random: &mut Random, plan: &Plan, calls: usize) -> Vec<Call> {
     list
 }
 
-/// Calls that go on until no event is accepted any more, nor all running tasks at once, others among
-/// them: on a plan that is CLEAR, to its end.
+/// Calls that go on until no event is accepted any more, nor all running tasks at once, others
+/// among them: on a plan that is CLEAR, to its end.
 pub fn long_list(random: &mut Random, plan: &Plan) -> Vec<Call> {
     let mut state = State::fresh(plan);
     let mut list = Vec::new();

@@ -31,8 +31,8 @@ pub fn any_state(random: &mut Random, plan: &Plan) -> State {
     state
 }
 
-/// A well-formed state with the start flags in which these tasks run, started in this order, and all
-/// others wait.
+/// A well-formed state with the start flags in which these tasks run, started in this order, and
+/// all others wait.
 pub fn with_running(plan: &Plan, tasks: impl Iterator<Item = usize>) -> State {
     let mut state = State::fresh(plan);
     for (place, task) in (1..).zip(tasks) {

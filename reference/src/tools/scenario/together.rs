@@ -4,8 +4,8 @@ use super::any_number;
 use crate::model::format::Plan;
 use crate::tools::random::Random;
 
-/// A list of numbers, where these tasks run: mostly of some of them, as a call is to have it, or with
-/// up to two things wrong; now and then of any numbers, or long.
+/// A list of numbers, where these tasks run: mostly of some of them, as a call is to have it, or
+/// with up to two things wrong; now and then of any numbers, or long.
 pub fn any_tasks(random: &mut Random, plan: &Plan, running: &[usize]) -> Vec<usize> {
     let mut tasks = match random.below(16) {
         0 => any_numbers(random, plan),

@@ -114,10 +114,14 @@ fn causes_taken_away_one_by_one() {
             (&[5], 0),
         ],
     );
-    // A and B leave flag 0 opposite ways, and B's clear breaks what H holds.
+}
+
+/// A and B leave flag 0 opposite ways, and B's clear breaks what H holds: 26 before 22.
+#[test]
+fn opposed_and_broken() {
     let running = state(0, RUNNING, PLACES);
     check(
-        &plan,
+        &plan(KINDS),
         &running,
         &[
             (&[1, 2], 26),
@@ -132,8 +136,8 @@ fn causes_taken_away_one_by_one() {
     );
 }
 
-/// The bytes of the tasks and their flags, nothing else: places, groups, other tasks and later bytes
-/// stay.
+/// The bytes of the tasks and their flags, nothing else: places, groups, other tasks and later
+/// bytes stay.
 #[test]
 fn written_bytes() {
     let plan = plan(KINDS);

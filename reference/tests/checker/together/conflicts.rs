@@ -42,7 +42,8 @@ fn opposed_anywhere_in_the_list() {
     check(&plan, &running, &agreeing.map(|tasks| (tasks, 0)));
 }
 
-/// A holds the flag set and leaves it clear, Z leaves it clear: A's hold is tried only while A runs.
+/// A holds the flag set and leaves it clear, Z leaves it clear: A's hold is tried only while A
+/// runs.
 #[test]
 fn incondition_of_a_listed_task() {
     let plan = sample("incondition-broken");
