@@ -45,6 +45,7 @@ fn prints_each_sample() {
         ("b-flag-set", "DOOMED 17"),
         ("calibration-optional", "CLEAR 63"),
         ("equal-waits", "CLEAR 18"),
+        ("finish-together", "OPEN 10"),
         ("large", "DOOMED 393546"),
         ("nodes-128", "CLEAR 0"),
         ("one-task", "CLEAR 0"),

@@ -12,13 +12,14 @@ use reference::tools::archive;
 use reference::tools::text::{make, show, Error, Source};
 
 /// Each sample with its length and its refusal.
-const SAMPLES: [(&str, usize, u32); 20] = [
+const SAMPLES: [(&str, usize, u32); 21] = [
     ("b", 82, 0),
     ("b-flag-set", 82, 0),
     ("b-without-order", 80, 0),
     ("calibration-optional", 104, 0),
     ("equal-waits", 90, 0),
     ("fifteen-bytes", 15, 1),
+    ("finish-together", 46, 0),
     ("incondition-broken", 49, 0),
     ("large", 5136, 0),
     ("minutes-10080", 24, 0),
@@ -68,7 +69,7 @@ fn lengths_and_refusals() {
         let mut plan = plan_of(name);
         assert_eq!(plan.len(), len, "{name}");
         assert_eq!(refusal(&plan), want, "{name}");
-        let found = archive::make(Call::Refusal, &mut plan, &mut []);
+        let found = archive::make(&Call::Refusal, &mut plan, &mut []);
         assert_eq!(found, want, "{name}");
     }
 }
@@ -78,14 +79,16 @@ fn lengths_and_refusals() {
 fn states_of_calls() {
     let of_b = [Start(1), Finish(1), Start(4)];
     let of_calibration = [Start(1), Finish(1), Skip(2), Start(5)];
+    let of_tank = [Start(1), Start(2)];
     for (name, len, events) in [
         ("b", 23, &of_b[..]),
         ("calibration-optional", 26, &of_calibration),
+        ("finish-together", 17, &of_tank),
     ] {
         let (mut plan, mut state) = (plan_of(name), vec![7; len]);
         let events = events.iter().map(|&event| Call::Event(event));
         for call in [Call::Fresh].into_iter().chain(events) {
-            assert_eq!(archive::make(call, &mut plan, &mut state), 0, "{call:?}");
+            assert_eq!(archive::make(&call, &mut plan, &mut state), 0, "{call:?}");
         }
         let path = folder().join(format!("{name}.state"));
         assert_eq!(fs::read(path).unwrap(), state, "{name}");

@@ -1,6 +1,6 @@
 //! The archive under valgrind: every call on damaged plans, and on some whole ones, where it is an
-//! error to touch a byte around the plan, the output or the state, or to decide anything by what an
-//! output held before.
+//! error to touch a byte around the plan, the output, the state or a list of tasks, or to decide
+//! anything by what an output held before.
 //!
 //! `cargo run --release --bin guarded [PLANS [SEED]]`; it needs valgrind.
 
@@ -10,7 +10,7 @@ use std::process::{Command, ExitCode};
 use reference::tools::random::Random;
 use reference::tools::scenario::stream::{any_bytes, every_call, Damage};
 use reference::tools::scenario::tally::Tally;
-use reference::tools::scenario::valgrind;
+use reference::tools::valgrind;
 
 fn main() -> ExitCode {
     let words: Vec<String> = args().skip(1).collect();

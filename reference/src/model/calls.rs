@@ -6,14 +6,14 @@ use crate::model::events::Event;
 use crate::model::format::Plan;
 use crate::model::listing::listing;
 use crate::model::marks::{marks, Marks};
-use crate::model::monitor::{fresh, happen, status, Progress};
+use crate::model::monitor::{finish_together, fresh, happen, status, Progress};
 use crate::model::rules::accept;
 use crate::model::runs;
 use crate::model::summary::summary;
 use crate::model::verdict::{from_marks, Verdict};
 
 /// A call, without the plan and the memory that it is lent.
-#[derive(Clone, Copy, Debug, PartialEq, Eq)]
+#[derive(Clone, Debug, PartialEq, Eq)]
 pub enum Call {
     Refusal,
     Verdict,
@@ -22,12 +22,14 @@ pub enum Call {
     Fresh,
     /// Start, finish or skip.
     Event(Event),
+    /// Of the tasks in this list, which may hold any numbers.
+    FinishTogether(Vec<usize>),
     Status,
     Listing,
 }
 
 impl Call {
-    pub fn name(self) -> &'static str {
+    pub fn name(&self) -> &'static str {
         match self {
             Call::Refusal => "refusal",
             Call::Verdict => "verdict",
@@ -36,9 +38,16 @@ impl Call {
             Call::Event(Event::Start(_)) => "start",
             Call::Event(Event::Finish(_)) => "finish",
             Call::Event(Event::Skip(_)) => "skip",
+            Call::FinishTogether(_) => "finish together",
             Call::Status => "status",
             Call::Listing => "listing",
         }
+    }
+}
+
+impl From<Event> for Call {
+    fn from(event: Event) -> Call {
+        Call::Event(event)
     }
 }
 
@@ -69,7 +78,7 @@ impl Answers {
     }
 
     /// Makes the call. It is lent an output or a state, which calls that use neither leave alone.
-    pub fn make(&self, call: Call, lent: &mut [u8]) -> u32 {
+    pub fn make(&self, call: &Call, lent: &mut [u8]) -> u32 {
         let plan = match &self.plan {
             Ok(plan) => plan,
             Err(number) => return *number,
@@ -79,9 +88,10 @@ impl Answers {
         let done = match call {
             Call::Refusal => Ok(0),
             Call::Verdict => Ok(code_of_verdict(verdict())),
-            Call::Summary(node) => summary(plan, marks, node, lent).map(|()| 0),
+            Call::Summary(node) => summary(plan, marks, *node, lent).map(|()| 0),
             Call::Fresh => fresh(plan, lent).map(|()| 0),
-            Call::Event(event) => happen(plan, lent, event).map(|()| 0),
+            Call::Event(event) => happen(plan, lent, *event).map(|()| 0),
+            Call::FinishTogether(tasks) => finish_together(plan, lent, tasks).map(|()| 0),
             Call::Status => status(plan, lent).map(code_of_progress),
             Call::Listing => listing(plan, verdict, lent).map(|len| 256 + len as u32),
         };
@@ -105,7 +115,7 @@ impl Answers {
 }
 
 /// Makes one call.
-pub fn make(call: Call, plan: &[u8], lent: &mut [u8]) -> u32 {
+pub fn make(call: &Call, plan: &[u8], lent: &mut [u8]) -> u32 {
     Answers::by_rules(plan).make(call, lent)
 }
 

@@ -79,6 +79,10 @@ impl Statuses {
         self.0[task] == Status::Running
     }
 
+    pub fn running<'a>(&'a self, plan: &'a Plan) -> impl Iterator<Item = usize> + 'a {
+        plan.tasks().filter(|&task| self.runs(task))
+    }
+
     /// Whether the node is a task that runs or is done.
     pub fn started(&self, node: usize) -> bool {
         matches!(self.0[node], Status::Running | Status::Done)

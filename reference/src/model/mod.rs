@@ -9,6 +9,7 @@ pub mod rules;
 
 pub mod events;
 pub mod marks;
+pub mod opposed;
 pub mod places;
 pub mod runs;
 pub mod verdict;

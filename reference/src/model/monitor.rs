@@ -1,7 +1,9 @@
-//! The monitor (01: keeper): the calls on a state (01: record) and refusals 15 to 22 and 27.
+//! The monitor (01: keeper): the calls on a state (01: record) and refusals 15 to 22 and 25 to 27.
+
+use std::collections::HashSet;
 
 use crate::model::events::{Event, Status, Statuses};
-use crate::model::format::{Plan, INCONDITION, PRECONDITION, SET};
+use crate::model::format::{Plan, CLEAR, INCONDITION, POSTCONDITION, PRECONDITION, SET};
 use crate::model::literal::Literal;
 use crate::model::places::Places;
 
@@ -42,6 +44,14 @@ pub fn fresh(plan: &Plan, state: &mut [u8]) -> Result<(), u32> {
 pub fn happen(plan: &Plan, state: &mut [u8], event: Event) -> Result<(), u32> {
     let before = State::read(plan, state)?;
     before.step(plan, event)?.write(state);
+    Ok(())
+}
+
+/// The call on an accepted plan: takes in the finishes of the listed tasks in one step, or meets
+/// the first of refusals 15, 16, 25, 17, 18, 26 and 22.
+pub fn finish_together(plan: &Plan, state: &mut [u8], tasks: &[usize]) -> Result<(), u32> {
+    let before = State::read(plan, state)?;
+    before.step_together(plan, tasks)?.write(state);
     Ok(())
 }
 
@@ -124,23 +134,52 @@ impl State {
         if self.precondition_unmet(plan, event) {
             return Err(21);
         }
-        if self.breaks_incondition(plan, event) {
+        let asserted: HashSet<Literal> = event.asserts(plan).collect();
+        if self.breaks_incondition(plan, &[event.node()], &asserted) {
             return Err(22);
         }
-        let mut flags = self.flags;
-        for literal in event.asserts(plan) {
-            let bit = 1 << literal.flag;
-            if literal.sign == SET {
-                flags |= bit;
-            } else {
-                flags &= !bit;
-            }
-        }
         Ok(State {
-            flags,
+            flags: self.flags_after(&asserted),
             statuses: self.statuses.after(event),
             places: self.places.after(event),
         })
+    }
+
+    /// The state after the finishes of the listed tasks in one step, or the first of refusals 25,
+    /// 17, 18, 26 and 22, each checked over the whole list.
+    pub fn step_together(&self, plan: &Plan, tasks: &[usize]) -> Result<State, u32> {
+        if tasks.is_empty() || tasks.windows(2).any(|pair| pair[0] >= pair[1]) {
+            return Err(25);
+        }
+        let finishes = || tasks.iter().map(|&task| Event::Finish(task));
+        for number in [17, 18] {
+            let meets = |event| self.statuses.check(plan, 0, event) == Err(number);
+            if finishes().any(meets) {
+                return Err(number);
+            }
+        }
+        let of_task = |&task: &usize| plan.conditions_of(task, POSTCONDITION);
+        let asserted: HashSet<Literal> = tasks.iter().flat_map(of_task).collect();
+        if opposed(&asserted) {
+            return Err(26);
+        }
+        if self.breaks_incondition(plan, tasks, &asserted) {
+            return Err(22);
+        }
+        Ok(State {
+            flags: self.flags_after(&asserted),
+            statuses: finishes().fold(self.statuses.clone(), |statuses, e| statuses.after(e)),
+            places: self.places.clone(),
+        })
+    }
+
+    /// The flags after these literals, of which no two are opposites, are made true.
+    fn flags_after(&self, asserted: &HashSet<Literal>) -> u64 {
+        let of_sign = |sign| {
+            let literals = asserted.iter().filter(move |literal| literal.sign == sign);
+            literals.fold(0, |word, literal| word | 1 << literal.flag)
+        };
+        (self.flags | of_sign(SET)) & !of_sign(CLEAR)
     }
 
     fn is_true(&self, literal: Literal) -> bool {
@@ -158,14 +197,26 @@ impl State {
         }
     }
 
-    /// 22: the event would break an incondition of another running task.
-    fn breaks_incondition(&self, plan: &Plan, event: Event) -> bool {
-        event.asserts(plan).any(|literal| {
-            plan.tasks().any(|other| {
-                other != event.node()
-                    && self.statuses.runs(other)
-                    && plan.has(other, INCONDITION, literal.opposite())
-            })
+    /// 22: making these literals true would break an incondition of a running task that is none of
+    /// these nodes.
+    fn breaks_incondition(
+        &self,
+        plan: &Plan,
+        nodes: &[usize],
+        asserted: &HashSet<Literal>,
+    ) -> bool {
+        let running = self.statuses.running(plan);
+        let mut others = running.filter(|task| !nodes.contains(task));
+        others.any(|other| {
+            let mut held = plan.conditions_of(other, INCONDITION);
+            held.any(|literal| asserted.contains(&literal.opposite()))
         })
     }
+}
+
+/// 26, of all postconditions of the listed tasks: two are opposites. By rule 11 these are not of
+/// one task.
+fn opposed(postconditions: &HashSet<Literal>) -> bool {
+    let mut literals = postconditions.iter();
+    literals.any(|literal| postconditions.contains(&literal.opposite()))
 }

@@ -2,7 +2,7 @@
 
 use std::iter::successors;
 
-use crate::model::format::{Plan, ANY_OF, NO_PARENT, OPTIONAL, TASK};
+use crate::model::format::{Plan, ALL_OF, ANY_OF, NO_PARENT, OPTIONAL, TASK};
 
 impl Plan {
     /// Whether the number, which may be any, is that of a task.
@@ -13,6 +13,10 @@ impl Plan {
     /// Whether the number, which may be any, is that of an optional group.
     pub fn is_optional(&self, number: usize) -> bool {
         self.has_kind(number, OPTIONAL)
+    }
+
+    pub fn is_all_of(&self, node: usize) -> bool {
+        self.has_kind(node, ALL_OF)
     }
 
     /// Whether the node is a group of which one branch is taken.

@@ -16,16 +16,16 @@ use reference::tools::scenario::states::{
     any_state, bytes, malformed, reached_state, reordered_state,
 };
 use reference::tools::scenario::tally::Tally;
+use reference::tools::scenario::together::any_tasks;
 use reference::tools::scenario::Case;
-use reference::tools::search::search_by;
+use reference::tools::search::{running, search_by, subsets};
 
 /// Fresh and then the list. At first the state is of any bytes.
-fn replay(tally: &mut Tally, random: &mut Random, plan: &Plan, list: &[Event]) {
+fn replay(tally: &mut Tally, random: &mut Random, plan: &Plan, list: &[Call]) {
     let bytes = plan.bytes();
     let extra = random.below(4);
     let state = random.bytes(state_len(plan) + extra);
-    let events = list.iter().map(|&event| Call::Event(event));
-    let calls: Vec<Call> = once(Call::Fresh).chain(events).collect();
+    let calls: Vec<Call> = once(&Call::Fresh).chain(list).cloned().collect();
     tally.replay(&Answers::by_rules(&bytes), &bytes, &calls, state);
 }
 
@@ -61,7 +61,7 @@ pub fn large(tally: &mut Tally) {
 }
 
 /// These calls on the state.
-fn on_state(
+pub fn on_state(
     tally: &mut Tally,
     plan: &Plan,
     answers: &Answers,
@@ -78,7 +78,7 @@ fn on_state(
     }
 }
 
-/// Every call of the monitor on the state, with some number.
+/// Every call of the monitor on the state, with some number or list of numbers.
 fn every_call(
     tally: &mut Tally,
     random: &mut Random,
@@ -87,8 +87,15 @@ fn every_call(
     state: &[u8],
 ) {
     let events = Event::each(any_event(random, plan).node()).map(Call::Event);
-    let calls = [Call::Fresh, Call::Status].into_iter().chain(events);
-    on_state(tally, plan, answers, state, calls);
+    let tasks = any_tasks(random, plan, &running(plan, state));
+    let others = [Call::Fresh, Call::FinishTogether(tasks), Call::Status];
+    on_state(
+        tally,
+        plan,
+        answers,
+        state,
+        others.into_iter().chain(events),
+    );
 }
 
 /// States that lists reach and others, each of all lengths from below 8 + N to above 8 + 3N and
@@ -155,8 +162,8 @@ pub fn places(tally: &mut Tally) {
     }
 }
 
-/// Each of the bytes 0 to 3 at each node of small plans with optional groups: the status, and every
-/// event of every node and of the number after the last.
+/// Each of the bytes 0 to 3 at each node of small plans with optional groups: the status, every
+/// event of every node and of the number after the last, and each rising list of these together.
 pub fn statuses(tally: &mut Tally) {
     let mut random = Random::new(117);
     let drawn = repeat_with(|| {
@@ -171,7 +178,8 @@ pub fn statuses(tally: &mut Tally) {
             let byte = |node: usize| (at >> (2 * node) & 3) as u8;
             let bytes: Vec<u8> = (0..nodes).map(byte).collect();
             let events = (0..=nodes).flat_map(Event::each).map(Call::Event);
-            let calls = events.chain([Call::Status]);
+            let together = subsets((0..=nodes).collect()).map(Call::FinishTogether);
+            let calls = events.chain(together).chain([Call::Status]);
             on_state(tally, &plan, &answers, &in_order(&plan, &bytes), calls);
         }
     }
@@ -203,7 +211,7 @@ pub fn claims(tally: &mut Tally) {
                 .compare(&Answers::by_rules(&case.plan), &case)
                 .returned;
             let found = search_by(&plan, archive::make);
-            assert_eq!(verdict == 128, !found.conflict, "{plan:?}");
+            assert_eq!(verdict == 128, found.is_clear(), "{plan:?}");
             assert!(verdict != 129 || !found.completable, "{plan:?}");
         }
     }

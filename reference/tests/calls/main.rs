@@ -4,6 +4,7 @@ mod damage;
 mod listings;
 mod lists;
 mod summaries;
+mod together;
 
 use std::ops::RangeInclusive;
 use std::time::Instant;
@@ -12,7 +13,7 @@ use reference::tools::scenario::tally::Tally;
 
 type Topic = (&'static str, fn(&mut Tally));
 
-const TOPICS: [Topic; 17] = [
+const TOPICS: [Topic; 20] = [
     ("summaries of small plans, by runs", summaries::small),
     ("summaries of large plans, by rules", summaries::large),
     ("summaries of the samples", summaries::samples),
@@ -24,6 +25,9 @@ const TOPICS: [Topic; 17] = [
     ("places of every kind", lists::places),
     ("every byte at every node", lists::statuses),
     ("CLEAR and DOOMED, by all lists", lists::claims),
+    ("lists of tasks in any order", together::orders),
+    ("running tasks together", together::running),
+    ("long lists of tasks", together::long),
     ("listings of random plans", listings::random),
     ("listings of long, deep and equal waits", listings::extremes),
     ("listings of equal waits, by names", listings::ties),
@@ -33,13 +37,14 @@ const TOPICS: [Topic; 17] = [
 ];
 
 /// What each call returned at least so often.
-const MET: [(&str, usize, &[RangeInclusive<u32>]); 8] = [
+const MET: [(&str, usize, &[RangeInclusive<u32>]); 9] = [
     ("verdict", 20, &[1..=14, 128..=130]),
     ("summary", 20, &[0..=15, 17..=17]),
     ("fresh", 20, &[0..=15]),
     ("start", 20, &[0..=22]),
     ("finish", 20, &[0..=18, 22..=22]),
     ("skip", 20, &[0..=16, 18..=20, 27..=27]),
+    ("finish together", 20, &[0..=18, 22..=22, 25..=26]),
     ("status", 20, &[1..=16, 128..=129]),
     ("listing", 20, &[1..=15, 256..=256]),
 ];

@@ -7,8 +7,10 @@ mod lists;
 mod memory;
 mod monitor;
 mod optional;
+mod past;
 mod places;
 mod readings;
+mod together;
 mod trials;
 mod waits;
 
@@ -16,7 +18,6 @@ use std::fs;
 use std::path::Path;
 
 use reference::model::calls::Call;
-use reference::model::events::Event;
 use reference::model::format::Plan;
 use reference::model::listing::LISTING_LEN;
 use reference::model::rules::accept;
@@ -45,9 +46,9 @@ fn plan(text: &str) -> Vec<u8> {
 
 /// Makes the call of the reference and of the archive: both must return and leave the same.
 #[track_caller]
-fn make(call: Call, plan: &[u8], lent: &mut [u8]) -> u32 {
+fn make(call: &Call, plan: &[u8], lent: &mut [u8]) -> u32 {
     let case = Case {
-        call,
+        call: call.clone(),
         plan: plan.to_vec(),
         lent: lent.to_vec(),
     };
@@ -56,23 +57,30 @@ fn make(call: Call, plan: &[u8], lent: &mut [u8]) -> u32 {
     case.compare(archive::make)
 }
 
+/// A state with this flag byte, these bytes at the nodes and these places.
+fn state<const N: usize>(flags: u8, statuses: [u8; N], places: [u8; N]) -> Vec<u8> {
+    let places = places.map(|place| [place, 0]).concat();
+    [&[flags, 0, 0, 0, 0, 0, 0, 0][..], &statuses, &places].concat()
+}
+
 fn verdict(plan: &[u8]) -> u32 {
-    make(Call::Verdict, plan, &mut [])
+    make(&Call::Verdict, plan, &mut [])
 }
 
 /// The entries of a node's summary.
 #[track_caller]
 fn entries(plan: &[u8], node: usize) -> Vec<[u8; 8]> {
     let mut out = vec![7; summary_len(&fields(plan))];
-    assert_eq!(make(Call::Summary(node), plan, &mut out), 0);
+    assert_eq!(make(&Call::Summary(node), plan, &mut out), 0);
     let entry = |bytes: &[u8]| bytes.try_into().unwrap();
     out.chunks(8).map(entry).collect()
 }
 
 /// What each call of a list returns.
-fn returns(plan: &[u8], list: &[Event]) -> Vec<u32> {
-    let by_both = |call, plan: &mut [u8], lent: &mut [u8]| make(call, plan, lent);
-    let afters = replay(plan, list, vec![7; 400], by_both);
+fn returns<C: Clone + Into<Call>>(plan: &[u8], list: &[C]) -> Vec<u32> {
+    let by_both = |call: &Call, plan: &mut [u8], lent: &mut [u8]| make(call, plan, lent);
+    let calls: Vec<Call> = list.iter().cloned().map(C::into).collect();
+    let afters = replay(plan, &calls, vec![7; 400], by_both);
     let mut returned = afters.iter().map(|after| after.returned);
     assert_eq!(returned.next(), Some(0), "fresh");
     returned.collect()
@@ -80,7 +88,7 @@ fn returns(plan: &[u8], list: &[Event]) -> Vec<u32> {
 
 fn listed(plan: &[u8]) -> String {
     let mut out = vec![7; LISTING_LEN];
-    let len = make(Call::Listing, plan, &mut out) - 256;
+    let len = make(&Call::Listing, plan, &mut out) - 256;
     out.truncate(len as usize);
     String::from_utf8(out).unwrap()
 }

@@ -37,10 +37,10 @@ fn check(case: &Case) -> u32 {
 /// An accepted call's lent bytes.
 fn accepted(plan: &Plan, case: &Case, after: &After) {
     let mut want = case.lent.clone();
-    match case.call {
+    match &case.call {
         Call::Refusal | Call::Verdict | Call::Status => {}
         Call::Summary(node) => {
-            let bytes = summary::bytes(&marks(plan)[node]);
+            let bytes = summary::bytes(&marks(plan)[*node]);
             assert_eq!(bytes.len(), 16 * usize::from(plan.flags));
             want[..bytes.len()].copy_from_slice(&bytes);
         }
@@ -48,7 +48,12 @@ fn accepted(plan: &Plan, case: &Case, after: &After) {
             want[..8].copy_from_slice(&plan.start);
             want[8..8 + 3 * plan.nodes.len()].fill(0);
         }
-        Call::Event(event) => write_event(plan, event, &mut want),
+        Call::Event(event) => write_event(plan, *event, &mut want),
+        Call::FinishTogether(tasks) => {
+            for &task in tasks {
+                write_event(plan, Event::Finish(task), &mut want);
+            }
+        }
         Call::Listing => {
             let text = listing::text(plan);
             assert_eq!(after.returned as usize, 256 + text.len());
@@ -56,7 +61,7 @@ fn accepted(plan: &Plan, case: &Case, after: &After) {
         }
     }
     assert_eq!(after.lent, want, "{:?}", case.call);
-    if let Call::Event(_) = case.call {
+    if let Call::Event(_) | Call::FinishTogether(_) = case.call {
         assert!(State::read(plan, &after.lent).is_ok());
     }
 }
@@ -110,7 +115,7 @@ fn changed_bytes() {
             counts[check(&case).min(256) as usize] += 1;
         }
     }
-    for returned in (15..=22).chain([0, 27, 128, 129, 130, 256]) {
+    for returned in (15..=22).chain([0, 25, 26, 27, 128, 129, 130, 256]) {
         assert!(counts[returned] > 50, "{returned}: {}", counts[returned]);
     }
 }

@@ -13,7 +13,7 @@ const PLAN: &str = "flags 2\n0 ROOT all-of\n1 A--- task 0 under 0 holds 0-set le
 
 /// The call's return. A refused call must leave the state as it was.
 #[track_caller]
-fn returned(plan: &[u8], state: &[u8], call: Call) -> u32 {
+fn returned(plan: &[u8], state: &[u8], call: &Call) -> u32 {
     let mut lent = state.to_vec();
     let returned = make(call, plan, &mut lent);
     assert!(returned == 0 || lent == state, "{call:?}");
@@ -63,7 +63,7 @@ fn causes_taken_away_one_by_one() {
         (state(2, [0, 0, 2, 0, 0, 0]), 5, 0),
     ] {
         let call = Call::Event(Start(number));
-        assert_eq!(returned(&plan, &state, call), want, "{state:?}");
+        assert_eq!(returned(&plan, &state, &call), want, "{state:?}");
     }
 }
 
@@ -81,7 +81,7 @@ fn causes_for_a_finish() {
         (state(0, [0, 0, 0, 0, 1, 1]), 5, 0),
     ] {
         let call = Call::Event(Finish(number));
-        assert_eq!(returned(&plan, &state, call), want, "{state:?}");
+        assert_eq!(returned(&plan, &state, &call), want, "{state:?}");
     }
 }
 
@@ -118,7 +118,7 @@ fn causes_for_a_skip() {
         (state(3, [0, 2, 0, 0, 0, 0, 0]), 5, 0),
     ] {
         let call = Call::Event(Skip(number));
-        assert_eq!(returned(&plan, &state, call), want, "{state:?}");
+        assert_eq!(returned(&plan, &state, &call), want, "{state:?}");
     }
 }
 
@@ -126,8 +126,8 @@ fn causes_for_a_skip() {
 fn plan_comes_first() {
     for (name, want) in [("fifteen-bytes", 1), ("nodes-129", 2), ("minutes-10081", 6)] {
         let plan = sample(name);
-        for call in CALLS {
-            assert_eq!(returned(&plan, &[], call), want, "{name}, {call:?}");
+        for call in calls() {
+            assert_eq!(returned(&plan, &[], &call), want, "{name}, {call:?}");
         }
     }
 }
@@ -136,30 +136,34 @@ fn plan_comes_first() {
 #[test]
 fn memory_comes_next() {
     let plan = sample("b");
-    for call in CALLS {
-        assert_eq!(returned(&plan, &[255; 22], call), 15, "{call:?}");
+    for call in calls() {
+        assert_eq!(returned(&plan, &[255; 22], &call), 15, "{call:?}");
     }
 }
 
 /// The calls that are lent memory, on no node.
-const CALLS: [Call; 7] = [
-    Call::Summary(9),
-    Call::Fresh,
-    Call::Event(Start(9)),
-    Call::Event(Finish(9)),
-    Call::Event(Skip(9)),
-    Call::Status,
-    Call::Listing,
-];
+fn calls() -> [Call; 9] {
+    [
+        Call::Summary(9),
+        Call::Fresh,
+        Call::Event(Start(9)),
+        Call::Event(Finish(9)),
+        Call::Event(Skip(9)),
+        Call::FinishTogether(vec![9, 9]),
+        Call::FinishTogether(Vec::new()),
+        Call::Status,
+        Call::Listing,
+    ]
+}
 
 /// Fresh takes over memory of any content; what is malformed concerns the others.
 #[test]
 fn fresh_over_a_malformed_state() {
     let plan = sample("b-flag-set");
     let mut state = [255; 24];
-    assert_eq!(make(Call::Status, &plan, &mut state), 16);
-    assert_eq!(make(Call::Fresh, &plan, &mut state), 0);
+    assert_eq!(make(&Call::Status, &plan, &mut state), 16);
+    assert_eq!(make(&Call::Fresh, &plan, &mut state), 0);
     assert_eq!((state[0], state[23]), (1, 255));
     assert_eq!(state[1..23], [0; 22]);
-    assert_eq!(make(Call::Status, &plan, &mut state), 129);
+    assert_eq!(make(&Call::Status, &plan, &mut state), 129);
 }

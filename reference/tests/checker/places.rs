@@ -6,16 +6,20 @@ use reference::model::events::Event::{Finish, Skip, Start};
 use crate::{make, plan, sample};
 
 /// The calls that check a state, on tasks that wait, run and are done and on no node.
-const CHECKING: [Call; 8] = [
-    Call::Status,
-    Call::Event(Start(3)),
-    Call::Event(Start(4)),
-    Call::Event(Start(9)),
-    Call::Event(Finish(1)),
-    Call::Event(Finish(4)),
-    Call::Event(Finish(9)),
-    Call::Event(Skip(2)),
-];
+fn checking() -> [Call; 10] {
+    [
+        Call::Status,
+        Call::Event(Start(3)),
+        Call::Event(Start(4)),
+        Call::Event(Start(9)),
+        Call::Event(Finish(1)),
+        Call::Event(Finish(4)),
+        Call::Event(Finish(9)),
+        Call::Event(Skip(2)),
+        Call::FinishTogether(vec![4]),
+        Call::FinishTogether(vec![9, 9]),
+    ]
+}
 
 /// A state of B with this flag byte, these statuses and these places.
 fn state(flags: u8, statuses: [u8; 5], places: [u16; 5]) -> Vec<u8> {
@@ -25,7 +29,7 @@ fn state(flags: u8, statuses: [u8; 5], places: [u16; 5]) -> Vec<u8> {
 
 /// The call returns this and leaves these bytes.
 #[track_caller]
-fn check(call: Call, plan: &[u8], before: &[u8], want: u32, after: &[u8]) {
+fn check(call: &Call, plan: &[u8], before: &[u8], want: u32, after: &[u8]) {
     let mut lent = before.to_vec();
     assert_eq!(make(call, plan, &mut lent), want, "{call:?}");
     assert_eq!(lent, after, "{call:?}");
@@ -37,7 +41,7 @@ fn bytes_of_b() {
     let mut lent = [7; 23];
     let calls = [Start(1), Finish(1), Start(4)].map(Call::Event);
     for call in [Call::Fresh].into_iter().chain(calls) {
-        assert_eq!(make(call, &sample("b"), &mut lent), 0, "{call:?}");
+        assert_eq!(make(&call, &sample("b"), &mut lent), 0, "{call:?}");
     }
     let want = [
         2, 0, 0, 0, 0, 0, 0, 0, // flag 1 is set
@@ -57,7 +61,7 @@ fn order_of_calls() {
          3 C--- task 0 under 0 holds 0-clear leaves 0-clear\n4 D--- task 0 under 0\norder 2 4\n",
     );
     let mut lent = [7; 23];
-    assert_eq!(make(Call::Fresh, &plan, &mut lent), 0);
+    assert_eq!(make(&Call::Fresh, &plan, &mut lent), 0);
     for (event, returned, places) in [
         (Start(0), 17, [0, 0, 0, 0, 0]),
         (Start(5), 17, [0, 0, 0, 0, 0]),
@@ -77,7 +81,7 @@ fn order_of_calls() {
         (Finish(4), 0, [0, 4, 2, 1, 3]),
         (Finish(1), 0, [0, 4, 2, 1, 3]),
     ] {
-        let made = make(Call::Event(event), &plan, &mut lent);
+        let made = make(&Call::Event(event), &plan, &mut lent);
         assert_eq!(made, returned, "{event:?}");
         let want = places.map(|place| [place, 0]).concat();
         assert_eq!(lent[13..], want, "{event:?}");
@@ -124,13 +128,16 @@ fn malformed() {
     let statuses = [0, 2, 0, 0, 1];
     for places in WRONG {
         let state = state(2, statuses, places);
-        for call in CHECKING {
+        for call in &checking() {
             check(call, &b, &state, 16, &state);
         }
-        check(Call::Fresh, &b, &state, 0, &[0; 23]);
+        check(&Call::Fresh, &b, &state, 0, &[0; 23]);
     }
     let right = state(2, statuses, [0, 1, 0, 0, 2]);
-    for (call, want) in CHECKING.into_iter().zip([129, 19, 18, 17, 18, 0, 17, 27]) {
+    for (call, want) in checking()
+        .iter()
+        .zip([129, 19, 18, 17, 18, 0, 17, 27, 0, 25])
+    {
         let mut lent = right.clone();
         assert_eq!(make(call, &b, &mut lent), want, "{call:?}");
     }
@@ -149,7 +156,7 @@ fn malformed_by_status() {
         ([0, 2, 0, 1, 1], [0, 1, 0, 0, 2]),
     ] {
         let state = state(0, statuses, places);
-        for call in CHECKING {
+        for call in &checking() {
             check(call, &b, &state, 16, &state);
         }
     }
@@ -162,7 +169,7 @@ fn too_short() {
     let right = state(2, [0, 2, 0, 0, 1], [0, 1, 0, 0, 2]);
     for whole in [right, vec![255; 23], vec![0; 23]] {
         for len in [22, 21, 14, 13, 12, 8, 0] {
-            for call in CHECKING.into_iter().chain([Call::Fresh]) {
+            for call in checking().iter().chain([&Call::Fresh]) {
                 check(call, &b, &whole[..len], 15, &whole[..len]);
             }
         }
@@ -179,10 +186,10 @@ fn later_bytes() {
     let casting = longer(state(1, [0, 1, 0, 0, 0], [0, 1, 0, 0, 0]));
     let cast = longer(state(0, [0, 2, 0, 0, 0], [0, 1, 0, 0, 0]));
     let any = longer(vec![255; 23]);
-    check(Call::Fresh, &b, &any, 0, &fresh);
-    check(Call::Event(Start(1)), &b, &fresh, 0, &casting);
-    check(Call::Event(Finish(1)), &b, &casting, 0, &cast);
-    check(Call::Status, &b, &cast, 129, &cast);
+    check(&Call::Fresh, &b, &any, 0, &fresh);
+    check(&Call::Event(Start(1)), &b, &fresh, 0, &casting);
+    check(&Call::Event(Finish(1)), &b, &casting, 0, &cast);
+    check(&Call::Status, &b, &cast, 129, &cast);
 }
 
 /// Well formed, though no run has it: 16 asks nothing more of the order.
@@ -193,16 +200,16 @@ fn orders_of_no_run() {
     let places = [0, 2, 0, 0, 1];
     let before = state(2, [0, 2, 0, 0, 1], places);
     let after = state(0, [0, 2, 0, 0, 2], places);
-    check(Call::Status, &b, &before, 129, &before);
-    check(Call::Event(Start(3)), &b, &before, 19, &before);
-    check(Call::Event(Finish(4)), &b, &before, 0, &after);
-    check(Call::Status, &b, &after, 128, &after);
+    check(&Call::Status, &b, &before, 129, &before);
+    check(&Call::Event(Start(3)), &b, &before, 19, &before);
+    check(&Call::Event(Finish(4)), &b, &before, 0, &after);
+    check(&Call::Status, &b, &after, 128, &after);
     // CAST after both branches of the choice.
     let before = state(0, [0, 0, 0, 2, 2], [0, 0, 0, 2, 1]);
     let after = state(1, [0, 1, 0, 2, 2], [0, 3, 0, 2, 1]);
-    check(Call::Event(Start(1)), &b, &before, 0, &after);
+    check(&Call::Event(Start(1)), &b, &before, 0, &after);
     let last = state(0, [0, 2, 0, 2, 2], [0, 3, 0, 2, 1]);
-    check(Call::Event(Finish(1)), &b, &after, 0, &last);
+    check(&Call::Event(Finish(1)), &b, &after, 0, &last);
 }
 
 /// The smallest state.
@@ -215,7 +222,7 @@ fn one_task() {
         (Call::Event(Start(0)), 1, 1),
         (Call::Event(Finish(0)), 2, 1),
     ] {
-        assert_eq!(make(call, &plan, &mut lent), 0, "{call:?}");
+        assert_eq!(make(&call, &plan, &mut lent), 0, "{call:?}");
         assert_eq!(lent, [0, 0, 0, 0, 0, 0, 0, 0, status, place, 0, 7]);
     }
 }
@@ -226,27 +233,27 @@ fn one_task() {
 fn most_starts() {
     let plan = sample("nodes-128");
     let mut lent = [7; 392 + 5];
-    assert_eq!(make(Call::Fresh, &plan, &mut lent), 0);
+    assert_eq!(make(&Call::Fresh, &plan, &mut lent), 0);
     let mut want = [0; 392 + 5];
     want[392..].fill(7);
     for task in (1..128).rev() {
-        assert_eq!(make(Call::Event(Start(task)), &plan, &mut lent), 0);
+        assert_eq!(make(&Call::Event(Start(task)), &plan, &mut lent), 0);
         want[8 + task] = 1;
         want[8 + 128 + 2 * task] = 128 - task as u8;
         assert_eq!(lent, want);
         if task % 2 == 0 {
-            assert_eq!(make(Call::Event(Finish(task)), &plan, &mut lent), 0);
+            assert_eq!(make(&Call::Event(Finish(task)), &plan, &mut lent), 0);
             want[8 + task] = 2;
             assert_eq!(lent, want);
         }
     }
-    check(Call::Status, &plan, &lent, 129, &lent);
+    check(&Call::Status, &plan, &lent, 129, &lent);
     // At any of them another's place, or one above the count.
     for task in 1..128 {
         let mut wrong = lent;
         wrong[8 + 128 + 2 * task] = 1 + (128 - task as u8) % 127;
-        check(Call::Status, &plan, &wrong, 16, &wrong);
+        check(&Call::Status, &plan, &wrong, 16, &wrong);
         wrong[8 + 128 + 2 * task] = 128;
-        check(Call::Status, &plan, &wrong, 16, &wrong);
+        check(&Call::Status, &plan, &wrong, 16, &wrong);
     }
 }

@@ -54,10 +54,10 @@ fn hold_on_a_flag_that_differs() {
     // A and Z run, and the flag is clear although A holds it set.
     let mut state = [0, 0, 0, 0, 0, 0, 0, 0, 0, 1, 1, 0, 0, 1, 0, 2, 0];
     let before = state;
-    assert_eq!(make(Call::Event(Finish(2)), &plan, &mut state), 22);
+    assert_eq!(make(&Call::Event(Finish(2)), &plan, &mut state), 22);
     assert_eq!(state, before);
     // A's own finish breaks nothing of another.
-    assert_eq!(make(Call::Event(Finish(1)), &plan, &mut state), 0);
+    assert_eq!(make(&Call::Event(Finish(1)), &plan, &mut state), 0);
     assert_eq!(state, [0, 0, 0, 0, 0, 0, 0, 0, 0, 2, 1, 0, 0, 1, 0, 2, 0]);
 }
 
@@ -84,13 +84,13 @@ fn two_branches_taken() {
     let mut state = [0; 23];
     (state[10], state[12]) = (2, 1);
     (state[17], state[21]) = (1, 2);
-    assert_eq!(make(Call::Event(Start(3)), &plan, &mut state), 19);
-    assert_eq!(make(Call::Status, &plan, &mut state), 129);
-    assert_eq!(make(Call::Event(Finish(4)), &plan, &mut state), 0);
-    assert_eq!(make(Call::Status, &plan, &mut state), 128);
+    assert_eq!(make(&Call::Event(Start(3)), &plan, &mut state), 19);
+    assert_eq!(make(&Call::Status, &plan, &mut state), 129);
+    assert_eq!(make(&Call::Event(Finish(4)), &plan, &mut state), 0);
+    assert_eq!(make(&Call::Status, &plan, &mut state), 128);
     // With its own branch alone taken, it may start.
     (state[12], state[21]) = (0, 0);
-    assert_eq!(make(Call::Event(Start(3)), &plan, &mut state), 0);
+    assert_eq!(make(&Call::Event(Start(3)), &plan, &mut state), 0);
 }
 
 /// The listing asks for 2,048 bytes even where its text is short; the lower refusal comes first.
@@ -98,12 +98,12 @@ fn two_branches_taken() {
 fn output_too_short() {
     let b = sample("b");
     for (len, want) in [(0, 15), (32, 15), (2047, 15), (2048, 256 + 32)] {
-        assert_eq!(make(Call::Listing, &b, &mut vec![0; len]), want, "{len}");
+        assert_eq!(make(&Call::Listing, &b, &mut vec![0; len]), want, "{len}");
     }
     for (node, len, want) in [(4, 32, 0), (4, 31, 15), (5, 32, 17), (5, 31, 15)] {
         let mut out = vec![0; len];
         assert_eq!(
-            make(Call::Summary(node), &b, &mut out),
+            make(&Call::Summary(node), &b, &mut out),
             want,
             "{node}, {len}"
         );

@@ -53,7 +53,7 @@ fn returns_of_calls() {
 fn states_of_b() {
     let b = sample("b");
     let mut state = [9; 25];
-    assert_eq!(make(Call::Fresh, &b, &mut state), 0);
+    assert_eq!(make(&Call::Fresh, &b, &mut state), 0);
     assert_eq!((&state[..23], &state[23..]), (&[0; 23][..], &[9; 2][..]));
     for (event, returned, flags, tasks, places, status) in [
         (Start(3), 20, 0, [0, 0, 0, 0, 0], [0, 0, 0, 0, 0], 129),
@@ -65,14 +65,14 @@ fn states_of_b() {
         (Finish(4), 0, 0, [0, 2, 0, 0, 2], [0, 1, 0, 0, 2], 128),
         (Start(3), 19, 0, [0, 2, 0, 0, 2], [0, 1, 0, 0, 2], 128),
     ] {
-        assert_eq!(make(Call::Event(event), &b, &mut state), returned);
+        assert_eq!(make(&Call::Event(event), &b, &mut state), returned);
         assert_eq!(state[0], flags, "{event:?}");
         assert_eq!(state[1..8], [0; 7], "{event:?}");
         assert_eq!(state[8..13], tasks, "{event:?}");
         let places = places.map(|place| [place, 0]).concat();
         assert_eq!(state[13..23], places, "{event:?}");
         assert_eq!(state[23..], [9; 2], "{event:?}");
-        assert_eq!(make(Call::Status, &b, &mut state), status, "{event:?}");
+        assert_eq!(make(&Call::Status, &b, &mut state), status, "{event:?}");
     }
 }
 
@@ -84,7 +84,7 @@ fn listing_of_b() {
     assert_eq!(printed(&b), text);
     let mut out = [7; 2048];
     let len = text.len();
-    assert_eq!(make(Call::Listing, &b, &mut out), 256 + len as u32);
+    assert_eq!(make(&Call::Listing, &b, &mut out), 256 + len as u32);
     assert_eq!(out[..len], *text.as_bytes());
     assert!(out[len..].iter().all(|&byte| byte == 7));
 }

@@ -135,9 +135,48 @@ static void optional(const uint8_t *plan, size_t len)
     assert(same(state, skipped, STATE));
 }
 
+/* The same with COMS all of: RADI and SATL run at once, and each holds flag 1 set and leaves it clear,
+   so that only together do they end. */
+static void finish_together(const uint8_t *plan, size_t len)
+{
+    static const size_t both[] = {RADI, SATL}, falling[] = {SATL, RADI}, with_group[] = {COMS, RADI};
+    static const uint8_t ended[STATE] = {
+        0, 0, 0, 0, 0, 0, 0, 0,
+        0, 2, 0, 2, 2,
+        0, 0, 1, 0, 0, 0, 2, 0, 3, 0,
+    };
+    uint8_t changed[82], state[STATE], before[STATE];
+    assert(len == sizeof changed);
+    memcpy(changed, plan, len);
+    changed[16 + 4 * NODES + 4 * COMS + 1] = 1;
+    plan = changed;
+
+    assert(knowetop_verdict(plan, len) == KNOWETOP_OPEN);
+    memcpy(state, cast, STATE);
+    assert(knowetop_finish_together(plan, len, state, STATE - 1, both, 2) == 15);
+    assert(knowetop_finish_together(plan, len, state, sizeof state, both, 2) == 18); /* they wait */
+    assert(knowetop_start(plan, len, state, sizeof state, RADI) == 0);
+    assert(knowetop_start(plan, len, state, sizeof state, SATL) == 0);
+    memcpy(before, state, STATE);
+    assert(knowetop_finish(plan, len, state, sizeof state, RADI) == 22);
+    assert(knowetop_finish_together(plan, len, state, sizeof state, both, 0) == 25); /* none */
+    assert(knowetop_finish_together(plan, len, state, sizeof state, falling, 2) == 25);
+    assert(knowetop_finish_together(plan, len, state, sizeof state, with_group, 2) == 17);
+    assert(knowetop_finish_together(plan, len, state, sizeof state, both, 1) == 22);
+
+    changed[len - 2 - 2] += 64; /* the last condition: SATL leaves flag 1 set */
+    assert(knowetop_finish_together(plan, len, state, sizeof state, both, 2) == 26);
+    changed[len - 2 - 2] -= 64;
+    assert(same(state, before, STATE));
+    assert(knowetop_finish_together(plan, len, state, sizeof state, both, 2) == 0);
+    assert(same(state, ended, STATE));
+    assert(knowetop_status(plan, len, state, sizeof state) == KNOWETOP_COMPLETE);
+}
+
 /* States that are too short or malformed, and bytes after the state. */
 static void lent_states(const uint8_t *plan, size_t len)
 {
+    static const size_t cast_alone = CAST;
     uint8_t state[STATE + 3];
     memset(state, 7, sizeof state);
     assert(knowetop_fresh(plan, len, state, STATE - 1) == 15);
@@ -145,6 +184,7 @@ static void lent_states(const uint8_t *plan, size_t len)
     assert(knowetop_start(plan, len, state, sizeof state, CAST) == 16);
     assert(knowetop_finish(plan, len, state, sizeof state, CAST) == 16);
     assert(knowetop_skip(plan, len, state, sizeof state, COMS) == 16);
+    assert(knowetop_finish_together(plan, len, state, sizeof state, &cast_alone, 1) == 16);
     assert(kept(state, sizeof state));
     assert(knowetop_fresh(plan, len, state, sizeof state) == 0);
     assert(kept(state + STATE, sizeof state - STATE));
@@ -181,6 +221,7 @@ int main(int argc, char **argv)
     summary(lent, sizeof lent);
     run(lent, sizeof lent);
     optional(lent, sizeof lent);
+    finish_together(lent, sizeof lent);
     lent_states(lent, sizeof lent);
     listing(lent, sizeof lent);
     assert(same(lent, plan, sizeof lent));

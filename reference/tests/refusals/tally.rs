@@ -3,7 +3,7 @@
 use std::fmt;
 
 use reference::model::calls::{Answers, Call};
-use reference::tools::scenario::memory::hex;
+use reference::tools::memory::hex;
 use reference::tools::scenario::{tally, Case};
 
 pub struct Tally {

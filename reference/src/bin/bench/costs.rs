@@ -10,6 +10,7 @@ use reference::model::monitor::{state_len, State};
 use reference::model::summary::summary_len;
 use reference::model::verdict::verdict;
 use reference::tools::archive;
+use reference::tools::scenario::states::with_running;
 use reference::tools::scenario::Case;
 
 use crate::shapes::{shapes, Shaped};
@@ -19,8 +20,17 @@ use crate::timing::{grouped, least, medians};
 const ROUNDS: usize = 8;
 
 /// The columns.
-const CALLS: [&str; 9] = [
-    "refusal", "verdict", "summary", "fresh", "start", "finish", "skip", "status", "listing",
+const CALLS: [&str; 10] = [
+    "refusal",
+    "verdict",
+    "summary",
+    "fresh",
+    "start",
+    "finish",
+    "finish together",
+    "skip",
+    "status",
+    "listing",
 ];
 
 pub fn print() {
@@ -41,13 +51,16 @@ pub fn print() {
 
 /// Every call as it is timed: accepted, so that it makes all its checks. Start and finish are those
 /// of one task that nothing has to come before, with its needs met; the status is that after both.
-/// The skip is that of the last group for which it is accepted at first, if there is one.
+/// Finished together are as many tasks as may be, which alone run. The skip is that of the last
+/// group for which it is accepted at first, if there is one.
 fn cases(plan: &Plan) -> Vec<Case> {
     let task = first_task(plan);
     let (start, finish) = (Event::Start(task), Event::Finish(task));
     let waiting = ready(plan, task);
     let running = waiting.step(plan, start).expect("an admitted start");
     let done = running.step(plan, finish).expect("an admitted finish");
+    let ending = ending(plan);
+    let all_run = with_running(plan, ending.iter().copied());
     let bytes = |state: &State| {
         let mut bytes = vec![0; state_len(plan)];
         state.write(&mut bytes);
@@ -60,6 +73,7 @@ fn cases(plan: &Plan) -> Vec<Case> {
         (Call::Fresh, vec![0; state_len(plan)]),
         (Call::Event(start), bytes(&waiting)),
         (Call::Event(finish), bytes(&running)),
+        (Call::FinishTogether(ending), bytes(&all_run)),
         (Call::Status, bytes(&done)),
         (Call::Listing, vec![0; LISTING_LEN]),
     ];
@@ -83,6 +97,19 @@ fn first_task(plan: &Plan) -> usize {
         node = child;
     }
     node
+}
+
+/// The tasks, from the first on, that leave no flag opposite to one before them.
+fn ending(plan: &Plan) -> Vec<usize> {
+    let mut tasks = Vec::new();
+    for task in plan.tasks() {
+        tasks.push(task);
+        let running = with_running(plan, tasks.iter().copied());
+        if running.step_together(plan, &tasks).is_err() {
+            tasks.pop();
+        }
+    }
+    tasks
 }
 
 /// All tasks wait, and the flags are as at the start but for the needs of the task, which are met.
@@ -112,9 +139,14 @@ fn check(case: &Case) {
 fn times(cases: &[Case]) -> Vec<f64> {
     let time = |case: &Case| {
         let (mut plan, mut lent) = (case.plan.clone(), case.lent.clone());
+        let mut tasks = match &case.call {
+            Call::FinishTogether(tasks) => tasks.clone(),
+            _ => Vec::new(),
+        };
         let mut call = || {
             lent.copy_from_slice(&case.lent);
-            archive::make(case.call, black_box(&mut plan), black_box(&mut lent))
+            let (plan, lent) = (black_box(&mut plan), black_box(&mut lent));
+            archive::make_with(&case.call, plan, lent, black_box(&mut tasks))
         };
         let [time] = medians([&mut call]);
         time

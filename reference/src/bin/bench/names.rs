@@ -71,7 +71,7 @@ fn rule_5(plans: &[Plan]) -> [f64; 2] {
 
 /// The times of both refusals by the archive, then by the plain program.
 fn verdicts(first: &[Vec<u8>], last: &[Vec<u8>]) -> [f64; 4] {
-    let by_archive = |plan: &mut [u8]| archive::make(Call::Verdict, black_box(plan), &mut []);
+    let by_archive = |plan: &mut [u8]| archive::make(&Call::Verdict, black_box(plan), &mut []);
     let by_plain = |plan: &mut [u8]| plain::verdict(black_box(plan));
     medians([
         &mut in_turn(first, by_archive),

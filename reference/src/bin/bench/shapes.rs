@@ -70,14 +70,21 @@ fn flat(random: &mut Random) -> Vec<Shaped> {
 fn worst() -> Vec<Shaped> {
     vec![
         shaped(
-            "flat, no order, 126 clashes, all with the last child",
+            "flat, no order, 64 clashes, all with the last child",
+            needed_by_last(),
+        ),
+        shaped(
+            "flat, no order, 63 flags left opposite ways",
             unordered(chain(126, 0, 63)),
         ),
         shaped(
             "flat, one chain, each needs what the last left",
             chain(127, 4, 0),
         ),
-        shaped("such a chain and 122 such clashes", chain(126, 3, 61)),
+        shaped(
+            "such a chain and 122 clashes with a last child",
+            chain(126, 3, 61),
+        ),
         shaped(
             "flat, 84 tasks, one after them all, 42 after that one",
             funnel(84, 42),
@@ -123,6 +130,17 @@ fn chain(tasks: usize, toggled: u16, broken: u16) -> Plan {
     }
     plan.conditions.sort_by_key(|c| (c.node, c.value));
     plan
+}
+
+/// An all-of root with a task for each flag that leaves it set, bare ones, and a last task that
+/// needs all flags clear: the search finds one clash at a time, each at the last child.
+fn needed_by_last() -> Plan {
+    let root = Plan::new(64).all_of(b"ROOT", NO_PARENT);
+    let plan = (0..126).fold(root, |plan, task| match task {
+        0..=63 => plan.task(b"SETS", 0, 1).post(task, SET),
+        _ => plan.task(b"BARE", 0, 1),
+    });
+    (0..64).fold(plan.task(b"LAST", 0, 1), |plan, flag| plan.pre(flag, CLEAR))
 }
 
 /// An all-of root with `before` unordered tasks, one after all of them, and `after` unordered tasks

@@ -66,6 +66,7 @@ impl<'a> Group<'a> {
             asserts_flag: self.some(|c| c.own.asserts_flag),
             wants: self.some(|c| c.own.wants),
             asserts: self.some(|c| c.own.asserts),
+            leaves: self.some(|c| c.own.leaves),
             avoids,
             quiet,
             covered,
@@ -89,10 +90,18 @@ impl<'a> Group<'a> {
         facts.marks.may_post && self.every(|d| !self.before(c, d) || d.own.avoids)
     }
 
-    /// 01's rule by pairs.
+    /// 01's rule by pairs, and 02's pair of opposed postconditions.
     fn may_clobber(&self) -> bool {
-        self.some(|c| c.own.marks.may_clobber)
-            || self.some(|c| self.some(|d| self.clobbered_beside(c, d) || self.clobbered_by(c, d)))
+        let pair = |c: Child, d: Child| {
+            self.clobbered_beside(c, d) || self.clobbered_by(c, d) || self.opposed(c, d)
+        };
+        self.some(|c| c.own.marks.may_clobber) || self.some(|c| self.some(|d| pair(c, d)))
+    }
+
+    /// Unordered c and d: a task under c has the literal as postcondition, and one under d the
+    /// opposite. As all pairs are looked at, both literals of the flag are found.
+    fn opposed(&self, c: Child, d: Child) -> bool {
+        c.own.leaves && d.opposite.leaves && self.unordered(c, d)
     }
 
     /// Unordered c and d: a task under c has the literal as pre- or incondition, and one under d

@@ -12,6 +12,8 @@ pub struct Facts {
     pub wants: bool,
     /// Some task under it has this in- or postcondition.
     pub asserts: bool,
+    /// Some task under it has this postcondition.
+    pub leaves: bool,
     /// Some completed execution does not assert the flag.
     pub avoids: bool,
     /// Some completed execution neither asserts the flag nor starts a task with this
@@ -44,6 +46,7 @@ pub fn task(conditions: &[Condition], task: u8, flag: u16) -> Pair {
             asserts_flag,
             wants: pre || inc,
             asserts: inc || post,
+            leaves: post,
             avoids: !asserts_flag,
             quiet: !asserts_flag && !pre,
             covered: asserts_flag && !pre,
@@ -69,6 +72,7 @@ pub fn any_of(branches: &[Pair]) -> Pair {
             asserts_flag: some(|f| f.asserts_flag),
             wants: some(|f| f.wants),
             asserts: some(|f| f.asserts),
+            leaves: some(|f| f.leaves),
             avoids: some(|f| f.avoids),
             quiet: some(|f| f.quiet),
             covered: some(|f| f.covered),
@@ -97,6 +101,7 @@ const WITHOUT_TASKS: Facts = Facts {
     asserts_flag: false,
     wants: false,
     asserts: false,
+    leaves: false,
     avoids: true,
     quiet: true,
     covered: false,

@@ -3,7 +3,8 @@
 use std::collections::HashMap;
 
 use crate::model::events::{Event, Statuses};
-use crate::model::format::Plan;
+use crate::model::format::{Plan, POSTCONDITION};
+use crate::model::literal::Literal;
 
 pub struct Graph {
     pub points: Vec<Point>,
@@ -37,6 +38,17 @@ impl Graph {
             at += 1;
         }
         Graph { points }
+    }
+
+    /// Whether at some point a task with this postcondition runs, and one with the opposite.
+    pub fn opposed_at_once(&self, plan: &Plan, literal: Literal) -> bool {
+        self.points.iter().any(|point| {
+            let runs_one_with = |literal| {
+                let mut running = point.statuses.running(plan);
+                running.any(|task| plan.has(task, POSTCONDITION, literal))
+            };
+            runs_one_with(literal) && runs_one_with(literal.opposite())
+        })
     }
 }
 

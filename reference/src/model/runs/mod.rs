@@ -1,5 +1,5 @@
 //! Marks 0 to 6 by exhaustive search over executions (01: free runs), straight from their
-//! definitions.
+//! definitions; to mark 6 come opposed postconditions (02, 104), which no execution shows.
 //!
 //! Only for small plans: the search grows with 3 to the number of tasks.
 
@@ -19,6 +19,12 @@ pub struct Shown {
     /// In every completed execution a task with this precondition starts after the opposite was
     /// last asserted. The rule for mark 7 is to give no less.
     pub always_clobbered: bool,
+    /// In some execution the literal is clobbered as 01 says: mark 6 but for opposed
+    /// postconditions.
+    pub clobbered: bool,
+    /// In some execution a task with this postcondition and one with the opposite run at once. 02
+    /// says when by the groups above them, and is to give the same.
+    pub opposed_at_once: bool,
 }
 
 /// The marks at every node: 0 to 6 as the runs show them, 7 by its rule.
@@ -44,6 +50,7 @@ pub fn shown(plan: &Plan, node: usize) -> Vec<Shown> {
         assert!(!completed.is_empty(), "every node can be completed");
         let some = |shows: fn(&History) -> bool| completed.iter().any(|h| shows(h));
         let every = |shows: fn(&History) -> bool| completed.iter().all(|h| shows(h));
+        let clobbered = all.iter().any(|h| h.unmet || h.broken);
         Shown {
             marks: [
                 some(|h| h.exposed),
@@ -52,9 +59,11 @@ pub fn shown(plan: &Plan, node: usize) -> Vec<Shown> {
                 every(|h| h.last == Some(true)),
                 some(|h| h.held),
                 every(|h| h.held),
-                all.iter().any(|h| h.unmet || h.broken),
+                clobbered || plan.has_opposed(node, literal.flag),
             ],
             always_clobbered: every(|h| h.unmet),
+            clobbered,
+            opposed_at_once: graph.opposed_at_once(plan, literal),
         }
     };
     plan.literals().map(of_literal).collect()

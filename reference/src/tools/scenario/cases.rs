@@ -2,6 +2,7 @@
 
 use super::lists::any_event;
 use super::states::{any_state, bytes, malformed, reached_state, reordered_state};
+use super::together::any_tasks;
 use super::{any_number, Case};
 use crate::model::calls::Call;
 use crate::model::events::Event;
@@ -11,6 +12,7 @@ use crate::model::monitor::{places_begin, state_len};
 use crate::model::rules::accept;
 use crate::model::summary::summary_len;
 use crate::tools::random::Random;
+use crate::tools::search::running;
 
 /// Lengths of lent memory below, at and above the length that a call needs.
 fn lengths_around(needed: usize) -> [usize; 6] {
@@ -47,6 +49,7 @@ fn on_refused(random: &mut Random) -> Vec<Lending> {
         Call::Verdict,
         Call::Summary(number),
         Call::Fresh,
+        Call::FinishTogether(vec![number; random.below(3)]),
         Call::Status,
         Call::Listing,
     ];
@@ -79,6 +82,10 @@ fn on_accepted(random: &mut Random, plan: &Plan) -> Vec<Lending> {
         found.push((Call::Status, state.clone()));
         for _ in 0..4 {
             found.push((Call::Event(any_event(random, plan)), state.clone()));
+        }
+        for _ in 0..2 {
+            let tasks = any_tasks(random, plan, &running(plan, &state));
+            found.push((Call::FinishTogether(tasks), state.clone()));
         }
     }
     found

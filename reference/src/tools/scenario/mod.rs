@@ -1,20 +1,19 @@
-//! What tests of the public calls are made of: memory to lend, cases, states and lists of calls.
+//! What tests of the public calls are made of: cases, states, lists of calls and lists of tasks.
 //!
 //! A case is made through a function of the form of `reference` here, so that the same case can be
 //! put to the reference and to the archive.
 
 pub mod cases;
 pub mod lists;
-pub mod memory;
 pub mod states;
 pub mod stream;
 pub mod tally;
-pub mod valgrind;
+pub mod together;
 
 use crate::model::calls::{self, Answers, Call};
 use crate::model::format::Plan;
+use crate::tools::memory::{hex, Lent};
 use crate::tools::random::Random;
-use memory::{hex, Lent};
 
 /// A call with the plan and the output or state that it is lent.
 #[derive(Clone, Debug, PartialEq, Eq)]
@@ -33,14 +32,14 @@ pub struct After {
 }
 
 /// Makes a call of the reference.
-pub fn reference(call: Call, plan: &mut [u8], lent: &mut [u8]) -> u32 {
+pub fn reference(call: &Call, plan: &mut [u8], lent: &mut [u8]) -> u32 {
     calls::make(call, plan, lent)
 }
 
 impl Case {
     /// The reference's return. The other calls must return and leave the same.
     #[track_caller]
-    pub fn compare(&self, other: impl FnOnce(Call, &mut [u8], &mut [u8]) -> u32) -> u32 {
+    pub fn compare(&self, other: impl FnOnce(&Call, &mut [u8], &mut [u8]) -> u32) -> u32 {
         match self.compared(&Answers::by_rules(&self.plan), other) {
             Ok(after) => after.returned,
             Err(message) => panic!("{message}"),
@@ -52,7 +51,7 @@ impl Case {
     pub fn compared(
         &self,
         answers: &Answers,
-        other: impl FnOnce(Call, &mut [u8], &mut [u8]) -> u32,
+        other: impl FnOnce(&Call, &mut [u8], &mut [u8]) -> u32,
     ) -> Result<After, String> {
         let want = self.make(|call, _, lent| answers.make(call, lent));
         let found = self.make(other);
@@ -65,20 +64,20 @@ impl Case {
         } else {
             return Ok(want);
         };
-        let (call, plan, lent) = (self.call, hex(&self.plan), hex(&self.lent));
+        let (call, plan, lent) = (&self.call, hex(&self.plan), hex(&self.lent));
         Err(format!(
             "{call:?} {wrong}; lent were plan {plan} and {lent}"
         ))
     }
 
     /// Makes the call. The memory around the lent pieces must not change.
-    pub fn make(&self, make: impl FnOnce(Call, &mut [u8], &mut [u8]) -> u32) -> After {
+    pub fn make(&self, make: impl FnOnce(&Call, &mut [u8], &mut [u8]) -> u32) -> After {
         let mut plan = Lent::new(&self.plan);
         let mut lent = Lent::new(&self.lent);
         if let Call::Summary(_) | Call::Fresh | Call::Listing = self.call {
             lent = lent.forget();
         }
-        let returned = make(self.call, plan.bytes(), lent.bytes());
+        let returned = make(&self.call, plan.items(), lent.items());
         After {
             returned,
             plan: plan.back(),

@@ -31,6 +31,31 @@ pub fn any_state(random: &mut Random, plan: &Plan) -> State {
     state
 }
 
+/// A well-formed state with the start flags in which these tasks run, started in this order, and
+/// all others wait.
+pub fn with_running(plan: &Plan, tasks: impl Iterator<Item = usize>) -> State {
+    let mut state = State::fresh(plan);
+    for (place, task) in (1..).zip(tasks) {
+        state.statuses.0[task] = Status::Running;
+        state.places.0[task] = place;
+    }
+    state
+}
+
+/// A well-formed state in which most tasks run.
+pub fn mostly_running(random: &mut Random, plan: &Plan) -> State {
+    let mut state = State {
+        flags: random.draw() >> (64 - plan.flags),
+        ..with_running(plan, plan.tasks())
+    };
+    for task in plan.tasks() {
+        if random.below(4) == 0 {
+            state.statuses.0[task] = Status::Done;
+        }
+    }
+    state
+}
+
 /// Places as they are after starts in any order.
 fn any_places(random: &mut Random, statuses: &Statuses) -> Places {
     let nodes = statuses.0.len();
@@ -47,8 +72,8 @@ fn any_places(random: &mut Random, statuses: &Statuses) -> Places {
 pub fn reached_state(random: &mut Random, plan: &Plan) -> State {
     let calls = random.below(3 * plan.nodes.len());
     let list = lists::list(random, plan, calls);
-    list.iter().fold(State::fresh(plan), |state, &event| {
-        state.step(plan, event).unwrap_or(state)
+    list.iter().fold(State::fresh(plan), |state, call| {
+        lists::after(plan, &state, call).unwrap_or(state)
     })
 }
 

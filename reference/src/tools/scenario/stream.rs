@@ -103,11 +103,11 @@ fn every_summary(tally: &mut Tally, random: &mut Random, plan: &Plan, answers: &
 
 /// Fresh and then a list of calls, each with the state as the last one left it.
 fn replay(tally: &mut Tally, random: &mut Random, plan: &Plan, answers: &Answers) {
-    let events = match random.below(2) {
+    let drawn = match random.below(2) {
         0 => long_list(random, plan),
         _ => list(random, plan, 60),
     };
     let mut calls = vec![Call::Fresh];
-    calls.extend(events.into_iter().map(Call::Event));
+    calls.extend(drawn);
     tally.replay(answers, &plan.bytes(), &calls, random.bytes(400));
 }

@@ -20,7 +20,7 @@ impl Tally {
     pub fn compare(&mut self, answers: &Answers, case: &Case) -> After {
         match case.compared(answers, archive::make) {
             Ok(after) => {
-                *self.count(case.call, after.returned) += 1;
+                *self.count(&case.call, after.returned) += 1;
                 after
             }
             Err(message) => panic!("the archive differs: {message}"),
@@ -30,7 +30,7 @@ impl Tally {
     /// The calls one after another, each lent what the last one left, and after each the status.
     #[track_caller]
     pub fn replay(&mut self, answers: &Answers, plan: &[u8], calls: &[Call], mut lent: Vec<u8>) {
-        for call in calls.iter().flat_map(|&call| [call, Call::Status]) {
+        for call in calls.iter().flat_map(|call| [call.clone(), Call::Status]) {
             let case = Case {
                 call,
                 plan: plan.to_vec(),
@@ -40,7 +40,7 @@ impl Tally {
         }
     }
 
-    fn count(&mut self, call: Call, returned: u32) -> &mut usize {
+    fn count(&mut self, call: &Call, returned: u32) -> &mut usize {
         let key = (call.name(), returned.min(256));
         self.counts.entry(key).or_default()
     }
@@ -71,7 +71,7 @@ impl fmt::Display for Tally {
                 let line = self.counts.iter().filter(|(key, _)| key.0 == name);
                 let sum: usize = line.map(|(_, count)| count).sum();
                 let end = if last.is_empty() { "" } else { "\n" };
-                write!(f, "{end}{name:10}{sum:8} comparisons, by return:")?;
+                write!(f, "{end}{name:16}{sum:8} comparisons, by return:")?;
                 last = name;
             }
             write!(f, " {returned}: {count}")?;

@@ -22,12 +22,12 @@ const NESTED: &str = "flags 1\n0 ROOT all-of\n1 OUTR optional under 0\n2 INNR op
 fn check(text: &str, list: &[(Event, u32)], status: u32) {
     let plan = plan(text);
     let mut state = vec![7; state_len(&fields(&plan))];
-    assert_eq!(make(Call::Fresh, &plan, &mut state), 0);
+    assert_eq!(make(&Call::Fresh, &plan, &mut state), 0);
     for &(event, want) in list {
-        let returned = make(Call::Event(event), &plan, &mut state);
+        let returned = make(&Call::Event(event), &plan, &mut state);
         assert_eq!(returned, want, "{event:?} of {list:?}");
     }
-    assert_eq!(make(Call::Status, &plan, &mut state), status, "{list:?}");
+    assert_eq!(make(&Call::Status, &plan, &mut state), status, "{list:?}");
 }
 
 /// The rows of `samples/README.md`: a calibration that a busy day drops.

@@ -13,7 +13,7 @@ fn rules() {
     let refusal = |change: fn(&mut Plan)| {
         let mut plan = good.clone();
         change(&mut plan);
-        make(Call::Refusal, &plan.bytes(), &mut [])
+        make(&Call::Refusal, &plan.bytes(), &mut [])
     };
     assert_eq!(refusal(|_| {}), 0);
     assert_eq!(refusal(|plan| plan.nodes[1].kind = 4), 6);

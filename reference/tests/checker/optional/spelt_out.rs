@@ -68,16 +68,30 @@ impl Run {
             plan: plan.bytes(),
             state: vec![7; state_len(plan)],
         };
-        assert_eq!(make(Call::Fresh, &run.plan, &mut run.state), 0);
+        assert_eq!(make(&Call::Fresh, &run.plan, &mut run.state), 0);
         run
     }
 
     fn status(&mut self) -> u32 {
-        make(Call::Status, &self.plan, &mut self.state)
+        make(&Call::Status, &self.plan, &mut self.state)
     }
 
-    fn returns(&mut self, event: Event) -> u32 {
-        make(Call::Event(event), &self.plan, &mut self.state)
+    fn returns(&mut self, call: &Call) -> u32 {
+        make(call, &self.plan, &mut self.state)
+    }
+
+    fn returns_of(&mut self, event: Event) -> u32 {
+        self.returns(&Call::Event(event))
+    }
+}
+
+/// Whether the call has a number past the plan's nodes.
+fn names_none(call: &Call, plan: &Plan) -> bool {
+    let past = |number: &usize| *number >= plan.nodes.len();
+    match call {
+        Call::Event(event) => past(&event.node()),
+        Call::FinishTogether(tasks) => tasks.iter().any(past),
+        _ => false,
     }
 }
 
@@ -93,21 +107,21 @@ fn returns_of_calls() {
             0 => long_list(random, plan),
             _ => list(random, plan, 20),
         };
-        for event in drawn {
-            let returned = run.returns(event);
-            match (event, tasks.get(&event.node())) {
-                (Skip(_), Some(&task)) => {
-                    let started = other.returns(Start(task));
+        for call in drawn {
+            let returned = run.returns(&call);
+            match &call {
+                Call::Event(Skip(group)) if tasks.contains_key(group) => {
+                    let started = other.returns_of(Start(tasks[group]));
                     let alike = [(0, 0), (18, 18), (18, 19), (19, 19), (20, 20)];
                     assert!(alike.contains(&(returned, started)), "{}", shown(plan));
                     if started == 0 {
-                        assert_eq!(other.returns(Finish(task)), 0);
+                        assert_eq!(other.returns_of(Finish(tasks[group])), 0);
                         skips += 1;
                     }
                 }
-                (Skip(_), None) => assert_eq!(returned, 27),
-                _ if event.node() >= plan.nodes.len() => assert_eq!(returned, 17),
-                _ => assert_eq!(returned, other.returns(event), "{}", shown(plan)),
+                Call::Event(Skip(_)) => assert_eq!(returned, 27),
+                call if names_none(call, plan) => assert!([17, 25].contains(&returned)),
+                call => assert_eq!(returned, other.returns(call), "{}", shown(plan)),
             }
             assert_eq!(run.status(), other.status(), "{}", shown(plan));
         }

@@ -1,7 +1,7 @@
 //! The verdict in plain Rust, by the shortcuts that the proved crates take: rules in passes over
 //! the bytes, words whose bit f speaks of flag f, the children of a group as a segment of one
 //! array, chains of orders filled backwards, pairs each looked at once, children passed over that
-//! require nothing wanted, and shared literals narrowed until none is left.
+//! require and leave nothing wanted, and shared literals narrowed until none is left.
 //!
 //! Its modules in their order: words, row; check, tables; siblings, pairs; rows.
 //!
@@ -74,7 +74,7 @@ mod tests {
         for mut plan in plans {
             for _ in 0..2 {
                 let bytes = plan.bytes();
-                let want = make(Call::Verdict, &bytes, &mut []);
+                let want = make(&Call::Verdict, &bytes, &mut []);
                 assert_eq!(verdict(&bytes), want, "{plan:?}");
                 counts[want as usize] += 1;
                 edit(&mut plan, &mut random);
@@ -82,7 +82,7 @@ mod tests {
         }
         let bytes = plan(&mut random, LIMITS, SHAPES[4]).bytes();
         for len in 0..bytes.len() {
-            let want = make(Call::Verdict, &bytes[..len], &mut []);
+            let want = make(&Call::Verdict, &bytes[..len], &mut []);
             assert_eq!(verdict(&bytes[..len]), want);
             counts[want as usize] += 1;
         }

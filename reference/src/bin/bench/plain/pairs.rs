@@ -25,12 +25,13 @@ impl Group<'_> {
         children.fold(known, |found, c| self.must_clobber_with(found, c))
     }
 
-    /// The wanted literals that no pair with c may clobber. The search ends when c requires none
-    /// that is left.
+    /// The wanted literals that no pair with c may clobber. The search ends when c requires and
+    /// leaves none that is left.
     fn left_with(&self, wanted: Literals, c: usize) -> Literals {
-        let required = or(self.rows[c].wants, self.rows[c].may_pre);
+        let row = &self.rows[c];
+        let concerned = or(or(row.wants, row.may_pre), row.leaves);
         let (mut left, mut at) = (wanted, 0);
-        while and(left, required) != [0; 2] {
+        while and(left, concerned) != [0; 2] {
             match self.clobbering(left, c, at) {
                 Some((pair, partner)) => {
                     left = and_not(left, pair);
@@ -61,7 +62,11 @@ impl Group<'_> {
             }
             BEFORE => [0; 2],
             _ if c == d => [0; 2],
-            _ => and(wanted, and(row.wants, swap(other.asserts))),
+            _ => {
+                let broken = and(row.wants, swap(other.asserts));
+                let opposed = and(row.leaves, swap(other.leaves));
+                and(wanted, or(broken, opposed))
+            }
         }
     }
 

@@ -15,6 +15,8 @@ pub struct Row {
     pub wants: Literals,
     /// Some task under it has it as in- or postcondition.
     pub asserts: Literals,
+    /// Some task under it has it as postcondition.
+    pub leaves: Literals,
     pub may_clobber: Literals,
     pub must_clobber: Literals,
 }
@@ -40,6 +42,7 @@ impl Row {
             must_inc: inc,
             wants: or(pre, inc),
             asserts: or(inc, post),
+            leaves: post,
             may_clobber: [0; 2],
             must_clobber: [0; 2],
         }

@@ -59,6 +59,7 @@ fn choice(tables: &Tables, rows: &Rows, group: usize, first: Row) -> Row {
         row.must_inc = and(row.must_inc, branch.must_inc);
         row.wants = or(row.wants, branch.wants);
         row.asserts = or(row.asserts, branch.asserts);
+        row.leaves = or(row.leaves, branch.leaves);
         row.may_clobber = or(row.may_clobber, branch.may_clobber);
         row.must_clobber = and(row.must_clobber, branch.must_clobber);
     }
@@ -83,6 +84,7 @@ fn all_of(tables: &Tables, rows: &Rows, group: usize) -> Row {
         row.must_inc = or(row.must_inc, child.must_inc);
         row.wants = or(row.wants, child.wants);
         row.asserts = or(row.asserts, child.asserts);
+        row.leaves = or(row.leaves, child.leaves);
         row.may_clobber = or(row.may_clobber, child.may_clobber);
         let undisturbed = and(child.must_clobber, [siblings.silent_apart; 2]);
         row.must_clobber = or(row.must_clobber, undisturbed);

@@ -4,21 +4,22 @@ use std::ops::Range;
 
 use super::valgrind;
 
-/// Bytes in the middle of a larger piece of memory.
-pub struct Lent {
-    memory: Vec<u8>,
+/// Bytes, or other numbers, in the middle of a larger piece of memory.
+pub struct Lent<T> {
+    memory: Vec<T>,
     middle: Range<usize>,
-    around: u8,
+    around: T,
 }
 
-impl Lent {
-    /// Alignment and surroundings differ with the bytes.
-    pub fn new(bytes: &[u8]) -> Lent {
-        let sum = bytes.iter().map(|&byte| usize::from(byte)).sum::<usize>() + bytes.len();
-        let around = (sum % 251) as u8;
-        let middle = 8 + sum % 8..8 + sum % 8 + bytes.len();
+impl<T: Copy + PartialEq + From<u8> + Into<usize>> Lent<T> {
+    /// Surroundings, and the alignment of bytes, differ with the items.
+    pub fn new(items: &[T]) -> Lent<T> {
+        let add = |sum: usize, &item: &T| sum.wrapping_add(item.into());
+        let sum = items.iter().fold(items.len(), add);
+        let around = T::from((sum % 251) as u8);
+        let middle = 8 + sum % 8..8 + sum % 8 + items.len();
         let mut memory = vec![around; middle.end + 16];
-        memory[middle.clone()].copy_from_slice(bytes);
+        memory[middle.clone()].copy_from_slice(items);
         let lent = Lent {
             memory,
             middle,
@@ -28,27 +29,27 @@ impl Lent {
         lent
     }
 
-    pub fn bytes(&mut self) -> &mut [u8] {
+    pub fn items(&mut self) -> &mut [T] {
         &mut self.memory[self.middle.clone()]
     }
 
-    /// What the bytes are may decide nothing until they are written. Only valgrind notices.
-    pub fn forget(self) -> Lent {
+    /// What the items are may decide nothing until they are written. Only valgrind notices.
+    pub fn forget(self) -> Lent<T> {
         valgrind::forget(&self.memory[self.middle.clone()]);
         self
     }
 
-    /// The memory before and after the bytes.
-    fn outside(&self) -> [&[u8]; 2] {
+    /// The memory before and after the items.
+    fn outside(&self) -> [&[T]; 2] {
         let Range { start, end } = self.middle;
         [&self.memory[..start], &self.memory[end..]]
     }
 
-    /// The bytes as they are now. Those around them must be as they were.
+    /// The items as they are now. Those around them must be as they were.
     #[track_caller]
-    pub fn back(self) -> Vec<u8> {
+    pub fn back(self) -> Vec<T> {
         valgrind::allow(&self.memory);
-        let kept = |byte: &u8| *byte == self.around;
+        let kept = |item: &T| *item == self.around;
         let all_kept = self.outside().concat().iter().all(kept);
         assert!(all_kept, "memory outside the lent piece was written");
         self.memory[self.middle].to_vec()

@@ -8,27 +8,28 @@ const RUNNING_ON_VALGRIND: usize = 0x1001;
 const MEMORY_CHECKER: usize = (b'M' as usize) << 24 | (b'C' as usize) << 16;
 
 pub fn is_running() -> bool {
-    request(RUNNING_ON_VALGRIND, &[]) != 0
+    request::<u8>(RUNNING_ON_VALGRIND, &[]) != 0
 }
 
-/// From now on it is an error to read or write these bytes.
-pub fn forbid(bytes: &[u8]) {
-    request(MEMORY_CHECKER, bytes);
+/// From now on it is an error to read or write these items.
+pub fn forbid<T>(items: &[T]) {
+    request(MEMORY_CHECKER, items);
 }
 
-/// From now on it is an error to decide anything by these bytes, until they are written.
-pub fn forget(bytes: &[u8]) {
-    request(MEMORY_CHECKER + 1, bytes);
+/// From now on it is an error to decide anything by these items, until they are written.
+pub fn forget<T>(items: &[T]) {
+    request(MEMORY_CHECKER + 1, items);
 }
 
-/// All is allowed again. The bytes are as they were.
-pub fn allow(bytes: &[u8]) {
-    request(MEMORY_CHECKER + 2, bytes);
+/// All is allowed again. The items are as they were.
+pub fn allow<T>(items: &[T]) {
+    request(MEMORY_CHECKER + 2, items);
 }
 
 /// A request in the form that valgrind knows (valgrind.h, x86-64).
-fn request(number: usize, bytes: &[u8]) -> usize {
-    let words = [number, bytes.as_ptr() as usize, bytes.len(), 0, 0, 0];
+fn request<T>(number: usize, items: &[T]) -> usize {
+    let (from, len) = (items.as_ptr() as usize, size_of_val(items));
+    let words = [number, from, len, 0, 0, 0];
     let mut answer = 0;
     // SAFETY: the rotations add up to 128 bits and the exchange is one of a register with itself,
     // so that nothing changes outside valgrind; inside it `answer` and the checker's own tables do.
