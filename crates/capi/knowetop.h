@@ -1,5 +1,5 @@
-/* Knowetop: the calls on a plan, a byte string of plan_len bytes. Every call makes all its checks, lowest number first and 27 in the place of 17, on any bytes of any length, and a
-   refused call changes no lent byte. Pointers are not null, even where a length is 0; a slice that a call may write overlaps no other. */
+/* Knowetop: the calls on a plan, a byte string of plan_len bytes. Every call makes all its checks, lowest number first but for 25 and 26 (below) and 27, which is in the place of 17, on any
+   bytes of any length, and a refused call changes no lent byte. Pointers are not null, even where a length is 0; a slice that a call may write overlaps no other. */
 #ifndef KNOWETOP_H
 #define KNOWETOP_H
 
@@ -34,6 +34,12 @@ uint32_t knowetop_fresh(const uint8_t *plan, size_t plan_len, uint8_t *state, si
    need is unmet), and 22 (a hold of another running task would be broken). */
 uint32_t knowetop_start(const uint8_t *plan, size_t plan_len, uint8_t *state, size_t state_len, size_t task);
 uint32_t knowetop_finish(const uint8_t *plan, size_t plan_len, uint8_t *state, size_t state_len, size_t task);
+
+/* Finish of tasks_len tasks in one step, listed in rising order. Returns 0, and the tasks' bytes and what they leave are written; or, each over the whole list and in this order, 1 to
+   15, 16 (malformed state), 25 (the list is empty or does not strictly rise), 17 (a number that is no task), 18 (a task that is not running), 26 (two of the tasks leave a flag opposite
+   ways) or 22 (a hold of a running task that is not listed would be broken; holds of the listed ones are not tried). A list of one task is a finish. The list may have any length and
+   any numbers, and is never written. */
+uint32_t knowetop_finish_together(const uint8_t *plan, size_t plan_len, uint8_t *state, size_t state_len, const size_t *tasks, size_t tasks_len);
 
 /* Skip of an optional group, which completes it. Returns 0, and the group's byte is written; or 1 to 15, 16 (malformed state), 27 (no optional group), 18 (skipped already, or a branch
    of it is taken), 19 (another branch of a choice above is taken, or an optional group above is skipped) or 20 (an order's earlier node is not complete). A branch is taken when a task
