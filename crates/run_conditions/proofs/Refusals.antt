@@ -1,15 +1,14 @@
 -- The tests of the conditions are refusals 21, 22 and 26. Assumes nothing.
 use mathlib.Core.Path.{_≡_, refl, sym, ap, _∙_}
-use mathlib.Core.Logic.{_↔_}
 use mathlib.Core.Bool.{Bool, true, false, cond, not, _&&_, true≢false, false≢true}
-use mathlib.Core.List.{List, List·Memᴰ as Among}
+use mathlib.Core.List.{List}
 use mathlib.Core.Option.{Option, some, none, Option·getD}
 use Prim.Native.Nat.{ℕ, _<_, _≤_}
 use native.Mathlib.Omega.{arith}
 use lib.ListN.{length, take, replicate}
 use lib.Seq.{length-take-le}
 use lib.Dec.{T, eqb}
-use borrow.Author.Tests.{eqb-true, eqb-false, eq-eqb, ne-eqb, lt-ltb, not-true, not-false}
+use borrow.Author.Tests.{eqb-true, eqb-false, eq-eqb, ne-eqb, lt-ltb, not-true}
 use Rattle.plan_codes.specs.Values.{flagOf, placeOf}
 use Rattle.run_flags.specs.Flags.{flagIn, allByte}
 use Rattle.run_flags.proofs.Laws.{in-first, all-flags}
@@ -261,8 +260,10 @@ module _ (b s : List ℕ) (ok : stateRefusal b s ≡ 0) where
         (made b (placeNumber post) (listed ts) (take 8 s))) ≡ postOpposedB (planOf b) ts
     unfolding planOf worldOf
     opposed-is = same-test _ _
-        (r-map (λ x. opposed-unkept (planOf b) (well-formed b s ok) (worldOf b s) ts .1 (to x),
-        λ x. from (opposed-unkept (planOf b) (well-formed b s ok) (worldOf b s) ts .0 x)) (r-unmet post (listed ts) _))
+        (r-map (
+          λ x. opposed-unkept (planOf b) (well-formed b s ok) (worldOf b s) ts .1 (to x),
+          λ x. from (opposed-unkept (planOf b) (well-formed b s ok) (worldOf b s) ts .0 x),
+        ) (r-unmet post (listed ts) _))
         (r-post-opposed (planOf b) (well-formed b s ok) ts)
       where
         to : Unmet post (listed ts) (made b (placeNumber post) (listed ts) (take 8 s))
@@ -300,8 +301,10 @@ module _ (b s : List ℕ) (ok : stateRefusal b s ≡ 0) where
         ≡ appliesB (planOf b) (worldOf b s) (together ts) inc-broken
     unfolding planOf worldOf
     broken-unless n = same-test _ _
-        (r-map (λ x. broken-turned (planOf b) (well-formed b s ok) (worldOf b s) ts unopposed .1 (to x),
-        λ x. from (broken-turned (planOf b) (well-formed b s ok) (worldOf b s) ts unopposed .0 x))
+        (r-map (
+          λ x. broken-turned (planOf b) (well-formed b s ok) (worldOf b s) ts unopposed .1 (to x),
+          λ x. from (broken-turned (planOf b) (well-formed b s ok) (worldOf b s) ts unopposed .0 x),
+        )
         (r-broken (listed ts) (after (placeNumber post) (listed ts))))
         (r-applies (planOf b) (well-formed b s ok) (worldOf b s) (together ts) inc-broken)
       where

@@ -1,5 +1,5 @@
--- The promise of `start`, `finish`, `skip` and `finish_together`, from its two equations and by what the function has at hand. Assumes
--- nothing.
+-- The promise of `start`, `finish`, `skip` and `finish_together`, from its two equations and by what the function has
+-- at hand. Assumes nothing.
 use mathlib.Core.Path.{_≡_, sym, ap, _∙_}
 use mathlib.Core.List.{List}
 use Prim.Native.Nat.{ℕ}

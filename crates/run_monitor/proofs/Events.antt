@@ -6,12 +6,12 @@ use mathlib.Core.List.{List, [], _∷_, List·Memᴰ as Among, List·Memᴰ·hea
 use mathlib.Core.Option.{Option, some, none, Option·getD}
 use Prim.Native.Nat.{ℕ, _<_}
 use native.Mathlib.Decide.{ℕ-discrete}
-use native.Mathlib.Omega.{arith}
 use Rattle.plan_format.specs.Format.{nodeCount, isKind}
 use Rattle.plan_check.specs.Meaning.{planOf}
 use Rattle.plan_check.proofs.Meaning.{kind-is}
 use Rattle.runs.specs.Execution.{Event, finish, History, nodeOf, moved, asserts}
-use Rattle.runs.specs.Calls.{Call, one, together, finishes, events, Rising, asks, statusByte, counted, numbered, Refusal}
+use Rattle.runs.specs.Calls.{Call, one, together, finishes, events, Rising, asks, statusByte, counted, numbered}
+use Rattle.runs.specs.Calls.{Refusal}
 use Rattle.runs.specs.Calls.{World, happen, happenAll}
 use Rattle.runs.specs.Model.Monitor.{returned, refusalOf, step, code, settle}
 use Rattle.runs.proofs.Calls.First.{code-inj}

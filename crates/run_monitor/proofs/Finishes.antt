@@ -1,5 +1,5 @@
 -- The bytes that the finishes of a list leave, in one pass: the flags, then a 2 at each task. Assumes nothing.
-use mathlib.Core.Path.{_≡_, refl, sym, ap, _∙_}
+use mathlib.Core.Path.{_≡_, sym, ap, _∙_}
 use mathlib.Core.List.{List, [], _∷_, _++_}
 use Prim.Native.Nat.{ℕ, zero, suc, _+_, _≤_}
 use native.Mathlib.Omega.{arith}
@@ -55,8 +55,8 @@ module _ (b s : List ℕ) (accepted : refusal b ≡ 0) (long : 8 ≤ length s) w
   unfolding allDone
   finishes-written [] r = ap (λ (p : List ℕ). p ++ drop 8 s) (made-nil b accepted (placeNumber post) (take 8 s))
       ∙ take-append-drop 8 s
-  finishes-written (t ∷ ts) r =
-      ap (λ (p : List ℕ). p ++ set (allDone ts (drop 8 s)) t 2) (made-cons b accepted (placeNumber post) t ts r (take 8 s))
+  finishes-written (t ∷ ts) r = ap (λ (p : List ℕ). p ++ set (allDone ts (drop 8 s)) t 2)
+      (made-cons b accepted (placeNumber post) t ts r (take 8 s))
       ∙ sym (with-more b (flags ts) (allDone ts (drop 8 s)) t (flags-eight ts))
       ∙ ap (withEvent b (placeNumber post) t 2) (finishes-written ts (rising-tail r))
 

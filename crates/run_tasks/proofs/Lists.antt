@@ -2,13 +2,11 @@
 use mathlib.Core.Path.{_≡_, refl, sym, ap, _∙_}
 use mathlib.Core.Bool.{Bool, true, false, not}
 use mathlib.Core.List.{List, [], _∷_, List·Memᴰ as Among, List·Memᴰ·head as here, List·Memᴰ·tail as there}
-use mathlib.Core.List.{List·Memᴰ·not-nil as among-none}
 use Prim.Native.Nat.{ℕ, zero, suc, _+_, _-_, _<_, _≤_}
 use native.Mathlib.Omega.{arith}
 use native.Mathlib.Numerals.{add-one}
 use lib.ListN.{length, getD, drop}
 use lib.Seq.{drop-cons}
-use lib.Dec.{ltb}
 use borrow.Author.Tests.{lt-ltb, le-ltb}
 use Rattle.runs.specs.Tests.{either, both, negate, anyIn}
 use Rattle.runs.specs.Model.Monitor.{risingB, notRisingB}
@@ -42,9 +40,8 @@ module _ (ts : List ℕ) where
 
   -- ---- it strictly rises: from the number before position i on
   drop-two : (i : ℕ) → 1 ≤ i → i < length ts → drop (i - 1) ts ≡ getD ts (i - 1) 0 ∷ getD ts i 0 ∷ drop (i + 1) ts
-  drop-two i l m =
-      let e : suc (i - 1) ≡ i = omega arith in
-      drop-cons ts (i - 1) 0 (omega arith) ∙ rw (e, add-one i) (ap (λ (z : List ℕ). getD ts (i - 1) 0 ∷ z) (drop-cons ts i 0 m))
+  drop-two i l m = let e : suc (i - 1) ≡ i = omega arith in drop-cons ts (i - 1) 0 (omega arith) ∙ rw (e, add-one i)
+      (ap (λ (z : List ℕ). getD ts (i - 1) 0 ∷ z) (drop-cons ts i 0 m))
 
   pub falls-here : (i : ℕ) → 1 ≤ i → i < length ts → risingB ts ≡ risingB (drop (i - 1) ts)
       → getD ts i 0 ≤ getD ts (i - 1) 0 → risingB ts ≡ false

@@ -6,7 +6,7 @@ use mathlib.Core.List.{List, [], _∷_, List·Memᴰ as Among, List·Memᴰ·not
 use Prim.Native.Nat.{ℕ, _<_}
 use native.Mathlib.Decide.{ℕ-discrete, decLt}
 use native.Mathlib.Omega.{arith}
-use lib.ListN.{length, getD, set, List·getD-eq-default}
+use lib.ListN.{length, set, List·getD-eq-default}
 use lib.Seq.{getD-set-same, getD-set-other}
 use lib.Dec.{eqb}
 use borrow.Author.Tests.{eq-eqb, ne-eqb}
@@ -49,7 +49,8 @@ marked-cons table t ts l h = fun-ext (λ x. rw h at (marked-more table t l x))
 
 pub marked-only : (table : List ℕ) (t : ℕ) → Zeros 128 table → t < 128 → marked (set table t 1) ≡ only t
 unfolding listed anyIn either
-marked-only table t z l = marked-cons table t [] (omega (arith, z .long)) (marked-none table z) ∙ fun-ext (λ x. alone (eqb x t))
+marked-only table t z l = marked-cons table t [] (omega (arith, z .long)) (marked-none table z)
+    ∙ fun-ext (λ x. alone (eqb x t))
   where
     alone : (v : Bool) → either v (λ u. false) ≡ v
     alone true = refl

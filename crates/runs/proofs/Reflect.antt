@@ -1,9 +1,8 @@
 -- Tests reflect what they test. `Reflects b A`: the test b is true exactly if A holds. The laws named `r-x` are
 -- gathered in the ruleset `reflection`.
 use Rattle.runs.proofs.Base.{_≡_, refl, ap, _⊎_, inl, inr, _↔_, Bool, true, false, not, decide, Option, none}
-use Rattle.runs.proofs.Base.{some}
-use Rattle.runs.proofs.Base.{List, [], _∷_, ℕ, zero, suc, _<_}
-use Rattle.runs.proofs.Base.{arith, ℕ-discrete, T, eqb, ltb, eqb→eq, eqb-refl, ltb→lt, lt→ltb}
+use Rattle.runs.proofs.Base.{some, List, [], _∷_, ℕ, zero, suc, _<_, arith, ℕ-discrete, T, eqb, ltb, eqb→eq}
+use Rattle.runs.proofs.Base.{eqb-refl, ltb→lt, lt→ltb}
 use Rattle.runs.specs.Tests.{both, either, implies, negate, anyBelow, allBelow, sameB, sameList, isNone, isSome}
 
 -- two constructors are equal: `clash cc`

@@ -162,9 +162,9 @@ module _ (p : Plan) where
     pub leaves : p .cond .sign post who on ≡ some sign
     pub opposes : p .cond .sign post other on ≡ some (not sign)
 
-  -- 01's table of refusals, row by row, with 02's rows: 27, a skip's number is not that of an optional group; 25 and 26.
-  -- For a list each row is about the whole of it, and "a hold is then tried only for tasks still running after it" (02):
-  -- 22 is asked of the statuses after the step. ⊥ where a row is no matter of the call.
+  -- 01's table of refusals, row by row, with 02's rows: 27, a skip's number is not that of an optional group; 25 and
+  -- 26. For a list each row is about the whole of it, and "a hold is then tried only for tasks still running after it"
+  -- (02): 22 is asked of the statuses after the step. ⊥ where a row is no matter of the call.
   abbrev pub Applies : World → Call → Refusal → Type 0
   Applies a (one e) no-task = ¬ Task (nodeOf e)
   Applies a (one e) wrong-status = WrongStatus (a .status) e

@@ -26,10 +26,9 @@ abbrev μ-loop : tie.MeasureT-loop
 μ-loop plan state place tasks clear set n i₀ i = n - i
 
 clear-is : (c : tie.After-all2 Inv-loop μ-loop)
-    → c .before .with-literals .result .bytes
-    ≡ made (now (c .before .before .before .before .before .args .plan))
-    (c .before .before .before .before .before .args .place) (marked (now (c .before .before .before .before .before .args .tasks)))
-    (replicate 8 (allByte false))
+    → c .before .with-literals .result .bytes ≡ made (now (c .before .before .before .before .before .args .plan))
+    (c .before .before .before .before .before .args .place)
+    (marked (now (c .before .before .before .before .before .args .tasks))) (replicate 8 (allByte false))
 clear-is c =
     let a = c .before .before .before .before .before .args in
     c .before .with-literals .ensures

@@ -1,9 +1,8 @@
 -- `run_conditions::with_literals` meets its contract. Assumes nothing.
 use mathlib.Core.Path.{_≡_, refl, sym, ap, _∙_}
-use mathlib.Core.Logic.{⊎-elim}
+use mathlib.Core.List.{List}
 use Prim.Native.Nat.{ℕ, _≤_, _+_, _-_}
 use denote.Ref.{now}
-use Rattle.run_flags.specs.declared.Flags.{Flags}
 use Rattle.plan_format.specs.Format.{condCount}
 use Rattle.plan_check.proofs.Accepted.{clean}
 use Rattle.run_state.specs.Made.{literals, made}
@@ -32,29 +31,34 @@ flag-at-requires c κs = (omega arith, c .before .before .before .before .before
 set-at-requires : tie.Need-set-at-requires Inv-loop μ-loop
 set-at-requires c κs = (omega arith, c .before .before .before .before .before .before .before .pre)
 
+-- the literals among the first i conditions, made true in the flags z
+abbrev left : tie.Start Inv-loop μ-loop → ℕ → List ℕ → List ℕ
+left s i z = literals (now (s .args .plan)) (s .args .place) (marked (now (s .args .tasks))) i z
+
 loop-again : tie.Need-loop-again Inv-loop μ-loop
 loop-again c =
     let l = c .before .before .before .before .before .before in
-    let a = l .before .before .before .args in
+    let s = l .before .before .before in
+    let z = l .loop .next .bytes in
     let k : l .loop .i ≡ l .loop .i - 1 + 1 = omega arith in (
       omega arith,
-      l .loop .inv .1
-          ∙ ap (λ (i : ℕ). literals (now (a .plan)) (a .place) (marked (now (a .tasks))) i (l .loop .next .bytes)) k
-          ∙ literals-turn (now (a .plan)) (a .place) (marked (now (a .tasks))) (l .loop .i - 1) (l .loop .next .bytes) _ _
+      l .loop .inv .1 ∙ ap (λ (i : ℕ). left s i z) k
+          ∙ literals-turn (now (s .args .plan)) (s .args .place) (marked (now (s .args .tasks))) (l .loop .i - 1) z _ _
           (c .before .before .flag-at .ensures .0) (c .before .set-at .ensures)
           (sym (c .before .before .before .before .is-of .ensures) ∙ c .before .before .before .if1 .taken)
-          ∙ ap (literals (now (a .plan)) (a .place) (marked (now (a .tasks))) (l .loop .i - 1)) (sym (c .with .ensures)),
+          ∙ ap (left s (l .loop .i - 1)) (sym (c .with .ensures)),
     )
 
 loop-again-2 : tie.Need-loop-again-2 Inv-loop μ-loop
 loop-again-2 c =
     let l = c .before .before .before in
-    let a = l .before .before .before .args in
+    let s = l .before .before .before in
+    let z = l .loop .next .bytes in
     let k : l .loop .i ≡ l .loop .i - 1 + 1 = omega arith in (
       omega arith,
-      l .loop .inv .1
-          ∙ ap (λ (i : ℕ). literals (now (a .plan)) (a .place) (marked (now (a .tasks))) i (l .loop .next .bytes)) k
-          ∙ literals-kept (now (a .plan)) (a .place) (marked (now (a .tasks))) (l .loop .i - 1) _ (sym (c .before .is-of .ensures) ∙ c .if1 .left),
+      l .loop .inv .1 ∙ ap (λ (i : ℕ). left s i z) k
+          ∙ literals-kept (now (s .args .plan)) (s .args .place) (marked (now (s .args .tasks))) (l .loop .i - 1) z
+          (sym (c .before .is-of .ensures) ∙ c .if1 .left),
     )
 
 returns : tie.Need-returns Inv-loop μ-loop
@@ -62,10 +66,8 @@ unfolding made
 returns c =
     let l = c .before in
     let e : l .loop .i ≡ 0 = omega arith in
-    let a = l .before .before .before .args in
     sym (rw (c .before .before .conditions .ensures) at (l .loop .inv .1
-    ∙ ap (λ (i : ℕ). literals (now (a .plan)) (a .place) (marked (now (a .tasks))) i (l .loop .next .bytes)) e
-    ∙ literals-none _ _ _ _))
+    ∙ ap (λ (i : ℕ). left (l .before .before .before) i (l .loop .next .bytes)) e ∙ literals-none _ _ _ _))
 
 pub with-literals-spec : {M : Type 1} → statement M
 with-literals-spec =

@@ -10,10 +10,13 @@ use borrow.Author.Needs.{needs}
 use Rattle.run_monitor.proofs.finish_together.Statement.{statement}
 use Rattle.run_monitor.proofs.finish_together.Tie as tie
 
-passed : (c : tie.Else1) → stateRefusal (now (c .before .before .before .before .before .before .args .plan)) (now (c .before .before .before .before .before .before .args .state)) ≡ 0
+passed : (c : tie.Else1) → stateRefusal (now (c .before .before .before .before .before .before .args .plan))
+    (now (c .before .before .before .before .before .before .args .state)) ≡ 0
 passed c = sym (c .before .check-state .ensures) ∙ c .if1 .left
 
-none : (c : tie.Else2) → callRefusal (now (c .before .before .before .before .before .before .before .before .before .args .plan)) (now (c .before .before .before .before .before .before .before .before .before .args .state))
+none : (c : tie.Else2)
+    → callRefusal (now (c .before .before .before .before .before .before .before .before .before .args .plan))
+    (now (c .before .before .before .before .before .before .before .before .before .args .state))
     (together (now (c .before .before .before .before .before .before .before .before .before .args .tasks))) ≡ 0
 none c = sym (c .before .together-refused .ensures) ∙ c .if2 .left
 
@@ -21,7 +24,8 @@ returns : tie.Need-returns
 returns c = called-16 _ _ _ _ (c .before .check-state .ensures) (c .if1 .taken)
 
 returns-2 : tie.Need-returns-2
-returns-2 c = called-22 _ _ _ (passed (c .before .before .before)) _ (c .before .together-refused .ensures) (c .if2 .taken)
+returns-2 c = called-22 _ _ _ (passed (c .before .before .before)) _ (c .before .together-refused .ensures)
+    (c .if2 .taken)
 
 write-finishes-requires : tie.Need-write-finishes-requires
 write-finishes-requires c κs =
@@ -30,7 +34,8 @@ write-finishes-requires c κs =
     record { passed = ok; rises = accepted-rises _ _ ok _ z; tasks = accepted-tasks _ _ ok _ z }
 
 returns-3 : tie.Need-returns-3
-returns-3 c = called-0 _ _ _ (passed (c .before .before .before .before .before .before .before)) (none (c .before .before .before .before)) (c .before .before .write-finishes .ensures)
+returns-3 c = called-0 _ _ _ (passed (c .before .before .before .before .before .before .before))
+    (none (c .before .before .before .before)) (c .before .before .write-finishes .ensures)
 
 pub finish-together-spec : {M : Type 1} → statement M
 finish-together-spec =

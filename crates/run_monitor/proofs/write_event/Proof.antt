@@ -1,5 +1,4 @@
 -- `write_event` meets its contract. Assumes nothing.
-use mathlib.Core.Path.{_≡_}
 use Rattle.run_monitor.specs.Events.{withEvent}
 use borrow.Author.Needs.{needs}
 use native.Mathlib.Omega.{arith}
@@ -16,8 +15,8 @@ add-state c = let s = c .before .before .before .before .before .before .before 
     omega (arith, s .pre .node, has-room _ _ (s .pre .passed) .plan .fits .limits .nodes)
 
 slice-write-state : tie.Need-slice-write-state
-slice-write-state c = let s = c .before .before .before .before .before .before .before .before .before .before .before in
-    let l = s .pre .node in let r = has-room _ _ (s .pre .passed) .room in omega arith
+slice-write-state c = let s = c .before .before .before .before .before .before .before .before .before .before .before
+    in let l = s .pre .node in let r = has-room _ _ (s .pre .passed) .room in omega arith
 
 returns : tie.Need-returns
 unfolding withEvent
@@ -29,14 +28,13 @@ returns c = rw (
 )
 
 pub write-event-spec : {M : Type 1} → statement M
-write-event-spec =
-    tie.close
-    (tie.spec
-    mark-one-requires
+write-event-spec = tie.close
+    (tie.spec mark-one-requires
     (λ c κs. omega (arith, has-room _ _ (c .before .before .before .before .before .pre .passed) .room))
     (λ c κs. has-room _ _ (c .before .before .before .before .before .before .pre .passed) .accepted)
-    (λ c κs. omega (arith, has-room _ _ (c .before .before .before .before .before .before .before .before .pre .passed) .room))
-    add-state
-    slice-write-state
-    (λ c. search needs)
-    returns)
+    (λ c κs. omega (
+      arith,
+      has-room _ _
+          (c .before .before .before .before .before .before .before .before .pre .passed) .room,
+    )) add-state slice-write-state
+    (λ c. search needs) returns)

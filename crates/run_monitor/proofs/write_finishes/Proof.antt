@@ -50,7 +50,8 @@ stored c = rw (
   c .before .before .before .before .before .before .before .before .mark-all .ensures,
 ) at (c .before .before .store .ensures)
 
-long : (c : tie.After-slice-known2 Inv-loop μ-loop) → length (c .before .before .store .last .0) ≡ length (now (first c .args .state))
+long : (c : tie.After-slice-known2 Inv-loop μ-loop)
+    → length (c .before .before .store .last .0) ≡ length (now (first c .args .state))
 long c = search needs
 
 loop-holds : tie.Need-loop-holds Inv-loop μ-loop
@@ -61,27 +62,34 @@ loop-holds c =
 
 -- the next task
 next-inside : (c : tie.In-loop Inv-loop μ-loop)
-    → (getD (now (c .before .before .before .before .before .before .before .before .before .before .before .before .before .before .args .tasks)) (c .before .loop .i - 1) 0 < 128)
-    × (8 + getD (now (c .before .before .before .before .before .before .before .before .before .before .before .before .before .before .args .tasks)) (c .before .loop .i - 1) 0 < length (now (c .before .before .before .before .before .before .before .before .before .before .before .before .before .before .args .state)))
-next-inside c = inside (c .before .before .before .before .before .before .before .before .before .before .before .before .before .before) _ (among-at _ (c .before .loop .i - 1) (omega arith))
+    → (getD (now (first (c .before .before) .args .tasks)) (c .before .loop .i - 1) 0 < 128)
+    × (8 + getD (now (first (c .before .before) .args .tasks)) (c .before .loop .i - 1) 0
+    < length (now (first (c .before .before) .args .state)))
+next-inside c = inside (first (c .before .before)) _ (among-at _ (c .before .loop .i - 1) (omega arith))
 
 add-state : tie.Need-add-state Inv-loop μ-loop
 add-state c = omega (arith, next-inside (c .before) .0)
 
 slice-write-state : tie.Need-slice-write-state Inv-loop μ-loop
-slice-write-state c = omega (arith, next-inside (c .before) .1, c .before .before .loop .inv .1 .0, long (c .before .before .before))
+slice-write-state c = omega (
+  arith,
+  next-inside (c .before) .1,
+  c .before .before .loop .inv .1 .0,
+  long (c .before .before .before),
+)
 
 loop-again : tie.Need-loop-again Inv-loop μ-loop
 loop-again c =
     let l = c .before .before .loop in
-    let ts = now (c .before .before .before .before .before .before .before .before .before .before .before .before .before .before .before .args .tasks) in
-    let z = c .before .before .before .before .before .store .last .0 in
+    let b = c .before .before .before in
+    let ts = now (first b .args .tasks) in
+    let z = b .before .before .store .last .0 in
     let k : suc (l .i - 1) ≡ l .i = omega arith in (
       omega arith,
       (
         length-set (l .state) _ 2 ∙ l .inv .1 .0,
         ap (λ (x : List ℕ). take 8 z ++ allDone x (drop 8 z)) (rw k at (drop-cons ts (l .i - 1) 0 (omega arith)))
-            ∙ done-more z (drop (l .i) ts) _ (omega (arith, long (c .before .before .before), room (c .before .before .before .before .before .before .before .before .before .before .before .before .before .before .before)))
+            ∙ done-more z (drop (l .i) ts) _ (omega (arith, long b, room (first b)))
             ∙ ap (λ (x : List ℕ). set x (8 + getD ts (l .i - 1) 0) 2) (l .inv .1 .1),
       ),
     )
@@ -92,10 +100,11 @@ same-length c = c .before .loop .inv .1 .0 ∙ long (c .before .before)
 returns : tie.Need-returns Inv-loop μ-loop
 returns c =
     let l = c .before .loop in
-    let s = c .before .before .before .before .before .before .before .before .before .before .before .before .before .before in
+    let s = first (c .before .before) in
     let e : l .i ≡ 0 = omega arith in
     sym (rw e at (l .inv .1 .1))
-    ∙ all-written _ _ (has-room _ _ (s .pre .passed) .accepted) (room s) _ (s .pre .rises) _ (stored (c .before .before))
+    ∙ all-written _ _ (has-room _ _ (s .pre .passed) .accepted) (room s) _ (s .pre .rises) _
+    (stored (c .before .before))
 
 pub write-finishes-spec : {M : Type 1} → statement M
 write-finishes-spec =

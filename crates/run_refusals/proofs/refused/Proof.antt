@@ -56,7 +56,8 @@ abbrev start : tie.After-inc-broken → tie.Start
 start c = c .before .before .before .before .before .before .before .before .before .before .before .before .before
 
 broken : (c : tie.After-inc-broken)
-    → incBrokenB (planOf (now (start c .args .plan))) (statusIn (now (start c .args .plan)) (now (start c .args .state)))
+    → incBrokenB (planOf (now (start c .args .plan)))
+    (statusIn (now (start c .args .plan)) (now (start c .args .state)))
     (eventOf (start c .args .m) (start c .args .task)) ≡ c .inc-broken .result
 broken c =
     let s = start c in
@@ -107,15 +108,17 @@ mark-one-requires : tie.Need-mark-one-requires
 mark-one-requires c κs = omega (
   arith,
   task-below (c .before .before .before .before .before),
-  has-room _ _ (c .before .before .before .before .before .before .before .before .before .pre) .plan .fits .limits .nodes,
+  has-room _ _ (c .before .before .before .before .before .before .before .before .before .pre) .plan .fits .limits
+      .nodes,
 )
 
 -- 22, the last
 last : (c : tie.After-inc-broken) (v : Bool) → c .inc-broken .result ≡ v → cond v 22 0 ≡ eventRefusal
     (now (start c .args .plan)) (now (start c .args .state)) (eventOf (start c .args .m) (start c .args .task))
-last c v q = let s = start c in
-    answer-broken _ _ (s .pre) (s .args .task) _ (node-of (s .args .m) (s .args .task))
-    (task-event (s .args .m) (s .args .task)) (is-task (c .before .before .before .before .before .before .before .before .before)) (as-asked (c .before .before .before .before .before .before)) (begun (c .before .before .before .before)) v
+last c v q = let s = start c in answer-broken _ _ (s .pre) (s .args .task) _ (node-of (s .args .m) (s .args .task))
+    (task-event (s .args .m) (s .args .task))
+    (is-task (c .before .before .before .before .before .before .before .before .before))
+    (as-asked (c .before .before .before .before .before .before)) (begun (c .before .before .before .before)) v
     (broken c ∙ q)
 
 returns-4 : tie.Need-returns-4

@@ -24,7 +24,8 @@ unmet c = sym (rw (c .before .load .ensures, c .before .before .before .mark-one
 
 none-yet : (c : tie.After-unmet) → treeRefusal (now (start-of c .args .plan)) (now (start-of c .args .state))
     (start-of c .args .task) ≡ 0
-none-yet c = sym (c .before .before .before .before .before .tree-refused .ensures) ∙ c .before .before .before .before .if1 .left
+none-yet c = sym (c .before .before .before .before .before .tree-refused .ensures)
+    ∙ c .before .before .before .before .if1 .left
 
 returns : tie.Need-returns
 returns c = begin-tree _ _ _ _ (c .before .tree-refused .ensures) (c .if1 .taken)
@@ -40,14 +41,12 @@ returns-3 : tie.Need-returns-3
 returns-3 c = begin-unmet _ _ _ (none-yet (c .before)) _ (unmet (c .before) ∙ c .if2 .left)
 
 pub start-refused-spec : {M : Type 1} → statement M
-start-refused-spec =
-    tie.close
-    (tie.spec
-    (λ c κs. search needs)
-    (λ c κs. search needs)
-    returns
-    mark-one-requires
-    (λ c κs. omega (arith, has-room _ _ (c .before .before .before .before .before .before .before .before .pre .passed) .room))
-    (λ c κs. has-room _ _ (c .before .before .before .before .before .before .before .before .before .pre .passed) .accepted)
-    returns-2
+start-refused-spec = tie.close (tie.spec (λ c κs. search needs) (λ c κs. search needs) returns mark-one-requires
+    (λ c κs. omega (
+      arith,
+      has-room _ _
+          (c .before .before .before .before .before .before .before .before .pre .passed) .room,
+    ))
+    (λ c κs. has-room _ _
+    (c .before .before .before .before .before .before .before .before .before .pre .passed) .accepted) returns-2
     returns-3)

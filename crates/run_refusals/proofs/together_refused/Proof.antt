@@ -1,8 +1,7 @@
 -- `together_refused` meets its contract. Assumes nothing.
 use mathlib.Core.Path.{_≡_, sym, ap, _∙_}
 use mathlib.Core.Bool.{Bool, true, false, cond, not}
-use mathlib.Core.List.{List}
-use Prim.Native.Nat.{ℕ, _+_, _<_}
+use Prim.Native.Nat.{_+_, _<_}
 use lib.ListN.{length}
 use lib.Dec.{eqb}
 use denote.Ref.{now}
@@ -13,7 +12,6 @@ use Rattle.runs.specs.Calls.{together}
 use Rattle.runs.specs.Tests.{anyIn}
 use Rattle.runs.specs.Model.Monitor.{notRisingB, postOpposedB}
 use Rattle.run_starts.specs.Starts.{nodeByte}
-use Rattle.run_state.specs.State.{stateRefusal}
 use Rattle.run_state.proofs.Passed.{has-room}
 use Rattle.run_tasks.specs.Sets.{Each}
 use Rattle.run_refusals.specs.Events.{callRefusal}
@@ -23,55 +21,81 @@ use native.Mathlib.Omega.{arith}
 use Rattle.run_refusals.proofs.together_refused.Statement.{statement}
 use Rattle.run_refusals.proofs.together_refused.Tie as tie
 
--- ---- what is known after each test
-rising : (c : tie.Else1) → notRisingB (now (c .before .before .before .before .before .args .tasks)) ≡ false
+-- ---- the states before each test
+abbrev start : tie.Else1 → tie.Start
+start c = c .before .before .before .before .before
+
+abbrev else₁ : tie.Else2 → tie.Else1
+else₁ c = c .before .before
+
+abbrev else₂ : tie.Else3 → tie.Else2
+else₂ c = c .before .before
+
+abbrev else₃ : tie.After-unmet → tie.Else3
+else₃ c = c .before .before .before .before .before .before
+
+abbrev first : tie.After-unmet → tie.Start
+first c = start (else₁ (else₂ (else₃ c)))
+
+abbrev unmet : tie.After-inc-broken → tie.After-unmet
+unmet c = c .before .before .before
+
+-- ---- what is known after each
+rising : (c : tie.Else1) → notRisingB (now (start c .args .tasks)) ≡ false
 rising c = sym (c .before .not-rising .ensures) ∙ c .if1 .left
 
-fit : (c : tie.Else2) → anyIn (now (c .before .before .before .before .before .before .before .args .tasks)) (λ t. not (isKind (now (c .before .before .before .before .before .before .before .args .plan)) t 0)) ≡ false
+fit : (c : tie.Else2) → anyIn (now (start (else₁ c) .args .tasks))
+    (λ t. not (isKind (now (start (else₁ c) .args .plan)) t 0)) ≡ false
 fit c = sym (c .before .no-task .ensures) ∙ c .if2 .left
 
-run : (c : tie.Else3)
-    → anyIn (now (c .before .before .before .before .before .before .before .before .before .args .tasks)) (λ t. not (eqb (nodeByte (now (c .before .before .before .before .before .before .before .before .before .args .state)) t) 1)) ≡ false
+run : (c : tie.Else3) → anyIn (now (start (else₁ (else₂ c)) .args .tasks))
+    (λ t. not (eqb (nodeByte (now (start (else₁ (else₂ c)) .args .state)) t) 1)) ≡ false
 run c = sym (c .before .not-running .ensures) ∙ c .if3 .left
 
-inside : (c : tie.Else2) → Each (now (c .before .before .before .before .before .before .before .args .tasks))
-    (λ t. (t < 128) × (8 + t < length (now (c .before .before .before .before .before .before .before .args .state))))
+inside : (c : tie.Else2) → Each (now (start (else₁ c) .args .tasks))
+    (λ t. (t < 128) × (8 + t < length (now (start (else₁ c) .args .state))))
 inside c t i =
-    let s = c .before .before .before .before .before .before .before in
-    let l = kind-is _ t 0 (tasks _ _ (s .pre) _ (rising (c .before .before)) (fit c) t i) .0 in
+    let s = start (else₁ c) in
+    let l = kind-is _ t 0 (tasks _ _ (s .pre) _ (rising (else₁ c)) (fit c) t i) .0 in
     let r = has-room _ _ (s .pre) in
     (omega (arith, l, r .plan .fits .limits .nodes), omega (arith, l, r .room))
 
-abbrev start : tie.After-unmet → tie.Start
-start c = c .before .before .before .before .before .before .before .before .before .before .before .before .before .before .before
-
 opposed-here : (c : tie.After-unmet)
-    → c .unmet .result ≡ postOpposedB (planOf (now (start c .args .plan))) (now (start c .args .tasks))
-opposed-here c = together-26 _ _ (start c .pre) _ (rising (c .before .before .before .before .before .before .before .before .before .before)) (fit (c .before .before .before .before .before .before .before .before)) (run (c .before .before .before .before .before .before)) _
-    (c .before .before .before .before .before .mark-all .ensures) _ (rw (c .before .before .before .load .ensures) at
-    (c .before .before .with-literals .ensures)) _ (c .unmet .ensures)
+    → c .unmet .result ≡ postOpposedB (planOf (now (first c .args .plan))) (now (first c .args .tasks))
+opposed-here c =
+    let e = else₃ c in
+    together-26 _ _ (first c .pre) _ (rising (else₁ (else₂ e))) (fit (else₂ e)) (run e) _
+    (c .before .before .before .before .before .mark-all .ensures) _
+    (rw (c .before .before .before .load .ensures) at (c .before .before .with-literals .ensures)) _ (c .unmet .ensures)
 
 -- ---- the answers
 returns : tie.Need-returns
-returns c = together-25 _ _ (c .before .before .before .before .before .pre) _ (sym (c .before .not-rising .ensures) ∙ c .if1 .taken)
+returns c = together-25 _ _ (c .before .before .before .before .before .pre) _
+    (sym (c .before .not-rising .ensures) ∙ c .if1 .taken)
 
 returns-2 : tie.Need-returns-2
-returns-2 c = together-17 _ _ (c .before .before .before .before .before .before .before .pre) _ (rising (c .before .before))
-    (sym (c .before .no-task .ensures) ∙ c .if2 .taken)
+returns-2 c = let e = c .before .before in
+    together-17 _ _ (start e .pre) _ (rising e) (sym (c .before .no-task .ensures) ∙ c .if2 .taken)
 
 returns-3 : tie.Need-returns-3
-returns-3 c = together-18 _ _ (c .before .before .before .before .before .before .before .before .before .pre) _ (rising (c .before .before .before .before)) (fit (c .before .before))
+returns-3 c = let e = c .before .before in
+    together-18 _ _ (start (else₁ e) .pre) _ (rising (else₁ e)) (fit e)
     (sym (c .before .not-running .ensures) ∙ c .if3 .taken)
 
 returns-4 : tie.Need-returns-4
-returns-4 c = opposed _ _ (c .before .before .before .before .before .before .before .before .before .before .before .before .before .before .before .before .pre) _ (rising (c .before .before .before .before .before .before .before .before .before .before .before)) (fit (c .before .before .before .before .before .before .before .before .before)) (run (c .before .before .before .before .before .before .before))
+returns-4 c = let e = else₃ (c .before) in
+    opposed _ _ (first (c .before) .pre) _ (rising (else₁ (else₂ e))) (fit (else₂ e)) (run e)
     (sym (opposed-here (c .before)) ∙ c .if4 .taken)
 
 last : (c : tie.After-inc-broken) (v : Bool) → c .inc-broken .result ≡ v → cond v 22 0 ≡ callRefusal
-    (now (c .before .before .before .before .before .before .before .before .before .before .before .before .before .before .before .before .before .before .args .plan)) (now (c .before .before .before .before .before .before .before .before .before .before .before .before .before .before .before .before .before .before .args .state)) (together (now (c .before .before .before .before .before .before .before .before .before .before .before .before .before .before .before .before .before .before .args .tasks)))
-last c v q = ap (λ (x : Bool). cond x 22 0) (sym q)
-    ∙ unopposed _ _ (c .before .before .before .before .before .before .before .before .before .before .before .before .before .before .before .before .before .before .pre) _ (rising (c .before .before .before .before .before .before .before .before .before .before .before .before .before)) (fit (c .before .before .before .before .before .before .before .before .before .before .before)) (run (c .before .before .before .before .before .before .before .before .before))
-    (sym (opposed-here (c .before .before .before)) ∙ c .before .before .if4 .left) _ (c .before .before .before .before .before .before .before .before .mark-all .ensures) _ (c .inc-broken .ensures)
+    (now (first (unmet c) .args .plan)) (now (first (unmet c) .args .state))
+    (together (now (first (unmet c) .args .tasks)))
+last c v q =
+    let e = else₃ (unmet c) in
+    ap (λ (x : Bool). cond x 22 0) (sym q)
+    ∙ unopposed _ _ (first (unmet c) .pre) _ (rising (else₁ (else₂ e))) (fit (else₂ e)) (run e)
+    (sym (opposed-here (unmet c)) ∙ c .before .before .if4 .left) _
+    (unmet c .before .before .before .before .before .mark-all .ensures) _ (c .inc-broken .ensures)
 
 returns-5 : tie.Need-returns-5
 returns-5 c = last (c .before) true (c .if5 .taken)
@@ -85,15 +109,15 @@ together-refused-spec =
     (tie.spec
     (λ c κs. tt)
     returns
-    (λ c κs. has-room _ _ (c .before .before .before .before .before .pre) .plan .fits)
+    (λ c κs. has-room _ _ (start c .pre) .plan .fits)
     returns-2
     (λ c κs. inside c)
     returns-3
-    (λ c κs. λ t i. inside (c .before .before) t i .0)
-    (λ c κs. omega (arith, has-room _ _ (c .before .before .before .before .before .before .before .before .before .before .before .pre) .room))
-    (λ c κs. has-room _ _ (c .before .before .before .before .before .before .before .before .before .before .before .before .pre) .accepted)
-    (λ c κs. has-room _ _ (c .before .before .before .before .before .before .before .before .before .before .before .before .before .before .pre) .accepted)
+    (λ c κs. λ t i. inside (else₂ c) t i .0)
+    (λ c κs. omega (arith, has-room _ _ (start (else₁ (else₂ (c .before .before))) .pre) .room))
+    (λ c κs. has-room _ _ (start (else₁ (else₂ (c .before .before .before))) .pre) .accepted)
+    (λ c κs. has-room _ _ (start (else₁ (else₂ (c .before .before .before .before .before))) .pre) .accepted)
     returns-4
-    (λ c κs. c .before .before .before .before .before .before .before .before .before .before .before .before .before .before .before .before .before .pre)
+    (λ c κs. first (c .before .before) .pre)
     returns-5
     returns-6)

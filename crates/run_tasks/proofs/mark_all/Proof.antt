@@ -1,6 +1,5 @@
 -- `run_tasks::mark_all` meets its contract. Assumes nothing.
 use mathlib.Core.Path.{_≡_, sym, ap, _∙_}
-use mathlib.Core.List.{List}
 use Prim.Native.Nat.{ℕ, suc, _≤_, _<_, _-_}
 use lib.ListN.{length, getD, drop, length-set}
 use lib.Seq.{drop-cons}

@@ -1,9 +1,8 @@
 -- `run_tasks::no_task` meets its contract. Assumes nothing.
 use mathlib.Core.Path.{_≡_, refl, sym, ap, _∙_}
-use mathlib.Core.Bool.{Bool, not}
-use Prim.Native.Nat.{ℕ, _≤_, _-_}
-use lib.ListN.{length, drop}
-use denote.Ref.{now}
+use mathlib.Core.Bool.{not}
+use Prim.Native.Nat.{_≤_, _-_}
+use lib.ListN.{drop}
 use Rattle.plan_format.specs.Format.{isKind}
 use Rattle.runs.specs.Tests.{anyIn}
 use Rattle.run_tasks.proofs.Lists.{some-here, some-later, some-none}
@@ -19,9 +18,8 @@ abbrev μ-loop : tie.MeasureT-loop
 μ-loop plan tasks n i₀ i = n - i
 
 returns : tie.Need-returns Inv-loop μ-loop
-returns c =
-    let l = c .before .before .before .before in
-    some-here _ _ (l .loop .i) (omega arith) (l .loop .inv .1) (ap not (sym (c .before .is-kind .ensures)) ∙ c .if1 .taken)
+returns c = let l = c .before .before .before .before in some-here _ _ (l .loop .i) (omega arith) (l .loop .inv .1)
+    (ap not (sym (c .before .is-kind .ensures)) ∙ c .if1 .taken)
 
 loop-again : tie.Need-loop-again Inv-loop μ-loop
 loop-again c =

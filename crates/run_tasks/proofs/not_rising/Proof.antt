@@ -1,7 +1,7 @@
 -- `run_tasks::not_rising` meets its contract. Assumes nothing.
 use mathlib.Core.Path.{_≡_, refl, ap, _∙_}
 use Prim.Native.Nat.{ℕ, _+_, _≤_, _-_}
-use lib.ListN.{length, drop}
+use lib.ListN.{drop}
 use denote.Ref.{now}
 use Rattle.runs.specs.Model.Monitor.{risingB}
 use Rattle.run_tasks.proofs.Lists.{falls-here, rises-on, rises-all, not-rising-nil, not-rising-is}

@@ -12,8 +12,7 @@ use Rattle.runs.proofs.Verdict.Exact.{MayFail, clear-or-may-fail}
 use Rattle.runs.proofs.Calls.Listed.{rises}
 use Rattle.runs.proofs.Calls.Together.{finishes-execution, before-finishes}
 use Rattle.runs.proofs.Calls.Violation.{flagAfter, worldAfter, Violates, EnabledCall, ViolatesCall, Violation}
-use Rattle.runs.proofs.Calls.Violation.{flag-last, flag-none}
-use Rattle.runs.proofs.Calls.Violation.{clear-no-violation, may-fail-violates, decViolates}
+use Rattle.runs.proofs.Calls.Violation.{flag-last, flag-none, clear-no-violation, may-fail-violates, decViolates}
 
 -- what a list of calls comes to
 abbrev pub flat : List Call → History
@@ -76,11 +75,16 @@ module _ (p : Plan) (w : WellFormed p) (F : ℕ → Bool) where
   first-violation : Violation p F → FirstViolation p F
   first-violation x = go (x .history) (x .enabled) (x .violates) (accepted-or-violation (x .execution))
     where
-      go : (h : History) → EnabledCall p (statusAfter h) (x .call) → ViolatesCall p (worldAfter p F h) (x .call) →
-          AcceptedAll p F (ones h) ⊎ FirstViolation p F → FirstViolation p F
+      go : (h : History) → EnabledCall p (statusAfter h) (x .call) → ViolatesCall p (worldAfter p F h) (x .call)
+          → AcceptedAll p F (ones h) ⊎ FirstViolation p F → FirstViolation p F
       go h m b (inr y) = y
-      go h m b (inl k) = record { calls = ones h; call = x .call; accepted = k; enabled = rw (flat-ones h) m; violates =
-          rw (flat-ones h) b }
+      go h m b (inl k) = record {
+        calls = ones h;
+        call = x .call;
+        accepted = k;
+        enabled = rw (flat-ones h) m;
+        violates = rw (flat-ones h) b;
+      }
 
   -- a plan is CLEAR, or some list of calls meets 21, 22 or 26
   pub clear-or-first-violation : Clear p F ⊎ FirstViolation p F
@@ -102,8 +106,8 @@ module _ (p : Plan) (w : WellFormed p) (F : ℕ → Bool) where
       go (inl z) ih = let y : r ≡ flat cs = cc in let s : e ≡ x = cc in
           n (inl (record { on = f; sign = v; needs = rw s at nd; unmet = rw y at b }))
       go (inr z) ih = ih z
-  accepted-met f v (call-more {c = together ts} {cs = cs} k m n) q nd b = accepted-met f v k (before-finishes p ts (flat
-      cs) f v nd q) nd b
+  accepted-met f v (call-more {c = together ts} {cs = cs} k m n) q nd b = accepted-met f v k
+      (before-finishes p ts (flat cs) f v nd q) nd b
 
   -- no accepted list completes a DOOMED root
   pub doomed-incomplete : Doomed p F → {cs : List Call} → AcceptedAll p F cs → ¬ Complete p (statusAfter (flat cs)) 0

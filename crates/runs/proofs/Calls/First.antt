@@ -1,8 +1,7 @@
 -- The first check that applies: its computation reflects 01's words, and one call has one return and one state after
 -- it.
 use Rattle.runs.proofs.Base.{_≡_, refl, sym, ap, _∙_, inl, inr, _⊎_, _↔_, Bool, true, false, decide, Option}
-use Rattle.runs.proofs.Base.{none, some, List, [], _∷_, _++_, ℕ, T}
-use Rattle.runs.proofs.Base.{eqb}
+use Rattle.runs.proofs.Base.{none, some, List, [], _∷_, _++_, ℕ, T, eqb}
 use Rattle.runs.specs.Tests.{either}
 use Rattle.runs.specs.Plan.{Plan, WellFormed}
 use Rattle.runs.specs.Calls.{Call, events, World, happenAll, Refusal, no-task, wrong-status, branch-begun}

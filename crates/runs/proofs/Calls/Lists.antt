@@ -7,11 +7,11 @@ use Rattle.runs.specs.Plan.{Plan, WellFormed}
 use Rattle.runs.specs.Execution.{Event, History, statusAfter, latest, lastAssertedOf, asserts, lastAsserted}
 use Rattle.runs.specs.Calls.{Call, events, World, fresh, happen, happenAll, Refusal, number}
 use Rattle.runs.specs.Model.Monitor.{code, settle, refusalOf, returned, step, returns, states}
-use Rattle.runs.proofs.Calls.Accepted.{flat, AcceptedAll, no-call, call-more}
-use Rattle.runs.proofs.Calls.Accepted.{FirstViolation}
+use Rattle.runs.proofs.Calls.Accepted.{flat, AcceptedAll, no-call, call-more, FirstViolation}
 use Rattle.runs.proofs.Calls.First.{code-inj}
 use Rattle.runs.proofs.Calls.Rows.{Violating, accepted-is, violates-to, violates-from}
-use Rattle.runs.proofs.Calls.Violation.{flagAfter, startsAfter, ordinalAfter, worldAfter, EnabledCall, ViolatesCall}
+use Rattle.runs.proofs.Calls.Violation.{flagAfter, startsAfter, ordinalAfter, worldAfter, EnabledCall}
+use Rattle.runs.proofs.Calls.Violation.{ViolatesCall}
 
 -- a list of calls in which one returns 21, 22 or 26
 pub record ViolatingList (p : Plan) (F : ℕ → Bool) : Type 0 where

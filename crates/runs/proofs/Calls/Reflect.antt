@@ -6,16 +6,14 @@ use Rattle.runs.specs.Execution.{Status, waiting, running, done, State, 
 use Rattle.runs.specs.Execution.{task-done, all-done, any-done, skip-done}
 use Rattle.runs.specs.Execution.{Complete, Begun, Rival, by-branch, by-skip, preOf, asserts}
 use Rattle.runs.specs.Calls.{Call, one, together, finishes, SomeOf, World, happenAll, Refusal, no-task}
-use Rattle.runs.specs.Calls.{wrong-status, branch-begun, order-open}
-use Rattle.runs.specs.Calls.{pre-unmet, inc-broken, not-rising, post-opposed, no-optional, Task, Optional}
-use Rattle.runs.specs.Calls.{WrongStatus, BranchBegun, OrderOpen}
+use Rattle.runs.specs.Calls.{wrong-status, branch-begun, order-open, pre-unmet, inc-broken, not-rising}
+use Rattle.runs.specs.Calls.{post-opposed, no-optional, Task, Optional, WrongStatus, BranchBegun, OrderOpen}
 use Rattle.runs.specs.Calls.{PreUnmet, IncBroken, PostOpposed, Applies}
 use Rattle.runs.specs.Model.Monitor.{statusB, oppositeB, taskB, optionalB, completeIn, completeB, begunB, rivalB}
 use Rattle.runs.specs.Model.Monitor.{wrongStatusB, branchBegunB}
 use Rattle.runs.specs.Model.Monitor.{orderOpenB, preUnmetB, incBrokenB, postOpposedB, appliesB}
 use Rattle.runs.proofs.Reflect.{clash, not-not, Reflects, r-map, r-false, r-both, r-either, r-guarded, r-negate}
-use Rattle.runs.proofs.Reflect.{r-any, r-T}
-use Rattle.runs.proofs.Reflect.{r-decide, r-eq, r-some}
+use Rattle.runs.proofs.Reflect.{r-any, r-T, r-decide, r-eq, r-some}
 use Rattle.runs.proofs.Plan.{child-lt, r-kind, r-picks, r-moves, r-by-kind, r-some-child, r-every-child}
 use Rattle.runs.proofs.Plan.{r-some-under, r-under}
 use Rattle.runs.proofs.Execution.{picks-any, picks-optional, complete-task, complete-all, PickDone, branch-done}
@@ -188,19 +186,27 @@ module _ (p : Plan) (w : WellFormed p) where
   pub r-post-opposed : (ts : List ℕ) → Reflects (postOpposedB p ts) (PostOpposed p ts)
   unfolding postOpposedB
   r-post-opposed ts = r-map (to, from) (r-some-of (λ t. SomeOf ts (λ x. (f : ℕ) × (f < p .cond .flags) × Opposes t x f))
-      ts _ (λ t. r-some-of (λ x. (f : ℕ) × (f < p .cond .flags) × Opposes t x f) ts _ (λ x. r-any (Opposes t x) _ _ (λ
-      f. r-opposite _ _))))
+      ts _ (λ t. r-some-of (λ x. (f : ℕ) × (f < p .cond .flags) × Opposes t x f) ts _
+      (λ x. r-any (Opposes t x) _ _ (λ f. r-opposite _ _))))
     where
       Opposes : ℕ → ℕ → ℕ → Type 0
       Opposes t x f = (v : Bool) × (p .cond .sign post t f ≡ some v) × (p .cond .sign post x f ≡ some (not v))
 
       to : SomeOf ts (λ t. SomeOf ts (λ x. (f : ℕ) × (f < p .cond .flags) × Opposes t x f)) → PostOpposed p ts
-      to (t, i, (x, j, (f, l, (v, q, z)))) = record { who = t; other = x; listed = i; other-listed = j; on = f; sign =
-          v; leaves = q; opposes = z }
+      to (t, i, (x, j, (f, l, (v, q, z)))) = record {
+        who = t;
+        other = x;
+        listed = i;
+        other-listed = j;
+        on = f;
+        sign = v;
+        leaves = q;
+        opposes = z;
+      }
 
       from : PostOpposed p ts → SomeOf ts (λ t. SomeOf ts (λ x. (f : ℕ) × (f < p .cond .flags) × Opposes t x f))
-      from x = let o = w .on-task post (x .who) (x .on) (x .sign) (x .leaves) in (x .who, x .listed, (x .other, x
-          .other-listed, (x .on, o .2, (x .sign, x .leaves, x .opposes))))
+      from x = let o = w .on-task post (x .who) (x .on) (x .sign) (x .leaves) in
+          (x .who, x .listed, (x .other, x .other-listed, (x .on, o .2, (x .sign, x .leaves, x .opposes))))
 
   -- each test is its row of the table
   pub r-applies : (a : World) (c : Call) (r : Refusal) → Reflects (appliesB p a c r) (Applies p a c r)

@@ -7,9 +7,8 @@ use Rattle.runs.specs.Plan.{Plan, WellFormed}
 use Rattle.runs.specs.Execution.{waiting, running, start, finish, skip, Ready, Enabled, can-start}
 use Rattle.runs.specs.Execution.{can-finish, can-skip}
 use Rattle.runs.specs.Calls.{Call, one, together, World, Refusal, no-task, wrong-status, branch-begun, order-open}
-use Rattle.runs.specs.Calls.{pre-unmet, inc-broken, not-rising}
-use Rattle.runs.specs.Calls.{post-opposed, no-optional, WrongStatus, BranchBegun, OrderOpen, Applies, checks}
-use Rattle.runs.specs.Calls.{First, None}
+use Rattle.runs.specs.Calls.{pre-unmet, inc-broken, not-rising, post-opposed, no-optional, WrongStatus}
+use Rattle.runs.specs.Calls.{BranchBegun, OrderOpen, Applies, checks, First, None}
 use Rattle.runs.specs.Model.Monitor.{refusalOf}
 use Rattle.runs.proofs.Reflect.{clash, decided, force}
 use Rattle.runs.proofs.Plan.{under-node, child-parent, under-root}
@@ -92,12 +91,20 @@ module _ (p : Plan) (w : WellFormed p) (a : World) where
   finish-is t = (to, from)
     where
       to : None (Applies p a (one (finish t))) (enabledChecks (one (finish t))) → Enabled p 0 (a .status) (finish t)
-      to (k₁, (k₂, u)) = let x = force (decided (r-task p w t)) k₁ in can-finish record { is-task = x .is-task; beneath
-          = under-root p w t (x .node); runs = force (decided (r-status (a .status t) running)) k₂ }
+      to (k₁, (k₂, u)) = let x = force (decided (r-task p w t)) k₁ in can-finish record {
+        is-task = x .is-task;
+        beneath = under-root p w t (x .node);
+        runs = force (decided (r-status (a .status t) running)) k₂;
+      }
 
       from : Enabled p 0 (a .status) (finish t) → None (Applies p a (one (finish t))) (enabledChecks (one (finish t)))
-      from (can-finish m) = (λ k. k (record { node = under-node p (w .root-node) (m .beneath); is-task = m .is-task }),
-          (λ k. k (m .runs), tt))
+      from (can-finish m) = (
+        λ k. k (record {
+          node = under-node p (w .root-node) (m .beneath);
+          is-task = m .is-task;
+        }),
+        (λ k. k (m .runs), tt),
+      )
 
   enabled-is : (c : Call) → None (Applies p a c) (enabledChecks c) ↔ EnabledCall p (a .status) c
   enabled-is (one (start t)) = (to, from)

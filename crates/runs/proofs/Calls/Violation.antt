@@ -57,8 +57,8 @@ pub record Violation (p : Plan) (F : ℕ → Bool) : Type 0 where
   pub violates : ViolatesCall p (worldAfter p F history) call
 
 -- tasks that leave a flag opposite ways are two
-opposed-differ : (p : Plan) (f t u : ℕ) (v : Bool) → p .cond .sign post t f ≡ some v → p .cond .sign post u f ≡ some
-    (not v) → t ≢ u
+opposed-differ : (p : Plan) (f t u : ℕ) (v : Bool) → p .cond .sign post t f ≡ some v
+    → p .cond .sign post u f ≡ some (not v) → t ≢ u
 opposed-differ p f t u true q z e = clash cc
 opposed-differ p f t u false q z e = clash cc
 
@@ -80,29 +80,42 @@ module _ (p : Plan) (F : ℕ → Bool) where
         unmet h e fr u none q = c .no-pre (u .on) (u .sign) (sym (flag-none h (u .on) q) ∙ u .unmet)
             ((may-pre-is-meet p w (u .on) (u .sign) (w .root-node)) .1
             (record { event = e; before = h; execution = fr; hit = u .needs; quiet = unasserted-all p (u .on) h q }))
-        unmet h e fr u (some b) q = c .no-clobber (u .on) (u .sign) (inl (record { history = h; event = e; execution =
-            fr; clobbers = precondition (u .needs) (q ∙ ap some (sym (flag-last h (u .on) b q) ∙ u .unmet)); }))
+        unmet h e fr u (some b) q = c .no-clobber (u .on) (u .sign) (inl (record {
+          history = h;
+          event = e;
+          execution = fr;
+          clobbers = precondition (u .needs) (q ∙ ap some (sym (flag-last h (u .on) b q) ∙ u .unmet));
+        }))
 
         by-event : (h : History) (e : Event) → Execution p 0 (e ∷ h) → Violates p (worldAfter p F h) e → ⊥
         by-event h e fr (inl u) = unmet h e fr u (lastAsserted p h (u .on)) refl
-        by-event h e fr (inr b) = c .no-clobber (b .on) (b .sign) (inl (record { history = h; event = e; execution = fr;
-            clobbers = incondition (b .who) (b .another) (b .holds) (b .runs) (b .breaks) }))
+        by-event h e fr (inr b) = c .no-clobber (b .on) (b .sign) (inl (record {
+          history = h;
+          event = e;
+          execution = fr;
+          clobbers = incondition (b .who) (b .another) (b .holds) (b .runs) (b .breaks);
+        }))
 
         -- listed tasks run at once; a hold that several finishes break, one of them breaks by itself
-        go : (h : History) (d : Call) → Execution p 0 h → EnabledCall p (statusAfter h) d → ViolatesCall p (worldAfter p
-            F h) d → ⊥
+        go : (h : History) (d : Call) → Execution p 0 h → EnabledCall p (statusAfter h) d
+            → ViolatesCall p (worldAfter p F h) d → ⊥
         go h (one e) f m b = by-event h e (one-more f m) b
         go h (together ts) f (r, m) (inl b) = c .no-clobber (b .on) (b .sign) (inr (record {
           who = b .who;
           other = b .other;
-          concurrent = at-once-concurrent p w (opposed-differ p (b .on) (b .who) (b .other) (b .sign) (b .leaves) (b
-              .opposes)) 0 (w .root-node) (record { history = h; execution = f; runs = finish-runs (m (b .who) (b
-              .listed)); runs-too = finish-runs (m (b .other) (b .other-listed)) });
+          concurrent = at-once-concurrent p w
+              (opposed-differ p (b .on) (b .who) (b .other) (b .sign) (b .leaves) (b .opposes)) 0 (w .root-node)
+              (record {
+                history = h;
+                execution = f;
+                runs = finish-runs (m (b .who) (b .listed));
+                runs-too = finish-runs (m (b .other) (b .other-listed));
+              });
           leaves = b .leaves;
           opposes = b .opposes;
         }))
-        go h (together ts) f (r, m) (inr x) = let (t, i, b) = (broken-unlisted p (worldAfter p F h) ts) .0 x in by-event
-            h (finish t) (one-more f (m t i)) (inr (b .0))
+        go h (together ts) f (r, m) (inr x) = let (t, i, b) = (broken-unlisted p (worldAfter p F h) ts) .0 x in
+            by-event h (finish t) (one-more f (m t i)) (inr (b .0))
 
     -- a literal that may fail does so in a violation
     pub may-fail-violates : (f : ℕ) (v : Bool) → MayFail p F f v → Violation p F
@@ -119,9 +132,10 @@ module _ (p : Plan) (F : ℕ → Bool) where
             inl (record { on = f; sign = v; needs = nd; unmet = flag-last h f (not v) sp })
         at {h} {e} (incondition t ne ho ru br) =
             inr (record { who = t; on = f; sign = v; another = ne; runs = ru; holds = ho; breaks = br })
-    may-fail-violates f v (inl (inr x)) = build (two-of (x .who) (x .other) (opposed-differ p f (x .who) (x .other) v (x
-        .leaves) (x .opposes))) (concurrent-at-once p w ((w .on-task post (x .who) f v (x .leaves)) .1) ((w .on-task
-        post (x .other) f (not v) (x .opposes)) .1) (x .concurrent))
+    may-fail-violates f v (inl (inr x)) = build
+        (two-of (x .who) (x .other) (opposed-differ p f (x .who) (x .other) v (x .leaves) (x .opposes)))
+        (concurrent-at-once p w ((w .on-task post (x .who) f v (x .leaves)) .1)
+        ((w .on-task post (x .other) f (not v) (x .opposes)) .1) (x .concurrent))
       where
         build : TwoOf (x .who) (x .other) → AtOnce p 0 (x .who) (x .other) → Violation p F
         build l a = record {
@@ -144,14 +158,21 @@ module _ (p : Plan) (F : ℕ → Bool) where
             runs : (t : ℕ) → (t ≡ x .who) ⊎ (t ≡ x .other) → statusAfter (a .history) t ≡ running
             runs t (inl q) = rw q (a .runs)
             runs t (inr q) = rw q (a .runs-too)
-    may-fail-violates f v (inr (q, m)) = let fr : Execution p 0 (m .holds .event ∷ m .holds .before) = earlier-execution
-        p w (m .holds .at) (m .completed .execution) in record { history = m .holds .before; call = one (m .holds
-        .event); execution = execution-tail p w fr; enabled = execution-last p w fr; violates = inl (record {
-        on = f;
-        sign = v;
-        needs = m .holds .needs;
-        unmet = flag-none (m .holds .before) f (m .holds .unasserted) ∙ q;
-      }); }
+    may-fail-violates f v (inr (q, m)) =
+        let fr : Execution p 0 (m .holds .event ∷ m .holds .before) =
+        earlier-execution p w (m .holds .at) (m .completed .execution) in
+        record {
+          history = m .holds .before;
+          call = one (m .holds .event);
+          execution = execution-tail p w fr;
+          enabled = execution-last p w fr;
+          violates = inl (record {
+            on = f;
+            sign = v;
+            needs = m .holds .needs;
+            unmet = flag-none (m .holds .before) f (m .holds .unasserted) ∙ q;
+          });
+        }
 
     pub decViolates : (a : World) (e : Event) → Dec (Violates p a e)
     decViolates a e = dec-or (decided (r-pre-unmet p w (a .flag) e)) (decided (r-inc-broken p w (a .status) e))

@@ -2,8 +2,7 @@
 use Rattle.runs.proofs.Base.{_≡_, refl, ap, _≢_, _⊎_, inl, inr, Bool, true, false, cond, [], _∷_, _++_, ℕ, T}
 use Rattle.runs.proofs.Base.{eqb, eqb→eq, eqb-refl}
 use Rattle.runs.specs.Execution.{waiting, State, Event, History, nodeOf, statusOf, moved, statusAfter, Earlier}
-use Rattle.runs.specs.Execution.{none-later}
-use Rattle.runs.specs.Execution.{one-later}
+use Rattle.runs.specs.Execution.{none-later, one-later}
 use Rattle.runs.specs.Classes.{All, all-nil, all-cons, Anything}
 use Rattle.runs.proofs.Reflect.{clash, T-true}
 

@@ -3,9 +3,8 @@
 use Rattle.runs.proofs.Base.{_≡_, sym, _∙_, _≢_, [], _∷_, ℕ, ℕ-discrete}
 use Rattle.runs.specs.Plan.{task, Moves, Plan, Node, Under, WellFormed}
 use Rattle.runs.specs.Execution.{Status, waiting, running, done, State, Event, start, finish, skip, History}
-use Rattle.runs.specs.Execution.{nodeOf}
-use Rattle.runs.specs.Execution.{statusAfter, Complete, Enabled}
-use Rattle.runs.specs.Execution.{can-finish, Execution, none-yet, one-more, Earlier, none-later, one-later}
+use Rattle.runs.specs.Execution.{nodeOf, statusAfter, Complete, Enabled, can-finish, Execution, none-yet}
+use Rattle.runs.specs.Execution.{one-more, Earlier, none-later, one-later}
 use Rattle.runs.proofs.Reflect.{clash}
 use Rattle.runs.proofs.Plan.{decUnder}
 use Rattle.runs.proofs.Execution.Histories.{after-nil, after-same, after-other}
@@ -62,10 +61,13 @@ module _ (p : Plan) (w : WellFormed p) where
       go (no k) = absurd (ne (execution-outside p w f x k))
 
   -- what runs can finish
-  pub running-finish : {n : ℕ} {h : History} → Execution p n h → (x : ℕ) → statusAfter h x ≡ running → Enabled p n
-      (statusAfter h) (finish x)
-  running-finish f x q = can-finish record { is-task = running-task f x q; beneath = moved-under f x (running-moved q);
-      runs = q }
+  pub running-finish : {n : ℕ} {h : History} → Execution p n h → (x : ℕ) → statusAfter h x ≡ running
+      → Enabled p n (statusAfter h) (finish x)
+  running-finish f x q = can-finish record {
+    is-task = running-task f x q;
+    beneath = moved-under f x (running-moved q);
+    runs = q;
+  }
 
   -- nothing runs under a complete node
   pub none-runs : {n : ℕ} {h : History} → Node p n → Execution p n h → Complete p (statusAfter h) n → (x : ℕ)

@@ -43,11 +43,13 @@ module _ (p : Plan) (w : WellFormed p) where
       harmless (precondition nd sp) = clash cc
       harmless (incondition t ne ho ru br) = clash cc
 
-      in-run : (x : Clobbered p f v n) → OneOf p w n (x .event ∷ x .history) → (c : ℕ) × Child p n c × MayClobber p f v
-          c
+      in-run : (x : Clobbered p f v n) → OneOf p w n (x .event ∷ x .history)
+          → (c : ℕ) × Child p n c × MayClobber p f v c
       in-run x (through c hc g) = (
         c,
-        hc, inl (record { history = x .history; event = x .event; execution = g; clobbers = x .clobbers }))
+        hc,
+        inl (record { history = x .history; event = x .event; execution = g; clobbers = x .clobbers }),
+      )
       in-run x (skipped kn q) = let z : x .event ≡ skip n = cc in absurd (harmless (rw z at (x .clobbers)))
 
       in-branch : OpposedParts p w f v n → (c : ℕ) × Child p n c × MayClobber p f v c

@@ -192,5 +192,10 @@ module _ (p : Plan) (w : WellFormed p) where
     -- doom implies may clash
     pub must-clobber-may : {n : ℕ} → Node p n → MustClobber p f v n → MayClobber p f v n
     must-clobber-may {n} l d = let (h, x) = completed-execution p w n l in let y : Fails p f v h = must-clobber-fails d
-        h x in inl (record { history = y .before; event = y .event; execution = earlier-execution p w (y .at) (x
-        .execution); clobbers = precondition (y .needs) (y .opposed); })
+        h x in inl (record {
+          history = y .before;
+          event = y .event;
+          execution = earlier-execution p w (y .at)
+              (x .execution);
+          clobbers = precondition (y .needs) (y .opposed);
+        })

@@ -5,15 +5,13 @@ use Rattle.runs.specs.Plan.{pre, post}
 use Rattle.runs.specs.Execution.{running, Event, start, finish, skip, History, nodeOf, statusAfter, Execution}
 use Rattle.runs.specs.Execution.{preOf, asserts, lastAsserted}
 use Rattle.runs.specs.Summary.{Clobbers, precondition, incondition, Opposed, TaskWith, ClobberByPairs, in-child}
-use Rattle.runs.specs.Summary.{unordered-pair, opposed-pair}
-use Rattle.runs.specs.Summary.{passed-on, MayClobber}
+use Rattle.runs.specs.Summary.{unordered-pair, opposed-pair, passed-on, MayClobber}
 use Rattle.runs.proofs.Reflect.{clash}
 use Rattle.runs.proofs.Plan.{child-under, Branch, one-branch, before-irrefl, Standing, same, earlier}
 use Rattle.runs.proofs.Plan.{later, unordered, standing}
 use Rattle.runs.specs.Classes.{All, Unasserted, here}
 use Rattle.runs.proofs.Execution.{earlier-append, OfKind, enabled-of-kind, branch-of, part, part-in, part-out}
-use Rattle.runs.proofs.Execution.{after-part, part-execution}
-use Rattle.runs.proofs.Execution.{execution-tail, execution-last, earlier-execution}
+use Rattle.runs.proofs.Execution.{after-part, part-execution, execution-tail, execution-last, earlier-execution}
 use Rattle.runs.proofs.Execution.{part-append, part-all, apart, completed-before, running-task}
 use Rattle.runs.proofs.Summary.Concurrent.{Placed, under-one, under-two, overlap, placed}
 use Rattle.runs.proofs.Summary.Events.{all-unasserted}
@@ -24,15 +22,13 @@ use Rattle.runs.proofs.Summary.Preconditions.{may-pre-is-meet}
 module _ (p : Plan) (w : WellFormed p) where
   -- what an event needs, its task needs
   pub need-of : {f : ℕ} {v : Bool} (d : ℕ) (e : Event) → OfKind p e → Under p d (nodeOf e)
-      → preOf (p .cond) e f ≡ some v
-      → TaskWith p pre inc f v d
+      → preOf (p .cond) e f ≡ some v → TaskWith p pre inc f v d
   need-of d (start t) k u q = record { who = t; is-task = k; beneath = u; has = inl q }
   need-of d (finish t) k u q = clash cc
   need-of d (skip g) k u q = clash cc
 
   -- what an event asserts, its task holds or leaves
-  pub assertion-of : {f : ℕ} {v : Bool} (d : ℕ) (e : Event) → OfKind p e → Under p d (nodeOf e)
-      → asserts p e f ≡ some v
+  pub assertion-of : {f : ℕ} {v : Bool} (d : ℕ) (e : Event) → OfKind p e → Under p d (nodeOf e) → asserts p e f ≡ some v
       → TaskWith p inc post f v d
   assertion-of d (start t) k u q = record { who = t; is-task = k; beneath = u; has = inl q }
   assertion-of d (finish t) k u q = record { who = t; is-task = k; beneath = u; has = inr q }
@@ -50,10 +46,15 @@ module _ (p : Plan) (w : WellFormed p) where
       leaver c t u b q = record { who = t; is-task = (w .on-task post t f u q) .1; beneath = b; has = inl q }
 
       at : Concurrent p (x .who) (x .other) n → OpposedParts f v n
-      at (at-group k c d hc hd un ut uu) = two-children k (opposed-pair c d hc hd un (leaver c (x .who) v ut (x
-          .leaves)) (leaver d (x .other) (not v) uu (x .opposes)))
-      at (deeper c hc y) = one-child c hc (record { who = x .who; other = x .other; concurrent = y; leaves = x .leaves;
-          opposes = x .opposes })
+      at (at-group k c d hc hd un ut uu) = two-children k
+          (opposed-pair c d hc hd un (leaver c (x .who) v ut (x .leaves)) (leaver d (x .other) (not v) uu (x .opposes)))
+      at (deeper c hc y) = one-child c hc (record {
+        who = x .who;
+        other = x .other;
+        concurrent = y;
+        leaves = x .leaves;
+        opposes = x .opposes;
+      })
 
   module _ {n : ℕ} (kn : p .tree .kind n ≡ all-of) (f : ℕ) (v : Bool) where
     -- d before b, an event under d: nothing under b has happened
@@ -144,9 +145,12 @@ module _ (p : Plan) (w : WellFormed p) where
           clobbers = incondition t other ho (after-part p w c h t ut ∙ ru) br;
           execution = rw (part-in p w c e h ue) at (part-execution p w (child-under p hc) fr);
         }))
-        at (under-two c d hc hd un ut ue) = unordered-pair c d hc hd un (record { who = t; is-task = running-task p w
-            (execution-tail p w fr) t ru; beneath = ut; has = inr ho }) (assertion-of d e (enabled-of-kind p
-            (execution-last p w fr)) ue br)
+        at (under-two c d hc hd un ut ue) = unordered-pair c d hc hd un (record {
+          who = t;
+          is-task = running-task p w (execution-tail p w fr) t ru;
+          beneath = ut;
+          has = inr ho;
+        }) (assertion-of d e (enabled-of-kind p (execution-last p w fr)) ue br)
 
     -- an all-of group that may clobber has a pair
     pub clobber-to-pairs : MayClobber p f v n → ClobberByPairs p f v n

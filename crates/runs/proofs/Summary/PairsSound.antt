@@ -4,13 +4,11 @@ use Rattle.runs.specs.Plan.{all-of, pre, inc, post, Plan, Child, Under, 
 use Rattle.runs.specs.Plan.{WellFormed}
 use Rattle.runs.specs.Execution.{Event, start, finish, History, nodeOf, Execution, asserts, lastAsserted}
 use Rattle.runs.specs.Summary.{Clobbers, precondition, incondition, Clobbered, MayClobber, TaskWith, May}
-use Rattle.runs.specs.Summary.{ExternalPre}
-use Rattle.runs.specs.Summary.{ExternalPost}
+use Rattle.runs.specs.Summary.{ExternalPre, ExternalPost}
 use Rattle.runs.proofs.Plan.{one-branch, before-irrefl, decBefore}
 use Rattle.runs.specs.Classes.{Unasserted, Asserts, PreOn, MayMeet, here}
 use Rattle.runs.proofs.Execution.{after-same, earlier-append, enabled-under, execution-tail, execution-last}
-use Rattle.runs.proofs.Execution.{earlier-execution, complete-stays, extend}
-use Rattle.runs.proofs.Execution.{running-moved, moved-under}
+use Rattle.runs.proofs.Execution.{earlier-execution, complete-stays, extend, running-moved, moved-under}
 use Rattle.runs.proofs.Summary.Concurrent.{Opened, opened, BothReady, both-ready, both-go, still-c, runs-c}
 use Rattle.runs.proofs.Summary.Last.{ending, Ending, last-past, last-over}
 use Rattle.runs.proofs.Summary.Postconditions.{last-some, some-last, may-post-is-last, avoid-is-quiet}
@@ -20,8 +18,13 @@ use Rattle.runs.proofs.Summary.Reach.{reached}
 module _ (p : Plan) (w : WellFormed p) where
   -- a child that may clobber, whatever the kind of its parent
   pub in-child-clobbers : {n : ℕ} (f : ℕ) (v : Bool) (c : ℕ) → Child p n c → MayClobber p f v c → MayClobber p f v n
-  in-child-clobbers f v c hc (inr x) = inr (record { who = x .who; other = x .other; concurrent = deeper c hc (x
-      .concurrent); leaves = x .leaves; opposes = x .opposes })
+  in-child-clobbers f v c hc (inr x) = inr (record {
+    who = x .who;
+    other = x .other;
+    concurrent = deeper c hc (x .concurrent);
+    leaves = x .leaves;
+    opposes = x .opposes;
+  })
   in-child-clobbers {n} f v c hc (inl x) = build (opened p w hc)
     where
       build : Opened p w n c → MayClobber p f v n
@@ -32,12 +35,12 @@ module _ (p : Plan) (w : WellFormed p) where
         clobbers = at (x .history) (x .event) (x .execution) (x .clobbers);
       })
         where
-          at : (g : History) (e : Event) → Execution p c (e ∷ g) → Clobbers p f v g e → Clobbers p f v (g ++ o .before)
-              e
-          at g e fr (precondition nd sp) = precondition nd (last-some p f (last-over (o .before) (some-last p f (not v)
-              g sp)))
-          at g e fr (incondition t ne ho ru br) = incondition t ne ho (o .same g t (moved-under p w (execution-tail p w
-              fr) t (running-moved ru)) ∙ ru) br
+          at : (g : History) (e : Event) → Execution p c (e ∷ g) → Clobbers p f v g e
+              → Clobbers p f v (g ++ o .before) e
+          at g e fr (precondition nd sp) = precondition nd
+              (last-some p f (last-over (o .before) (some-last p f (not v) g sp)))
+          at g e fr (incondition t ne ho ru br) = incondition t ne ho
+              (o .same g t (moved-under p w (execution-tail p w fr) t (running-moved ru)) ∙ ru) br
 
   module _ {n : ℕ} (kn : p .tree .kind n ≡ all-of) (f : ℕ) (v : Bool) where
     module _ (c d : ℕ) (hc : Child p n c) (hd : Child p n d) (un : Unordered p c d) where
@@ -51,10 +54,10 @@ module _ (p : Plan) (w : WellFormed p) where
             history = (e ∷ r₂) ++ (r₁ ++ u .h);
             event = start t;
             clobbers = precondition nd (last-some p f (here wr));
-            execution = extend p w (start t ∷ []) ((e ∷ r₂) ++ (r₁ ++ u .h)) kn hc (λ a ha o. complete-stays p w (e ∷
-                r₂) (r₁ ++ u .h) two (complete-stays p w r₁ (u .h) (earlier-execution p w (earlier-append (e ∷ r₂) (r₁
-                ++ u .h)) two) (u .done-c a ha o))) two (rw (still-c p w kn c d hc hd un u r₁ (e ∷ r₂) (execution-tail p
-                w f₁) f₂) f₁);
+            execution = extend p w (start t ∷ []) ((e ∷ r₂) ++ (r₁ ++ u .h)) kn hc
+                (λ a ha o. complete-stays p w (e ∷ r₂) (r₁ ++ u .h) two
+                (complete-stays p w r₁ (u .h) (earlier-execution p w (earlier-append (e ∷ r₂) (r₁ ++ u .h)) two)
+                (u .done-c a ha o))) two (rw (still-c p w kn c d hc hd un u r₁ (e ∷ r₂) (execution-tail p w f₁) f₂) f₁);
           }
             where
               two : Execution p n ((e ∷ r₂) ++ (r₁ ++ u .h))
@@ -76,8 +79,9 @@ module _ (p : Plan) (w : WellFormed p) where
             history = r₂ ++ ((start t ∷ r₁) ++ u .h);
             event = e;
             execution = both-go p w kn c d hc hd un u (start t ∷ r₁) (e ∷ r₂) f₁ f₂;
-            clobbers = incondition t (λ q. un .distinct (one-branch p w hc hd (rw (← q) at ut) ue)) ho (runs-c p w kn c
-                d hc hd un u (start t ∷ r₁) r₂ f₁ (execution-tail p w f₂) t ut (after-same (start t) r₁)) wr;
+            clobbers = incondition t (λ q. un .distinct (one-branch p w hc hd (rw (← q) at ut) ue)) ho
+                (runs-c p w kn c d hc hd un u (start t ∷ r₁) r₂ f₁ (execution-tail p w f₂) t ut
+                (after-same (start t) r₁)) wr;
           }
 
       -- a task under a child starts; an event of a task under a child asserts what the task holds or leaves

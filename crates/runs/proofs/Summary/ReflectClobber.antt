@@ -10,8 +10,7 @@ use Rattle.runs.specs.Summary.{passed-on, Silent, MustClobber, by-any-of
 use Rattle.runs.specs.Model.Marks.{conditionB, silentB, avoidedB, pairB, mayClobberIn, mayClobberB, aloneB}
 use Rattle.runs.specs.Model.Marks.{undisturbedB, mustClobberIn, mustClobberB}
 use Rattle.runs.proofs.Reflect.{clash, Reflects, r-map, decided, r-false, r-both, r-either, r-implies, r-negate}
-use Rattle.runs.proofs.Reflect.{r-eq}
-use Rattle.runs.proofs.Reflect.{r-none, r-some}
+use Rattle.runs.proofs.Reflect.{r-eq, r-none, r-some}
 use Rattle.runs.proofs.Plan.{child-lt, r-by-kind, r-some-child, r-every-child, r-some-task, r-before}
 use Rattle.runs.proofs.Plan.{r-unordered}
 use Rattle.runs.proofs.Summary.Clobber.{clobber-all, clobber-any, clobber-optional, clobber-task}
@@ -55,19 +54,23 @@ module _ (p : Plan) (w : WellFormed p) where
   module _ (f : ℕ) (v : Bool) where
     -- 01's pair of children c and d, with 02's
     abbrev Pair : ℕ → ℕ → ℕ → Type 0
-    Pair n c d = (Unordered p c d × ((TaskWith p pre inc f v c × TaskWith p inc post f (not v) d) ⊎ (TaskWith p post
-        post f v c × TaskWith p post post f (not v) d))) ⊎ (Before p d c × (May p d (ExternalPost p f (not v)) × (May p
-        c (ExternalPre p f v) × ((b : ℕ) → Child p n b → Before p d b → Before p b c → May p b (λ h. lastAsserted p h f
-        ≡ none)))))
+    Pair n c d = (Unordered p c d × ((TaskWith p pre inc f v c × TaskWith p inc post f (not v) d)
+        ⊎ (TaskWith p post post f v c × TaskWith p post post f (not v) d)))
+        ⊎ (Before p d c × (May p d (ExternalPost p f (not v))
+        × (May p c (ExternalPre p f v) × ((b : ℕ) → Child p n b → Before p d b → Before p b c
+        → May p b (λ h. lastAsserted p h f ≡ none)))))
 
     r-pair : {n c d : ℕ} → Child p n c → Child p n d → Reflects (pairB p n f v c d) (Pair n c d)
     unfolding pairB avoidedB
-    r-pair {n} {c} {d} hc hd = r-either _ _ (r-both _ _ (r-unordered p w c d) (r-either _ _ (r-both _ _ (r-condition pre
-        inc f v c (hc .node)) (r-condition inc post f (not v) d (hd .node))) (r-both _ _ (r-condition post post f v c
-        (hc .node)) (r-condition post post f (not v) d (hd .node))))) (r-both _ _ (r-before p w d c) (r-both _ _
-        (r-may-post p w d f (hd .node) (not v)) (r-both _ _ (r-may-pre p w c f (hc .node) v) (r-every-child p w (λ b.
-        Before p d b → Before p b c → May p b (λ h. lastAsserted p h f ≡ none)) _ (λ b hb. r-implies _ _ (r-before p w d
-        b) (λ x. r-implies _ _ (r-before p w b c) (λ y. r-avoid p w b f (hb .node))))))))
+    r-pair {n} {c} {d} hc hd = r-either _ _
+        (r-both _ _ (r-unordered p w c d)
+        (r-either _ _ (r-both _ _ (r-condition pre inc f v c (hc .node)) (r-condition inc post f (not v) d (hd .node)))
+        (r-both _ _ (r-condition post post f v c (hc .node)) (r-condition post post f (not v) d (hd .node)))))
+        (r-both _ _ (r-before p w d c) (r-both _ _ (r-may-post p w d f (hd .node) (not v))
+        (r-both _ _ (r-may-pre p w c f (hc .node) v)
+        (r-every-child p w (λ b. Before p d b → Before p b c → May p b (λ h. lastAsserted p h f ≡ none)) _
+        (λ b hb. r-implies _ _ (r-before p w d b)
+        (λ x. r-implies _ _ (r-before p w b c) (λ y. r-avoid p w b f (hb .node))))))))
 
     abbrev SomePair : ℕ → Type 0
     SomePair n = ((c : ℕ) × Child p n c × MayClobber p f v c)
