@@ -5,7 +5,7 @@ use Rattle.runs.specs.Plan.{any-of, optional, Picks, Moves, inc, post, P
 use Rattle.runs.specs.Execution.{Status, waiting, running, done, State, Event, start, finish, skip, nodeOf}
 use Rattle.runs.specs.Execution.{task-done, all-done, any-done, skip-done}
 use Rattle.runs.specs.Execution.{Complete, Begun, Rival, by-branch, by-skip, preOf, asserts}
-use Rattle.runs.specs.Calls.{Call, one, together, finishes, SomeOf, World, happenAll, Refusal, no-task}
+use Rattle.runs.specs.Calls.{Call, one, together, SomeOf, World, Refusal, no-task}
 use Rattle.runs.specs.Calls.{wrong-status, branch-begun, order-open, pre-unmet, inc-broken, not-rising}
 use Rattle.runs.specs.Calls.{post-opposed, no-optional, Task, Optional, WrongStatus, BranchBegun, OrderOpen}
 use Rattle.runs.specs.Calls.{PreUnmet, IncBroken, PostOpposed, Applies}
@@ -225,8 +225,7 @@ module _ (p : Plan) (w : WellFormed p) where
   r-applies a (together ts) branch-begun = r-false (λ x. x)
   r-applies a (together ts) order-open = r-false (λ x. x)
   r-applies a (together ts) pre-unmet = r-false (λ x. x)
-  r-applies a (together ts) inc-broken = r-some-of _ ts _ (λ t. r-inc-broken (happenAll p a (finishes ts) .status)
-      (finish t))
+  r-applies a (together ts) inc-broken = r-some-of _ ts _ (λ t. r-inc-broken _ (finish t))
   r-applies a (together ts) no-optional = r-false (λ x. x)
   r-applies a (together ts) not-rising = r-not-rising ts
   r-applies a (together ts) post-opposed = r-post-opposed ts
