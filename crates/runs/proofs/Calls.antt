@@ -4,6 +4,7 @@ pub mod Reflect
 pub mod First
 pub mod Together
 pub mod Violation
+pub mod Alone
 pub mod Accepted
 pub mod Rows
 pub mod Lists

@@ -1,12 +1,13 @@
 -- Plans without optional groups, those of 01: their free runs, whole free runs and refusals are the ones that 01
--- defines without 02's skips, and a skip call changes nothing.
-use Rattle.runs.proofs.Base.{_≡_, refl, sym, _≢_, inl, inr, _↔_, [], _∷_, ℕ, T}
-use Rattle.runs.specs.Plan.{Kind, task, all-of, any-of, optional, Moves, Plan, Node, Child, Under}
+-- defines without 02's skips, and a skip call changes nothing. Where nothing is left opposite ways, mark 6 is 01's.
+use Rattle.runs.proofs.Base.{_≡_, refl, sym, _≢_, inl, inr, _↔_, Bool, not, some, [], _∷_, ℕ, T}
+use Rattle.runs.specs.Plan.{Kind, task, all-of, any-of, optional, Moves, post, Plan, Node, Child, Under}
 use Rattle.runs.specs.Plan.{WellFormed}
 use Rattle.runs.specs.Execution.{waiting, running, done, State, Event, start, finish, skip, History, statusAfter}
 use Rattle.runs.specs.Execution.{task-done, all-done, any-done, skip-done, Complete, Begun, Rival, by-branch}
 use Rattle.runs.specs.Execution.{by-skip, Ready, Enabled, can-start, can-finish, can-skip, Execution, none-yet}
 use Rattle.runs.specs.Execution.{one-more, Completed}
+use Rattle.runs.specs.Summary.{Clobbered, MayClobber}
 use Rattle.runs.specs.Calls.{one, World, BranchBegun, OrderOpen, Answered, accepted, refused}
 use Rattle.runs.proofs.Plan.{under-node, child-parent}
 use Rattle.runs.proofs.Execution.{picks-any, picks-other}
@@ -173,3 +174,13 @@ module _ (p : Plan) (w : WellFormed p) (plain : Plain p) where
   plain-skip {g = g} (accepted x) = absurd (x .0 (λ o. plain g (o .node) (o .is-optional)))
   plain-skip {g = g} (refused r (inl (e, x))) = (rw (sym e), refl)
   plain-skip {g = g} (refused r (inr (x, y))) = absurd (x (λ o. plain g (o .node) (o .is-optional)))
+
+-- ---- where no two tasks leave a flag opposite ways, mark 6 is 01's: a clash in some free run
+pub plain-clobber : (p : Plan) {n f : ℕ} {v : Bool}
+    → ((t u : ℕ) → p .cond .sign post t f ≡ some v → p .cond .sign post u f ≢ some (not v))
+    → MayClobber p f v n ↔ Clobbered p f v n
+plain-clobber p {n} {f} {v} k = (to, inl)
+  where
+    to : MayClobber p f v n → Clobbered p f v n
+    to (inl x) = x
+    to (inr x) = absurd (k (x .who) (x .other) (x .leaves) (x .opposes))
