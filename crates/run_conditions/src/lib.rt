@@ -39,7 +39,10 @@ fn is_of(plan: &[u8], place: u16, tasks: &[u8; 128], i: usize) -> bool
     ensures { λ r. ⌜ r ≡ isOf (now (plan .entry)) place (marked (now (tasks .entry))) i ⌝ }
 {
     let node = wide(condition_node(plan, i));
-    (tasks[node] == 1) & is_at(plan, place, i)
+    if tasks[node] != 1 {
+        return false;
+    }
+    is_at(plan, place, i)
 }
 
 // The flag of condition i.
@@ -86,7 +89,10 @@ fn unmet_at(plan: &[u8], place: u16, tasks: &[u8; 128], flags: Flags, i: usize) 
     requires { ⌜ (i < condCount (now plan)) × (refusal (now plan) ≡ 0) ⌝ }
     ensures { λ r. ⌜ r ≡ unmetAt (now (plan .entry)) place (marked (now (tasks .entry))) (flags .bytes) i ⌝ }
 {
-    is_of(plan, place, tasks, i) & differs(set_at(plan, i), flags.has(flag_at(plan, i)))
+    if !is_of(plan, place, tasks, i) {
+        return false;
+    }
+    differs(set_at(plan, i), flags.has(flag_at(plan, i)))
 }
 
 // The flags do not meet some condition of a marked task at the place: 21 for the preconditions before a start, 26 for

@@ -35,7 +35,8 @@ module _ (p : Plan) (w : WellFormed p) (a : World) (t : ℕ) where
   breaks : Applies p a (together (t ∷ [])) inc-broken ↔ IncBroken p (a .status) (finish t)
   breaks = (
     λ x. let (u, i, b) = (broken-unlisted p a (t ∷ [])) .0 x in rw (sole (among-cases i)) at (b .0),
-    λ b. (broken-unlisted p a (t ∷ [])) .1 (t, here refl, (b, λ i. b .another (sym (sole (among-cases i))))),
+    λ b. (broken-unlisted p a (t ∷ [])) .1
+        (t, here refl, (b, λ i. b .another (sym (sole (among-cases i))))),
   )
 
   -- the checks of the list are those of the finish, and two that do not apply
