@@ -1,18 +1,20 @@
 -- The laws of `replay`: a list is made call by call, and the claim about lists holds of what was made. Assumes nothing.
 use mathlib.Core.Path.{_≡_, refl, sym, ap, _∙_}
+use mathlib.Core.Logic.{by-cases}
 use mathlib.Core.List.{List, [], _∷_, _++_, append-assoc}
-use Prim.Native.Nat.{ℕ, zero, suc, _+_, _*_, _<_, _≤_, min}
+use Prim.Native.Nat.{ℕ, zero, suc, _+_, _*_, _-_, _<_, _≤_, min}
 use native.Mathlib.Numerals.{add-one}
 use native.Mathlib.Nat.{le-of-suc-le-suc, not-suc-le-zero}
+use native.Mathlib.Decide.{decLt}
 use native.Mathlib.Omega.{arith}
 use lib.ListN.{length, getD, set, take, drop, length-append, length-drop}
-use lib.Seq.{take-suc, drop-cons, set-at}
+use lib.Seq.{take-all, take-length, take-suc, drop-cons, set-at}
 use borrow.Author.Tests.{ne-eqb}
 use Rattle.base.specs.Answers.{overlay}
 use Rattle.plan_format.specs.Format.{nodeCount}
 use Rattle.plan_check.specs.Meaning.{planOf}
 use Rattle.runs.specs.Execution.{start}
-use Rattle.runs.specs.Calls.{Call, one, World}
+use Rattle.runs.specs.Calls.{Call, one, together, World}
 use Rattle.runs.specs.Model.Monitor.{returns}
 use Rattle.runs.proofs.Calls.First.{worked-only}
 use Rattle.run_state.specs.Fresh.{Freshened}
@@ -22,26 +24,49 @@ use Rattle.run_monitor.specs.Events.{Called}
 use Rattle.run_calls.specs.Shown.{shownByte}
 use Rattle.run_calls.specs.Lists.{Calls, no-calls, next-call, Listed}
 use Rattle.run_calls.specs.Demand3.{Bytes}
-use Rattle.run_calls.specs.Replay.{eventFor, callsOf, listReturns, listState, Ran}
+use Rattle.run_calls.specs.Replay.{callFor, callsOf, listReturns, listState, Ran}
 use Rattle.run_calls.proofs.Followed.{calls-append, list-follows}
 
 -- ---- the calls of the slices
-pub calls-length : (ks ts out : List ℕ)
-    → length (callsOf ks ts out) ≡ min (length ks) (min (length ts) (length out))
+pub calls-length : (ks ns es ts out : List ℕ)
+    → length (callsOf ks ns es ts out) ≡ min (length ks) (min (length ns) (min (length es) (length out)))
 unfolding callsOf
-calls-length [] ts out = omega arith
-calls-length (k ∷ ks) [] out = omega arith
-calls-length (k ∷ ks) (t ∷ ts) [] = omega arith
-calls-length (k ∷ ks) (t ∷ ts) (x ∷ out) = omega (arith, calls-length ks ts out)
+calls-length [] ns es ts out = omega arith
+calls-length (k ∷ ks) [] es ts out = omega arith
+calls-length (k ∷ ks) (n ∷ ns) [] ts out = omega arith
+calls-length (k ∷ ks) (n ∷ ns) (e ∷ es) ts [] = omega arith
+calls-length (k ∷ ks) (n ∷ ns) (e ∷ es) ts (x ∷ out) = omega (arith, calls-length ks ns es ts out)
 
-pub calls-at : (ks ts out : List ℕ) (i : ℕ) → i < length (callsOf ks ts out)
-    → getD (callsOf ks ts out) i (one (start 0)) ≡ one (eventFor (getD ks i 0) (getD ts i 0))
+pub calls-at : (ks ns es ts out : List ℕ) (i : ℕ) → i < length (callsOf ks ns es ts out)
+    → getD (callsOf ks ns es ts out) i (one (start 0)) ≡ callFor (getD ks i 0) (getD ns i 0) (getD es i 0) ts
 unfolding callsOf
-calls-at [] ts out i l = absurd (not-suc-le-zero l)
-calls-at (k ∷ ks) [] out i l = absurd (not-suc-le-zero l)
-calls-at (k ∷ ks) (t ∷ ts) [] i l = absurd (not-suc-le-zero l)
-calls-at (k ∷ ks) (t ∷ ts) (x ∷ out) zero l = refl
-calls-at (k ∷ ks) (t ∷ ts) (x ∷ out) (suc i) l = calls-at ks ts out i (le-of-suc-le-suc l)
+calls-at [] ns es ts out i l = absurd (not-suc-le-zero l)
+calls-at (k ∷ ks) [] es ts out i l = absurd (not-suc-le-zero l)
+calls-at (k ∷ ks) (n ∷ ns) [] ts out i l = absurd (not-suc-le-zero l)
+calls-at (k ∷ ks) (n ∷ ns) (e ∷ es) ts [] i l = absurd (not-suc-le-zero l)
+calls-at (k ∷ ks) (n ∷ ns) (e ∷ es) ts (x ∷ out) zero l = refl
+calls-at (k ∷ ks) (n ∷ ns) (e ∷ es) ts (x ∷ out) (suc i) l = calls-at ks ns es ts out i (le-of-suc-le-suc l)
+
+-- ---- the tasks that one call finishes together
+take-least : (k : ℕ) (l : List ℕ) → take (min k (length l)) l ≡ take k l
+take-least k l =
+    by-cases (decLt k (length l)) (λ (a : k < length l). let q : min k (length l) ≡ k = omega arith in rw q)
+    (λ a. let q : min k (length l) ≡ length l = omega arith in rw q (take-length l ∙ sym (take-all k l (omega arith))))
+
+-- the part from a up to f, where f is e or the length if that is less, and a is n or f, is that from n up to e
+part-is : (ts : List ℕ) (n e f a : ℕ) → f ≡ min e (length ts) → a ≡ min n f
+    → take (f - a) (drop a ts) ≡ take (e - n) (drop n ts)
+part-is ts n e f a p q =
+    let t = take-least (e - n) (drop n ts) in
+    let m : f - a ≡ min (e - n) (length (drop n ts)) = omega (arith, length-drop n ts) in
+    by-cases (decLt f n)
+    (λ (l : f < n). let z : f - a ≡ 0 = omega arith in rw z (rw (sym m ∙ z) at t))
+    (λ l. let y : a ≡ n = omega arith in
+    ap (λ (k : ℕ). take (f - a) (drop k ts)) y ∙ ap (λ (k : ℕ). take k (drop n ts)) m ∙ t)
+
+pub called-part : {b s s′ : List ℕ} {r : ℕ} (ts : List ℕ) (n e f a : ℕ) → f ≡ min e (length ts) → a ≡ min n f
+    → Called b s (together (take (f - a) (drop a ts))) r s′ → Called b s (together (take (e - n) (drop n ts))) r s′
+called-part ts n e f a p q h = rw (part-is ts n e f a p q) at h
 
 -- ---- one call more
 -- the first i calls are made, from the state that fresh wrote, and their returns are written to out

@@ -1,31 +1,36 @@
 -- What `replay` returns and leaves: it makes fresh and then a list of calls.
-use Prim.Native.Nat.{ℕ, _+_, _*_}
+use Prim.Native.Nat.{ℕ, _+_, _*_, _-_}
 use mathlib.Core.Path.{_≡_}
 use mathlib.Core.Bool.{cond}
 use mathlib.Core.List.{List, [], _∷_, _++_}
-use lib.ListN.{length, drop}
+use lib.ListN.{length, take, drop}
 use lib.Dec.{eqb}
 use Rattle.base.specs.Answers.{overlay}
 use Rattle.plan_format.specs.Format.{nodeCount}
 use Rattle.plan_check.specs.Meaning.{planOf, startOf}
-use Rattle.runs.specs.Execution.{Event, start, finish, skip}
-use Rattle.runs.specs.Calls.{Call, one, fresh}
+use Rattle.runs.specs.Execution.{start, finish, skip}
+use Rattle.runs.specs.Calls.{Call, one, together, fresh}
 use Rattle.runs.specs.Model.Monitor.{returns, states}
 use Rattle.run_state.specs.State.{roomRefusal}
 use Rattle.run_calls.specs.Shown.{shownByte}
 use Rattle.run_calls.specs.Lists.{Listed}
 use Rattle.run_calls.specs.Demand3.{Follows}
 
--- the event of a code: 0 start, 1 finish, another number skip
-unfoldable pub eventFor : ℕ → ℕ → Event
-eventFor k n = cond (eqb k 0) (start n) (cond (eqb k 1) (finish n) (skip n))
+-- the call of a code: 0 starts the node n, 1 finishes it, 2 skips it, another number finishes together the tasks of ts
+-- from position n up to position e, as far as ts has them
+unfoldable pub callFor : ℕ → ℕ → ℕ → List ℕ → Call
+callFor k n e ts =
+    cond (eqb k 0) (one (start n))
+    (cond (eqb k 1) (one (finish n)) (cond (eqb k 2) (one (skip n)) (together (take (e - n) (drop n ts)))))
 
--- the calls that the slices give, as many as all three have: a code, a node, room for the return
-unfoldable pub callsOf : List ℕ → List ℕ → List ℕ → List Call
-callsOf [] ns out = []
-callsOf (k ∷ ks) [] out = []
-callsOf (k ∷ ks) (n ∷ ns) [] = []
-callsOf (k ∷ ks) (n ∷ ns) (x ∷ out) = one (eventFor k n) ∷ callsOf ks ns out
+-- the calls that the slices give, as many as all four have: a code, a node, an end, room for the return; the tasks are
+-- the same for all
+unfoldable pub callsOf : List ℕ → List ℕ → List ℕ → List ℕ → List ℕ → List Call
+callsOf [] ns es ts out = []
+callsOf (k ∷ ks) [] es ts out = []
+callsOf (k ∷ ks) (n ∷ ns) [] ts out = []
+callsOf (k ∷ ks) (n ∷ ns) (e ∷ es) ts [] = []
+callsOf (k ∷ ks) (n ∷ ns) (e ∷ es) ts (x ∷ out) = callFor k n e ts ∷ callsOf ks ns es ts out
 
 -- from the plan and the calls alone: what the calls return, and the state after them in the bytes s
 unfoldable pub listReturns : List ℕ → List Call → List ℕ
@@ -44,5 +49,5 @@ pub record Ran (b s out : List ℕ) (cs : List Call) (r : ℕ) (s′ out′ : Li
   pub listed : r ≡ 0 → Listed b s cs (listReturns b cs) s′
   pub follows : r ≡ 0 → Follows b s cs (listReturns b cs) s′
 
-abbrev pub Replayed : List ℕ → List ℕ → List ℕ → List ℕ → List ℕ → ℕ → List ℕ → List ℕ → Type 0
-Replayed b ks ns s out r s′ out′ = Ran b s out (callsOf ks ns out) r s′ out′
+abbrev pub Replayed : List ℕ → List ℕ → List ℕ → List ℕ → List ℕ → List ℕ → List ℕ → ℕ → List ℕ → List ℕ → Type 0
+Replayed b ks ns es ts s out r s′ out′ = Ran b s out (callsOf ks ns es ts out) r s′ out′

@@ -1,13 +1,16 @@
-// Lists of start, finish and skip calls on one plan: demand 3 over bytes, and a function that makes such a list.
+// Lists of start, finish, skip and finish-together calls on one plan: demand 3 over bytes, and a function that makes
+// such a list.
 use run_monitor::finish;
+use run_monitor::finish_together;
 use run_monitor::skip;
 use run_monitor::start;
 use run_state::fresh;
 ghost use mathlib.Core.Path.{_≡_};
-ghost use Prim.Native.Nat.{min};
-ghost use Rattle.runs.specs.Calls.{one};
+ghost use Prim.Native.Nat.{_-_, min};
+ghost use lib.ListN.{take, drop};
+ghost use Rattle.runs.specs.Calls.{together};
 ghost use Rattle.run_monitor.specs.Events.{Called};
-ghost use Rattle.run_calls.specs.Replay.{eventFor, Replayed};
+ghost use Rattle.run_calls.specs.Replay.{callFor, Replayed};
 
 fn least(a: usize, b: usize) -> usize
     ensures { λ r. ⌜ r ≡ min a b ⌝ }
@@ -15,9 +18,20 @@ fn least(a: usize, b: usize) -> usize
     if a < b { a } else { b }
 }
 
-// The call of this code: 0 starts the node, 1 finishes it, another number skips it.
-fn make(plan: &[u8], state: &mut [u8], code: u8, node: usize) -> u32
-    ensures { λ r. ⌜ Called (now (plan .entry)) (now (state .entry)) (one (eventFor code node)) r
+// Finishes together the tasks from one position up to another, as far as there are such.
+fn finish_part(plan: &[u8], state: &mut [u8], tasks: &[usize], from: usize, to: usize) -> u32
+    ensures { λ r. ⌜ Called (now (plan .entry)) (now (state .entry))
+        (together (take (to - from) (drop from (now (tasks .entry))))) r (now (state .exit)) ⌝ }
+{
+    let e = least(to, tasks.len());
+    let s = least(from, e);
+    finish_together(plan, state, &tasks[s..e])
+}
+
+// The call of this code: 0 starts the node, 1 finishes it, 2 skips it, another number finishes together the tasks from
+// position node up to position end.
+fn make(plan: &[u8], state: &mut [u8], tasks: &[usize], code: u8, node: usize, end: usize) -> u32
+    ensures { λ r. ⌜ Called (now (plan .entry)) (now (state .entry)) (callFor code node end (now (tasks .entry))) r
         (now (state .exit)) ⌝ }
 {
     if code == 0 {
@@ -26,29 +40,37 @@ fn make(plan: &[u8], state: &mut [u8], code: u8, node: usize) -> u32
     if code == 1 {
         return finish(plan, state, node);
     }
-    skip(plan, state, node)
+    if code == 2 {
+        return skip(plan, state, node);
+    }
+    finish_part(plan, state, tasks, node, end)
 }
 
-// Makes fresh, and then as many calls as all three slices have: call i is that of code i on node i, and its return is
-// written. Where fresh refuses, nothing is written.
+// Makes fresh, and then as many calls as codes, nodes, ends and returns all have: call i is that of code i on node i
+// and end i, and its return is written. Where fresh refuses, nothing is written.
 pub fn replay(
     plan: &[u8],
     codes: &[u8],
     nodes: &[usize],
+    ends: &[usize],
+    tasks: &[usize],
     state: &mut [u8],
     returns: &mut [u32],
 ) -> u32
-    ensures { λ r. ⌜ Replayed (now (plan .entry)) (now (codes .entry)) (now (nodes .entry)) (now (state .entry))
-        (now (returns .entry)) r (now (state .exit)) (now (returns .exit)) ⌝ }
+    ensures { λ r. ⌜ Replayed (now (plan .entry)) (now (codes .entry)) (now (nodes .entry)) (now (ends .entry))
+        (now (tasks .entry)) (now (state .entry)) (now (returns .entry)) r (now (state .exit)) (now (returns .exit)) ⌝ }
 {
     let r = fresh(plan, state);
     if r != 0 {
         return r;
     }
-    let n = least(codes.len(), least(nodes.len(), returns.len()));
+    let n = least(
+        codes.len(),
+        least(nodes.len(), least(ends.len(), returns.len())),
+    );
     let mut i = 0;
     while i < n {
-        returns[i] = make(plan, state, codes[i], nodes[i]);
+        returns[i] = make(plan, state, tasks, codes[i], nodes[i], ends[i]);
         i += 1;
     }
     0

@@ -29,7 +29,8 @@ module _ (p : Plan) (w : WellFormed p) (a : World) (t : ℕ) where
   -- 26 does not apply to one task
   unopposed : ¬ PostOpposed p (t ∷ [])
   unopposed x = opposed-differ p (x .on) t t (x .sign)
-      (rw (sole (among-cases (x .listed))) at (x .leaves)) (rw (sole (among-cases (x .other-listed))) at (x .opposes)) refl
+      (rw (sole (among-cases (x .listed))) at (x .leaves))
+      (rw (sole (among-cases (x .other-listed))) at (x .opposes)) refl
 
   -- 22 applies to it as to its finish
   breaks : Applies p a (together (t ∷ [])) inc-broken ↔ IncBroken p (a .status) (finish t)
