@@ -17,6 +17,7 @@ pub data Call : Type 0 where
   one : Event → Call
   together : List ℕ → Call
 
+-- the finishes of a list of tasks, that of the first the newest
 abbrev pub finishes : List ℕ → History
 finishes [] = []
 finishes (t ∷ ts) = finish t ∷ finishes ts

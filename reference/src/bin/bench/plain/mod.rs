@@ -1,7 +1,8 @@
 //! The verdict in plain Rust, by the shortcuts that the proved crates take: rules in passes over
 //! the bytes, words whose bit f speaks of flag f, the children of a group as a segment of one
-//! array, chains of orders filled backwards, pairs each looked at once, children passed over that
-//! require and leave nothing wanted, and shared literals narrowed until none is left.
+//! array, chains of orders filled backwards, pairs each looked at once and only for literals that a
+//! pair can clobber, children passed over that require and leave nothing wanted, and shared literals
+//! narrowed until none is left.
 //!
 //! Its modules in their order: words, row; check, tables; siblings, pairs; rows.
 //!

@@ -29,7 +29,7 @@ impl Group<'_> {
     /// leaves none that is left.
     fn left_with(&self, wanted: Literals, c: usize) -> Literals {
         let row = &self.rows[c];
-        let concerned = or(or(row.wants, row.may_pre), row.leaves);
+        let concerned = or(row.wants, row.leaves);
         let (mut left, mut at) = (wanted, 0);
         while and(left, concerned) != [0; 2] {
             match self.clobbering(left, c, at) {

@@ -4,7 +4,7 @@ use super::pairs::Group;
 use super::row::{Row, Rows};
 use super::siblings::Siblings;
 use super::tables::Tables;
-use super::words::{and, and_not, or};
+use super::words::{and, and_not, or, swap};
 
 /// The row of the root.
 pub fn root(tables: &Tables) -> Row {
@@ -94,7 +94,9 @@ fn all_of(tables: &Tables, rows: &Rows, group: usize) -> Row {
         rows,
         children: tables.segment(group),
     };
-    let wanted = and_not([!0; 2], row.may_clobber);
+    let broken = and(row.wants, swap(row.asserts));
+    let opposed = and(row.leaves, swap(row.leaves));
+    let wanted = and_not(or(broken, opposed), row.may_clobber);
     row.may_clobber = or(row.may_clobber, pairs.may_clobber(wanted));
     row.must_clobber = pairs.must_clobber(row.must_clobber);
     row
