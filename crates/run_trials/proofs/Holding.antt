@@ -22,8 +22,8 @@ use Rattle.run_calls.specs.Shown.{flagByte, numberByte, shownByte}
 use Rattle.run_trials.specs.Written.{two, twos, eight, names, nodes, conditionNodes, conditionValues}
 use Rattle.run_trials.specs.Written.{earlierNodes, laterNodes, bytesOf}
 use Rattle.run_trials.specs.Trial.{statusBytes, stateBytes, AllHold}
-use Rattle.run_trials.specs.Starred.{starred, of-starts, of-places, of-skips, of-groups, of-words}
-use Rattle.run_trials.specs.Starred.{of-finishes}
+use Rattle.run_trials.specs.Starred.{starred}
+use Rattle.run_trials.specs.Requested.{of-starts, of-places, of-skips, of-groups, of-words, of-finishes}
 use Rattle.run_trials.specs.Checked.{AllChecked, AllWorded}
 use Rattle.run_trials.proofs.Tests.{showsB, leftB, holdsB, allHoldB, all-hold}
 use Rattle.run_trials.proofs.Checks.{allCheckedB, all-checked, completeIs, allWordedB, all-worded}

@@ -1,4 +1,6 @@
 pub mod Written
 pub mod Trial
 pub mod Checked
+pub mod Terms
 pub mod Starred
+pub mod Requested
