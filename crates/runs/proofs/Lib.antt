@@ -5,4 +5,5 @@ pub mod Execution
 pub mod Summary
 pub mod Verdict
 pub mod Calls
+pub mod Blocked
 pub mod Plain

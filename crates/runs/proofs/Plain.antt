@@ -169,8 +169,8 @@ module _ (p : Plan) (w : WellFormed p) (plain : Plain p) where
       λ (f, c). record { execution = run-from f; complete = complete-from c },
     )
 
-  -- ---- a skip is refused with 27
-  pub plain-skip : {a b : World} {g n : ℕ} → Answered p a (one (skip g)) n b → (n ≡ 27) × (b ≡ a)
+  -- ---- a skip is refused with 27, whatever is blocked
+  pub plain-skip : {q : Plan} {a b : World} {g n : ℕ} → Answered p q a (one (skip g)) n b → (n ≡ 27) × (b ≡ a)
   plain-skip {g = g} (accepted x) = absurd (x .0 (λ o. plain g (o .node) (o .is-optional)))
   plain-skip {g = g} (refused r (inl (e, x))) = (rw (sym e), refl)
   plain-skip {g = g} (refused r (inr (x, y))) = absurd (x (λ o. plain g (o .node) (o .is-optional)))

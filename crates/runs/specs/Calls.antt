@@ -112,10 +112,15 @@ module _ (p : Plan) where
     pub node : Node p g
     pub is-optional : p .tree .kind g ≡ optional
 
-  -- 18: the task is not waiting, not running; 02: skipping a group twice, or one with a taken branch
+  -- 02's "at or under" a blocked node: t is no node of the plan that is left
+  abbrev pub Absent : ℕ → Type 0
+  Absent t = ¬ Node p t
+
+  -- 18: the task is not waiting, not running; 02: skipping a group twice, or one with a taken branch; finishing a task
+  -- at or under a blocked node
   abbrev pub WrongStatus : State → Event → Type 0
   WrongStatus s (start t) = s t ≢ asks (start t)
-  WrongStatus s (finish t) = s t ≢ asks (finish t)
+  WrongStatus s (finish t) = Absent t ⊎ (s t ≢ asks (finish t))
   WrongStatus s (skip g) = (s g ≢ asks (skip g)) ⊎ ((c : ℕ) × Child p g c × Begun p s c)
 
   -- 19: another branch of an any-of or optional group above t is taken
@@ -163,28 +168,31 @@ module _ (p : Plan) where
     pub leaves : p .cond .sign post who on ≡ some sign
     pub opposes : p .cond .sign post other on ≡ some (not sign)
 
-  -- 01's table of refusals, row by row, with 02's rows: 27, a skip's number is not that of an optional group; 25 and
-  -- 26. For a list each row is about the whole of it, and "a hold is then tried only for tasks still running after it"
-  -- (02): 22 is asked of the statuses after the step. ⊥ where a row is no matter of the call.
+-- 01's table of refusals, row by row, with 02's rows: 27, a skip's number is not that of an optional group; 25 and 26.
+-- For a list each row is about the whole of it, and "a hold is then tried only for tasks still running after it" (02):
+-- 22 is asked of the statuses after the step. ⊥ where a row is no matter of the call.
+-- p is what is left of the whole plan without the blocked nodes (02: struck), the whole plan if there are none. 17 and
+-- 27 are asked of the whole plan, all else of what is left, and "a start or skip at or under one meets 19" (02).
+module _ (whole p : Plan) where
   abbrev pub Applies : World → Call → Refusal → Type 0
-  Applies a (one e) no-task = ¬ Task (nodeOf e)
-  Applies a (one e) wrong-status = WrongStatus (a .status) e
-  Applies a (one e) branch-begun = BranchBegun (a .status) (nodeOf e)
-  Applies a (one e) order-open = OrderOpen (a .status) (nodeOf e)
-  Applies a (one e) pre-unmet = PreUnmet (a .flag) e
-  Applies a (one e) inc-broken = IncBroken (a .status) e
-  Applies a (one e) no-optional = ¬ Optional (nodeOf e)
+  Applies a (one e) no-task = ¬ Task whole (nodeOf e)
+  Applies a (one e) wrong-status = WrongStatus p (a .status) e
+  Applies a (one e) branch-begun = Absent p (nodeOf e) ⊎ BranchBegun p (a .status) (nodeOf e)
+  Applies a (one e) order-open = OrderOpen p (a .status) (nodeOf e)
+  Applies a (one e) pre-unmet = PreUnmet p (a .flag) e
+  Applies a (one e) inc-broken = IncBroken p (a .status) e
+  Applies a (one e) no-optional = ¬ Optional whole (nodeOf e)
   Applies a (one e) not-rising = ⊥
   Applies a (one e) post-opposed = ⊥
-  Applies a (together ts) no-task = SomeOf ts (λ t. ¬ Task t)
-  Applies a (together ts) wrong-status = SomeOf ts (λ t. WrongStatus (a .status) (finish t))
+  Applies a (together ts) no-task = SomeOf ts (λ t. ¬ Task whole t)
+  Applies a (together ts) wrong-status = SomeOf ts (λ t. WrongStatus p (a .status) (finish t))
   Applies a (together ts) branch-begun = ⊥
   Applies a (together ts) order-open = ⊥
   Applies a (together ts) pre-unmet = ⊥
-  Applies a (together ts) inc-broken = SomeOf ts (λ t. IncBroken (happenAll p a (finishes ts) .status) (finish t))
+  Applies a (together ts) inc-broken = SomeOf ts (λ t. IncBroken p (happenAll p a (finishes ts) .status) (finish t))
   Applies a (together ts) no-optional = ⊥
   Applies a (together ts) not-rising = NotRising ts
-  Applies a (together ts) post-opposed = PostOpposed ts
+  Applies a (together ts) post-opposed = PostOpposed p ts
 
 -- the checks that concern a call, in their order (02: 27 in the place of 17; 25 after 16, 26 between 18 and 22)
 abbrev pub checks : Call → List Refusal
@@ -204,15 +212,15 @@ None A (q ∷ l) = (¬ A q) × None A l
 
 -- One call from the states a: it returns 0 and its events happen, if no check applies; otherwise it returns the first
 -- that does and changes nothing.
-pub data Answered (p : Plan) (a : World) (c : Call) : ℕ → World → Type 0 where
-  accepted : None (Applies p a c) (checks c) → Answered p a c 0 (happenAll p a (events c))
-  refused : (r : Refusal) → First (Applies p a c) r (checks c) → Answered p a c (number r) a
+pub data Answered (whole p : Plan) (a : World) (c : Call) : ℕ → World → Type 0 where
+  accepted : None (Applies whole p a c) (checks c) → Answered whole p a c 0 (happenAll p a (events c))
+  refused : (r : Refusal) → First (Applies whole p a c) r (checks c) → Answered whole p a c (number r) a
 
 -- A list of calls, the first call first: its returns, and the states after it.
-pub data Worked (p : Plan) : World → List Call → List ℕ → World → Type 0 where
-  no-calls : {a : World} → Worked p a [] [] a
-  next-call : {a b z : World} {c : Call} {cs : List Call} {n : ℕ} {ns : List ℕ} → Answered p a c n b
-      → Worked p b cs ns z → Worked p a (c ∷ cs) (n ∷ ns) z
+pub data Worked (whole p : Plan) : World → List Call → List ℕ → World → Type 0 where
+  no-calls : {a : World} → Worked whole p a [] [] a
+  next-call : {a b z : World} {c : Call} {cs : List Call} {n : ℕ} {ns : List ℕ} → Answered whole p a c n b
+      → Worked whole p b cs ns z → Worked whole p a (c ∷ cs) (n ∷ ns) z
 
 -- The tasks of a list's accepted starts, the first start first: cs are the calls and ns what they returned.
 abbrev pub startedBy : Call → List ℕ

@@ -10,6 +10,7 @@ use Rattle.runs.specs.Plan.{Plan}
 use Rattle.runs.specs.Execution.{waiting, done, State, Complete}
 use Rattle.runs.specs.Verdict.{Verdict, Clear, Doomed, Judged}
 use Rattle.runs.specs.Calls.{Call, World, fresh, Task, Optional, Worked, acceptedStarts}
+use Rattle.runs.specs.Blocked.{without}
 
 -- none of the returns is 21, 22 or 26
 abbrev pub NoViolation : List ℕ → Type 0
@@ -22,37 +23,44 @@ pub record Numbered (p : Plan) (l : List ℕ) (a : World) : Type 0 where
   pub position : (x k : ℕ) → (a .ordinal x ≡ suc k) ↔ ((k < length l) × (getD l k 0 ≡ x))
   pub unstarted : (x : ℕ) → (a .ordinal x ≡ 0) ↔ ((a .status x ≡ waiting) ⊎ (¬ Task p x))
 
-module _ (p : Plan) (F : ℕ → Bool) where
+-- S: the blocked nodes; "one list of struck nodes that passes 28 and 29 is given to the answer, to fresh and to every
+-- keeper call alike" (02). F: the flags at the start
+module _ (p : Plan) (S : ℕ → Bool) (F : ℕ → Bool) where
+  -- calls on p under S, from the states of fresh: what they return, and the states after them
+  abbrev pub Calls : List Call → List ℕ → World → Type 0
+  Calls cs ns a = Worked p (without p S) (fresh F) cs ns a
+
   -- no call in any list returns 21, 22 or 26 (02: "no list of start, finish and finish-together calls .. meets 21, 22
   -- or 26"; the lists have skips too)
   abbrev pub NeverViolates : Type 0
-  NeverViolates = (cs : List Call) (ns : List ℕ) (a : World) → Worked p (fresh F) cs ns a → NoViolation ns
+  NeverViolates = (cs : List Call) (ns : List ℕ) (a : World) → Calls cs ns a → NoViolation ns
 
   -- the root is complete after no list
   abbrev pub NeverCompletes : Type 0
-  NeverCompletes = (cs : List Call) (ns : List ℕ) (a : World) → Worked p (fresh F) cs ns a → ¬ Complete p (a .status) 0
+  NeverCompletes = (cs : List Call) (ns : List ℕ) (a : World) → Calls cs ns a
+      → ¬ Complete (without p S) (a .status) 0
 
 -- x waits, or is an optional group and skipped
 abbrev pub WaitsOrSkipped : Plan → ℕ → State → Type 0
 WaitsOrSkipped p x s = (s x ≡ waiting) ⊎ (Optional p x × (s x ≡ done))
 
--- F: the flags at the start
-pub record Demand3 (p : Plan) (F : ℕ → Bool) : Type 0 where
+pub record Demand3 (p : Plan) (S : ℕ → Bool) (F : ℕ → Bool) : Type 0 where
   -- every list of calls has its returns and the states after it, and no others
-  pub worked : (cs : List Call) → (ns : List ℕ) × (a : World) × Worked p (fresh F) cs ns a
-  pub unique : {cs : List Call} {ns ms : List ℕ} {a b : World} → Worked p (fresh F) cs ns a → Worked p (fresh F) cs ms b
+  pub worked : (cs : List Call) → (ns : List ℕ) × (a : World) × Calls p S F cs ns a
+  pub unique : {cs : List Call} {ns ms : List ℕ} {a b : World} → Calls p S F cs ns a → Calls p S F cs ms b
       → (ns ≡ ms) × (a ≡ b)
-  -- what is no task waits, or is an optional group and skipped; a flag past the plan's keeps its start bit
-  pub others : {cs : List Call} {ns : List ℕ} {a : World} → Worked p (fresh F) cs ns a → (x : ℕ) → ¬ Task p x
-      → WaitsOrSkipped p x (a .status)
-  pub beyond : {cs : List Call} {ns : List ℕ} {a : World} → Worked p (fresh F) cs ns a → (f : ℕ) → p .cond .flags ≤ f
+  -- what is no task, or absent, waits, or is an optional group that stands, and skipped; a flag past the plan's keeps
+  -- its start bit
+  pub others : {cs : List Call} {ns : List ℕ} {a : World} → Calls p S F cs ns a → (x : ℕ) → ¬ Task (without p S) x
+      → WaitsOrSkipped (without p S) x (a .status)
+  pub beyond : {cs : List Call} {ns : List ℕ} {a : World} → Calls p S F cs ns a → (f : ℕ) → p .cond .flags ≤ f
       → a .flag f ≡ F f
   -- a task's ordinal is the position of its start among the accepted starts of the list
-  pub ordinals : {cs : List Call} {ns : List ℕ} {a : World} → Worked p (fresh F) cs ns a
+  pub ordinals : {cs : List Call} {ns : List ℕ} {a : World} → Calls p S F cs ns a
       → Numbered p (acceptedStarts cs ns) a
-  -- the plan has one verdict
-  pub judged : (v : Verdict) × Judged p F v × ((u : Verdict) → Judged p F u → u ≡ v)
+  -- the plan that is left has one verdict
+  pub judged : (v : Verdict) × Judged (without p S) F v × ((u : Verdict) → Judged (without p S) F u → u ≡ v)
   -- CLEAR exactly if no call in any list returns 21, 22 or 26
-  pub clear : Clear p F ↔ NeverViolates p F
+  pub clear : Clear (without p S) F ↔ NeverViolates p S F
   -- DOOMED: the root is complete after no list
-  pub doomed : Doomed p F → NeverCompletes p F
+  pub doomed : Doomed (without p S) F → NeverCompletes p S F

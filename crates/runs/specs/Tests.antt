@@ -35,6 +35,10 @@ unfoldable pub anyIn : List ℕ → (ℕ → Bool) → Bool
 anyIn [] g = false
 anyIn (t ∷ ts) g = either (g t) (λ u. anyIn ts g)
 
+-- x is among the numbers of a list
+unfoldable pub listed : List ℕ → ℕ → Bool
+listed ts x = anyIn ts (eqb x)
+
 unfoldable pub sameB : Bool → Bool → Bool
 sameB true v = v
 sameB false v = not v

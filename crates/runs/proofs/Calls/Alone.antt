@@ -25,7 +25,7 @@ alone g t = either-none (g t)
     either-none true = refl
     either-none false = refl
 
-module _ (p : Plan) (w : WellFormed p) (a : World) (t : ℕ) where
+module _ (whole p : Plan) (w : WellFormed p) (a : World) (t : ℕ) where
   -- 26 does not apply to one task
   unopposed : ¬ PostOpposed p (t ∷ [])
   unopposed x = opposed-differ p (x .on) t t (x .sign)
@@ -33,7 +33,7 @@ module _ (p : Plan) (w : WellFormed p) (a : World) (t : ℕ) where
       (rw (sole (among-cases (x .other-listed))) at (x .opposes)) refl
 
   -- 22 applies to it as to its finish
-  breaks : Applies p a (together (t ∷ [])) inc-broken ↔ IncBroken p (a .status) (finish t)
+  breaks : Applies whole p a (together (t ∷ [])) inc-broken ↔ IncBroken p (a .status) (finish t)
   breaks = (
     λ x. let (u, i, b) = (broken-unlisted p a (t ∷ [])) .0 x in rw (sole (among-cases i)) at (b .0),
     λ b. (broken-unlisted p a (t ∷ [])) .1
@@ -41,25 +41,25 @@ module _ (p : Plan) (w : WellFormed p) (a : World) (t : ℕ) where
   )
 
   -- the checks of the list are those of the finish, and two that do not apply
-  rises : appliesB p a (together (t ∷ [])) not-rising ≡ false
+  rises : appliesB whole p a (together (t ∷ [])) not-rising ≡ false
   unfolding appliesB notRisingB risingB negate
   rises = refl
 
-  tasks : appliesB p a (together (t ∷ [])) no-task ≡ appliesB p a (one (finish t)) no-task
+  tasks : appliesB whole p a (together (t ∷ [])) no-task ≡ appliesB whole p a (one (finish t)) no-task
   unfolding appliesB
   tasks = alone _ t
 
-  statuses : appliesB p a (together (t ∷ [])) wrong-status ≡ appliesB p a (one (finish t)) wrong-status
+  statuses : appliesB whole p a (together (t ∷ [])) wrong-status ≡ appliesB whole p a (one (finish t)) wrong-status
   unfolding appliesB
   statuses = alone _ t
 
-  leavings : appliesB p a (together (t ∷ [])) post-opposed ≡ false
-  leavings = same-test _ _ (r-applies p w a (together (t ∷ [])) post-opposed) (r-false unopposed)
+  leavings : appliesB whole p a (together (t ∷ [])) post-opposed ≡ false
+  leavings = same-test _ _ (r-applies whole p w a (together (t ∷ [])) post-opposed) (r-false unopposed)
 
-  holds : appliesB p a (together (t ∷ [])) inc-broken ≡ appliesB p a (one (finish t)) inc-broken
-  holds = same-test _ _ (r-map breaks (r-applies p w a (together (t ∷ [])) inc-broken))
-      (r-applies p w a (one (finish t)) inc-broken)
+  holds : appliesB whole p a (together (t ∷ [])) inc-broken ≡ appliesB whole p a (one (finish t)) inc-broken
+  holds = same-test _ _ (r-map breaks (r-applies whole p w a (together (t ∷ [])) inc-broken))
+      (r-applies whole p w a (one (finish t)) inc-broken)
 
-  pub one-finish : refusalOf p a (together (t ∷ [])) ≡ refusalOf p a (one (finish t))
+  pub one-finish : refusalOf whole p a (together (t ∷ [])) ≡ refusalOf whole p a (one (finish t))
   unfolding refusalOf firstOf
   one-finish = rw (rises, tasks, statuses, leavings, holds)

@@ -6,8 +6,9 @@ use Rattle.runs.specs.Execution.{Status, waiting, running, done, Event, 
 use Rattle.runs.specs.Execution.{Complete, lastAssertedOf, asserts, Execution, lastAsserted}
 use Rattle.runs.specs.Verdict.{Clear, Doomed}
 use Rattle.runs.specs.Calls.{Call, World, fresh, Refusal, pre-unmet, inc-broken, post-opposed, number, Task}
-use Rattle.runs.specs.Calls.{Optional, Worked}
-use Rattle.runs.specs.Demand3.{NoViolation, WaitsOrSkipped, Demand3}
+use Rattle.runs.specs.Calls.{Optional}
+use Rattle.runs.specs.Demand3.{Calls, NoViolation, WaitsOrSkipped, Demand3}
+use Rattle.runs.specs.Blocked.{without, Blocks}
 use Rattle.runs.specs.Model.Monitor.{returns, states}
 use Rattle.runs.specs.Model.Verdicts.{verdict}
 use Rattle.runs.proofs.Plan.{under-node}
@@ -18,26 +19,28 @@ use Rattle.runs.proofs.Calls.Accepted.{clear-or-first-violation, doomed
 use Rattle.runs.proofs.Calls.First.{worked, worked-only}
 use Rattle.runs.proofs.Calls.Lists.{ViolatingList, Reached, reaches, violating-list, list-violates}
 use Rattle.runs.proofs.Calls.Numbered.{worked-numbered, fresh-numbered}
-use Rattle.runs.proofs.Calls.Rows.{Violating}
+use Rattle.runs.proofs.Calls.Rows.{LeftOf, Violating}
 use Rattle.runs.proofs.Calls.Violation.{flagAfter}
+use Rattle.runs.proofs.Blocked.Standing.{without-left}
+use Rattle.runs.proofs.Blocked.Branches.{blocked-well-formed}
 
-module _ (p : Plan) (w : WellFormed p) (F : ℕ → Bool) where
-  never-in : (cs : List Call) → Clear p F → NoViolation (returns p (fresh F) cs)
+module _ (whole p : Plan) (part : LeftOf whole p) (w : WellFormed p) (F : ℕ → Bool) where
+  never-in : (cs : List Call) → Clear p F → NoViolation (returns whole p (fresh F) cs)
   never-in cs c r x = (
     λ z. hit pre-unmet (inl refl) (rw z at x),
     λ z. hit inc-broken (inr (inl refl)) (rw z at x),
     λ z. hit post-opposed (inr (inr refl)) (rw z at x),
   )
     where
-      hit : (q : Refusal) → Violating q → Among (number q) (returns p (fresh F) cs) → ⊥
+      hit : (q : Refusal) → Violating q → Among (number q) (returns whole p (fresh F) cs) → ⊥
       hit q v y = clear-no-first-violation p w F c
-          (list-violates p w F (record { calls = cs; refusal = q; violating = v; hit = y }))
+          (list-violates whole p part w F (record { calls = cs; refusal = q; violating = v; hit = y }))
 
   -- CLEAR exactly if no call in any list returns 21, 22 or 26
-  pub clear-exact : Clear p F ↔ ((cs : List Call) → NoViolation (returns p (fresh F) cs))
+  pub clear-exact : Clear p F ↔ ((cs : List Call) → NoViolation (returns whole p (fresh F) cs))
   clear-exact = (λ c cs. never-in cs c, λ g. from g (clear-or-first-violation p w F))
     where
-      no-list : ((cs : List Call) → NoViolation (returns p (fresh F) cs)) → ¬ ViolatingList p F
+      no-list : ((cs : List Call) → NoViolation (returns whole p (fresh F) cs)) → ¬ ViolatingList whole p F
       no-list g x = at (x .violating)
         where
           at : Violating (x .refusal) → ⊥
@@ -45,20 +48,20 @@ module _ (p : Plan) (w : WellFormed p) (F : ℕ → Bool) where
           at (inr (inl q)) = (g (x .calls) (number (x .refusal)) (x .hit)) .1 (ap number q)
           at (inr (inr q)) = (g (x .calls) (number (x .refusal)) (x .hit)) .2 (ap number q)
 
-      from : ((cs : List Call) → NoViolation (returns p (fresh F) cs)) → Clear p F ⊎ FirstViolation p F → Clear p F
+      from : ((cs : List Call) → NoViolation (returns whole p (fresh F) cs)) → Clear p F ⊎ FirstViolation p F → Clear p F
       from g (inl c) = c
-      from g (inr x) = absurd (no-list g (violating-list p w F x))
+      from g (inr x) = absurd (no-list g (violating-list whole p part w F x))
 
   -- DOOMED: the root is complete after no list
-  pub doomed-never-complete : Doomed p F → (cs : List Call) → ¬ Complete p (states p (fresh F) cs .status) 0
-  doomed-never-complete d cs = go (states p (fresh F) cs) (reaches p w F cs)
+  pub doomed-never-complete : Doomed p F → (cs : List Call) → ¬ Complete p (states whole p (fresh F) cs .status) 0
+  doomed-never-complete d cs = go (states whole p (fresh F) cs) (reaches whole p part w F cs)
     where
       go : (b : World) → Reached p F b → ¬ Complete p (b .status) 0
       go b x = rw (x .same) (doomed-incomplete p w F d (x .accepted))
 
   -- what is no task of the plan waits, groups and numbers past the nodes, but for the optional groups that are skipped
-  pub others-wait : (cs : List Call) (x : ℕ) → ¬ Task p x → WaitsOrSkipped p x (states p (fresh F) cs .status)
-  others-wait cs x n = go (states p (fresh F) cs) (reaches p w F cs)
+  pub others-wait : (cs : List Call) (x : ℕ) → ¬ Task p x → WaitsOrSkipped p x (states whole p (fresh F) cs .status)
+  others-wait cs x n = go (states whole p (fresh F) cs) (reaches whole p part w F cs)
     where
       go : (b : World) → Reached p F b → WaitsOrSkipped p x (b .status)
       go b g = rw (g .same) (at (statusAfter h x) refl)
@@ -85,9 +88,9 @@ module _ (p : Plan) (w : WellFormed p) (F : ℕ → Bool) where
               let k = done-moved q in inr (skipped (p .tree .kind x) refl (moved-moves p w f x k) (is-node k), q)
 
   -- a flag past the plan's keeps its start bit
-  pub others-keep : (cs : List Call) (f : ℕ) → p .cond .flags ≤ f → states p (fresh F) cs .flag f ≡ F f
+  pub others-keep : (cs : List Call) (f : ℕ) → p .cond .flags ≤ f → states whole p (fresh F) cs .flag f ≡ F f
   unfolding flagAfter lastAssertedOf
-  others-keep cs f l = go (states p (fresh F) cs) (reaches p w F cs)
+  others-keep cs f l = go (states whole p (fresh F) cs) (reaches whole p part w F cs)
     where
       off : (k : Place) (t : ℕ) (o : Option Bool) → p .cond .sign k t f ≡ o → o ≡ none
       off k t none q = refl
@@ -105,33 +108,43 @@ module _ (p : Plan) (w : WellFormed p) (F : ℕ → Bool) where
       go : (b : World) → Reached p F b → b .flag f ≡ F f
       go b x = rw (x .same) (rw (never (flat (x .calls))))
 
-  -- every well-formed plan satisfies demand 3
-  pub demand3 : Demand3 p F
+-- every well-formed plan satisfies demand 3, whatever is blocked where 28 and 29 pass
+module _ (p : Plan) (w : WellFormed p) (S : ℕ → Bool) (ok : Blocks p S) (F : ℕ → Bool) where
+  abbrev q : Plan
+  q = without p S
+
+  wq : WellFormed q
+  wq = blocked-well-formed p w S ok
+
+  part : LeftOf p q
+  part = without-left p w S
+
+  pub demand3 : Demand3 p S F
   demand3 = record {
-    worked = λ cs. (returns p (fresh F) cs, states p (fresh F) cs, worked p w (fresh F) cs);
-    unique = λ x y. let (a, b) = worked-only p w x in let (c, d) = worked-only p w y in (a ∙ sym c, b ∙ sym d);
+    worked = λ cs. (returns p q (fresh F) cs, states p q (fresh F) cs, worked p q wq (fresh F) cs);
+    unique = λ x y. let (a, b) = worked-only p q wq x in let (c, d) = worked-only p q wq y in (a ∙ sym c, b ∙ sym d);
     others = λ x. others x;
     beyond = λ x. beyond x;
-    ordinals = λ x. worked-numbered p [] x (fresh-numbered p F);
-    judged = (verdict p F, (verdict-exact p w F (verdict p F)) .0 refl, λ u j. sym ((verdict-exact p w F u) .1 j));
+    ordinals = λ x. worked-numbered p q [] x (fresh-numbered p q F);
+    judged = (verdict q F, (verdict-exact q wq F (verdict q F)) .0 refl, λ u j. sym ((verdict-exact q wq F u) .1 j));
     clear = (
       λ c cs ns a x. never c x,
-      λ g. clear-exact .1 (λ cs. g cs (returns p (fresh F) cs) (states p (fresh F) cs) (worked p w (fresh F) cs)),
+      λ g. (clear-exact p q part wq F) .1
+          (λ cs. g cs (returns p q (fresh F) cs) (states p q (fresh F) cs) (worked p q wq (fresh F) cs)),
     );
     doomed = λ d cs ns a x. doomed d x;
   }
     where
-      others : {cs : List Call} {ns : List ℕ} {a : World} → Worked p (fresh F) cs ns a → (x : ℕ) → ¬ Task p x
-          → WaitsOrSkipped p x (a .status)
-      others {cs} {a = a} y x n = let (e, q) = worked-only p w y in rw q (others-wait cs x n)
+      others : {cs : List Call} {ns : List ℕ} {a : World} → Calls p S F cs ns a → (x : ℕ) → ¬ Task q x
+          → WaitsOrSkipped q x (a .status)
+      others {cs} {a = a} y x n = let (e, z) = worked-only p q wq y in rw z (others-wait p q part wq F cs x n)
 
-      beyond : {cs : List Call} {ns : List ℕ} {a : World} → Worked p (fresh F) cs ns a → (f : ℕ) → p .cond .flags ≤ f
+      beyond : {cs : List Call} {ns : List ℕ} {a : World} → Calls p S F cs ns a → (f : ℕ) → p .cond .flags ≤ f
           → a .flag f ≡ F f
-      beyond {cs} y f l = let (e, q) = worked-only p w y in rw q (others-keep cs f l)
+      beyond {cs} y f l = let (e, z) = worked-only p q wq y in rw z (others-keep p q part wq F cs f l)
 
-      never : {cs : List Call} {ns : List ℕ} {a : World} → Clear p F → Worked p (fresh F) cs ns a → NoViolation ns
-      never {cs} c y = let (e, q) = worked-only p w y in rw e (clear-exact .0 c cs)
+      never : {cs : List Call} {ns : List ℕ} {a : World} → Clear q F → Calls p S F cs ns a → NoViolation ns
+      never {cs} c y = let (e, z) = worked-only p q wq y in rw e ((clear-exact p q part wq F) .0 c cs)
 
-      doomed : {cs : List Call} {ns : List ℕ} {a : World} → Doomed p F → Worked p (fresh F) cs ns a
-          → ¬ Complete p (a .status) 0
-      doomed {cs} d y = let (e, q) = worked-only p w y in rw q (doomed-never-complete d cs)
+      doomed : {cs : List Call} {ns : List ℕ} {a : World} → Doomed q F → Calls p S F cs ns a → ¬ Complete q (a .status) 0
+      doomed {cs} d y = let (e, z) = worked-only p q wq y in rw z (doomed-never-complete p q part wq F d cs)

@@ -107,44 +107,44 @@ number-tells (some post-opposed) = refl
 pub code-inj : {o x : Option Refusal} → code o ≡ code x → o ≡ x
 code-inj {o} {x} q = sym (number-tells o) ∙ ap ofNumber q ∙ number-tells x
 
-module _ (p : Plan) (w : WellFormed p) (a : World) (c : Call) where
+module _ (whole p : Plan) (w : WellFormed p) (a : World) (c : Call) where
   -- a call is refused for the first of its checks that applies, and accepted exactly if none does
-  pub refused-first : (r : Refusal) → (refusalOf p a c ≡ some r) ↔ First (Applies p a c) r (checks c)
+  pub refused-first : (r : Refusal) → (refusalOf whole p a c ≡ some r) ↔ First (Applies whole p a c) r (checks c)
   unfolding refusalOf
-  refused-first r = first-is (Applies p a c) (appliesB p a c) (r-applies p w a c) r (checks c)
+  refused-first r = first-is (Applies whole p a c) (appliesB whole p a c) (r-applies whole p w a c) r (checks c)
 
-  pub refused-none : (refusalOf p a c ≡ none) ↔ None (Applies p a c) (checks c)
+  pub refused-none : (refusalOf whole p a c ≡ none) ↔ None (Applies whole p a c) (checks c)
   unfolding refusalOf
-  refused-none = none-is (Applies p a c) (appliesB p a c) (r-applies p w a c) (checks c)
+  refused-none = none-is (Applies whole p a c) (appliesB whole p a c) (r-applies whole p w a c) (checks c)
 
   -- what is computed for a call is what 01 says of it, and there is nothing else
-  pub answered : Answered p a c (returned p a c) (step p a c)
+  pub answered : Answered whole p a c (returned whole p a c) (step whole p a c)
   unfolding returned step
-  answered = go (refusalOf p a c) refl
+  answered = go (refusalOf whole p a c) refl
     where
-      go : (o : Option Refusal) → refusalOf p a c ≡ o → Answered p a c (code o) (settle o a (happenAll p a (events c)))
+      go : (o : Option Refusal) → refusalOf whole p a c ≡ o → Answered whole p a c (code o) (settle o a (happenAll p a (events c)))
       go none q = accepted (refused-none .0 q)
       go (some r) q = refused r ((refused-first r) .0 q)
 
-  pub answered-only : {n : ℕ} {b : World} → Answered p a c n b → (n ≡ returned p a c) × (b ≡ step p a c)
+  pub answered-only : {n : ℕ} {b : World} → Answered whole p a c n b → (n ≡ returned whole p a c) × (b ≡ step whole p a c)
   unfolding returned step
-  answered-only (accepted k) = let q : refusalOf p a c ≡ none = refused-none .1 k in (rw q, rw q)
-  answered-only (refused r k) = let q : refusalOf p a c ≡ some r = (refused-first r) .1 k in (rw q, rw q)
+  answered-only (accepted k) = let q : refusalOf whole p a c ≡ none = refused-none .1 k in (rw q, rw q)
+  answered-only (refused r k) = let q : refusalOf whole p a c ≡ some r = (refused-first r) .1 k in (rw q, rw q)
 
-module _ (p : Plan) (w : WellFormed p) where
+module _ (whole p : Plan) (w : WellFormed p) where
   -- the same for lists of calls
-  pub worked : (a : World) (cs : List Call) → Worked p a cs (returns p a cs) (states p a cs)
+  pub worked : (a : World) (cs : List Call) → Worked whole p a cs (returns whole p a cs) (states whole p a cs)
   unfolding returns states
   worked a [] = no-calls
-  worked a (c ∷ cs) = next-call (answered p w a c) (worked (step p a c) cs)
+  worked a (c ∷ cs) = next-call (answered whole p w a c) (worked (step whole p a c) cs)
 
-  pub worked-only : {a z : World} {cs : List Call} {ns : List ℕ} → Worked p a cs ns z
-      → (ns ≡ returns p a cs) × (z ≡ states p a cs)
+  pub worked-only : {a z : World} {cs : List Call} {ns : List ℕ} → Worked whole p a cs ns z
+      → (ns ≡ returns whole p a cs) × (z ≡ states whole p a cs)
   unfolding returns states
   worked-only no-calls = (refl, refl)
   worked-only (next-call {a = a} {b = b} {z = z} {c = c} {cs = cs} {n = n} {ns = ns} x y) =
-      at (answered-only p w a c x) (worked-only y)
+      at (answered-only whole p w a c x) (worked-only y)
     where
-      at : (n ≡ returned p a c) × (b ≡ step p a c) → (ns ≡ returns p b cs) × (z ≡ states p b cs)
-          → (n ∷ ns ≡ returned p a c ∷ returns p (step p a c) cs) × (z ≡ states p (step p a c) cs)
-      at (e, f) (g, h) = (rw (e, g, f), h ∙ ap (λ b. states p b cs) f)
+      at : (n ≡ returned whole p a c) × (b ≡ step whole p a c) → (ns ≡ returns whole p b cs) × (z ≡ states whole p b cs)
+          → (n ∷ ns ≡ returned whole p a c ∷ returns whole p (step whole p a c) cs) × (z ≡ states whole p (step whole p a c) cs)
+      at (e, f) (g, h) = (rw (e, g, f), h ∙ ap (λ b. states whole p b cs) f)

@@ -1,7 +1,7 @@
 -- Lists of numbers: what is among them, and lists that strictly rise.
 use Rattle.runs.proofs.Base.{_≡_, refl, _≢_, _⊎_, inl, inr, Bool, true, false, List, [], _∷_, Among, here, there}
 use Rattle.runs.proofs.Base.{among-none, among-cases, ℕ, _<_, arith, T, eqb}
-use Rattle.runs.specs.Tests.{anyIn}
+use Rattle.runs.specs.Tests.{anyIn, listed}
 use Rattle.runs.specs.Calls.{SomeOf, Rising, empty, single, rising, NotRising}
 use Rattle.runs.specs.Model.Monitor.{risingB, notRisingB}
 use Rattle.runs.proofs.Reflect.{clash, Reflects, r-map, decided, r-both, r-either, r-false, r-negate, r-eq, r-lt}
@@ -23,6 +23,10 @@ r-some-of P (t ∷ ts) g r = r-map (to, λ x. from (x .0) (among-cases (x .1)) (
     from u (inl q) x = inl (rw q at x)
     from u (inr i) x = inr (u, i, x)
 
+pub r-listed : (ts : List ℕ) (x : ℕ) → Reflects (listed ts x) (Among x ts)
+unfolding listed
+r-listed ts x = r-map (λ y. rw (y .2) (y .1), λ i. (x, i, refl)) (r-some-of (λ t. x ≡ t) ts (eqb x) (λ t. r-eq x t))
+
 -- tests that agree on the numbers of a list; a test that none of them passes
 pub any-same : (ts : List ℕ) (g h : ℕ → Bool) → ((t : ℕ) → Among t ts → g t ≡ h t) → anyIn ts g ≡ anyIn ts h
 unfolding anyIn
@@ -38,10 +42,9 @@ none-in ts g e t i = go (g t) refl
         T-true _ ((r-some-of (λ x. T (g x)) ts g (λ x. r-T (g x))) .from (t, i, true-T _ q)) in clash cc
 
 pub decAmong : (t : ℕ) (ts : List ℕ) → Dec (Among t ts)
-decAmong t ts = decided (r-map (λ x. rw (x .2) at (x .1), λ i. (t, i, refl))
-    (r-some-of (λ u. u ≡ t) ts (λ u. eqb u t) (λ u. r-eq u t)))
+decAmong t ts = decided (r-listed ts t)
 
-r-rising : (ts : List ℕ) → Reflects (risingB ts) (Rising ts)
+pub r-rising : (ts : List ℕ) → Reflects (risingB ts) (Rising ts)
 unfolding risingB
 r-rising [] = record { to = λ x. empty; from = λ r. tt }
 r-rising (t ∷ []) = record { to = λ x. single; from = λ r. tt }

@@ -42,14 +42,14 @@ module _ (l : List ℕ) (t : ℕ) where
       → (k < length (l ++ (t ∷ []))) × (getD (l ++ (t ∷ [])) k 0 ≡ x)
   still-there x k (m, e) = (omega (arith, one-longer), List·getD-append l (t ∷ []) 0 k m ∙ e)
 
-module _ (p : Plan) (l : List ℕ) (a : World) (h : Numbered p l a) (t : ℕ) where
+module _ (whole p : Plan) (l : List ℕ) (a : World) (h : Numbered whole l a) (t : ℕ) where
   -- a task that does not wait has an ordinal
-  begun-numbered : {s : Status} → ¬ ¬ Task p t → s ≢ waiting → ¬ ((s ≡ waiting) ⊎ (¬ Task p t))
+  begun-numbered : {s : Status} → ¬ ¬ Task whole t → s ≢ waiting → ¬ ((s ≡ waiting) ⊎ (¬ Task whole t))
   begun-numbered k n (inl e) = n e
   begun-numbered k n (inr m) = k m
 
   -- a start takes the next position
-  start-numbered : ¬ ¬ Task p t → a .status t ≡ waiting → Numbered p (l ++ (t ∷ [])) (happen p a (start t))
+  start-numbered : ¬ ¬ Task whole t → a .status t ≡ waiting → Numbered whole (l ++ (t ∷ [])) (happen p a (start t))
   start-numbered y s = record {
     counts = ap suc (h .counts) ∙ sym (one-longer l t);
     position = λ x k. by-cases (ℕ-discrete x t) (λ (e : x ≡ t). rw (e, eq-eqb t t refl) (own k))
@@ -83,7 +83,7 @@ module _ (p : Plan) (l : List ℕ) (a : World) (h : Numbered p l a) (t : ℕ) wh
       )
 
   -- a finish takes none
-  finish-numbered : ¬ ¬ Task p t → a .status t ≢ waiting → Numbered p l (happen p a (finish t))
+  finish-numbered : ¬ ¬ Task whole t → a .status t ≢ waiting → Numbered whole l (happen p a (finish t))
   finish-numbered y s = record {
     counts = h .counts;
     position = h .position;
@@ -96,7 +96,7 @@ module _ (p : Plan) (l : List ℕ) (a : World) (h : Numbered p l a) (t : ℕ) wh
   }
 
   -- nor does a skip: an optional group is no task
-  skip-numbered : ¬ Task p t → Numbered p l (happen p a (skip t))
+  skip-numbered : ¬ Task whole t → Numbered whole l (happen p a (skip t))
   skip-numbered y = record {
     counts = h .counts;
     position = h .position;
@@ -106,12 +106,12 @@ module _ (p : Plan) (l : List ℕ) (a : World) (h : Numbered p l a) (t : ℕ) wh
   }
 
 -- nor do several finishes
-finishes-numbered : (p : Plan) (l : List ℕ) (a : World) → Numbered p l a → (ts : List ℕ)
-    → ((t : ℕ) → Among t ts → (¬ ¬ Task p t) × (a .status t ≢ waiting))
-    → Numbered p l (happenAll p a (finishes ts))
-finishes-numbered p l a h [] y = h
-finishes-numbered p l a h (t ∷ ts) y = finish-numbered p l (happenAll p a (finishes ts))
-    (finishes-numbered p l a h ts (λ u i. y u (there i))) t (y t (here refl) .0)
+finishes-numbered : (whole p : Plan) (l : List ℕ) (a : World) → Numbered whole l a → (ts : List ℕ)
+    → ((t : ℕ) → Among t ts → (¬ ¬ Task whole t) × (a .status t ≢ waiting))
+    → Numbered whole l (happenAll p a (finishes ts))
+finishes-numbered whole p l a h [] y = h
+finishes-numbered whole p l a h (t ∷ ts) y = finish-numbered whole p l (happenAll p a (finishes ts))
+    (finishes-numbered whole p l a h ts (λ u i. y u (there i))) t (y t (here refl) .0)
     (begun-stays p a ts t (y t (here refl) .1))
 
 -- what runs does not wait
@@ -122,27 +122,27 @@ running-begun k q = k (λ z. let e = sym z ∙ q in clash cc)
 number-some : (r : Refusal) → eqb (number r) 0 ≡ false
 number-some r = ne-eqb (number r) 0 (λ q. let e = code-inj {o = some r} {x = none} q in clash cc)
 
-module _ (p : Plan) where
+module _ (whole p : Plan) where
   -- calls after starts in the order of l
-  pub worked-numbered : {a z : World} {cs : List Call} {ns : List ℕ} (l : List ℕ) → Worked p a cs ns z → Numbered p l a
-      → Numbered p (l ++ acceptedStarts cs ns) z
+  pub worked-numbered : {a z : World} {cs : List Call} {ns : List ℕ} (l : List ℕ) → Worked whole p a cs ns z → Numbered whole l a
+      → Numbered whole (l ++ acceptedStarts cs ns) z
   unfolding acceptedStarts
   worked-numbered l no-calls h = rw (append-nil l) h
   worked-numbered l (next-call {a = a} {c = one (start t)} {cs = cs} {ns = ns} (accepted k) w) h =
       rw (← append-assoc l (t ∷ []) (acceptedStarts cs ns))
-      (worked-numbered (l ++ (t ∷ [])) w (start-numbered p l a h t (k .0) (found (Status-discrete _ _) (k .1 .0))))
+      (worked-numbered (l ++ (t ∷ [])) w (start-numbered whole p l a h t (k .0) (found (Status-discrete _ _) (k .1 .0))))
   worked-numbered l (next-call {a = a} {c = one (finish t)} (accepted k) w) h =
-      worked-numbered l w (finish-numbered p l a h t (k .0) (running-begun (k .1 .0)))
+      worked-numbered l w (finish-numbered whole p l a h t (k .0) (running-begun (λ n. k .1 .0 (inr n))))
   worked-numbered l (next-call {a = a} {c = one (skip g)} (accepted k) w) h =
-      worked-numbered l w (skip-numbered p l a h g
+      worked-numbered l w (skip-numbered whole p l a h g
       (λ y. k .0 (λ o. let q = sym (y .is-task) ∙ o .is-optional in clash cc)))
   worked-numbered l (next-call {a = a} {c = together ts} (accepted k) w) h =
-      worked-numbered l w (finishes-numbered p l a h ts
-      (λ t i. (λ n. k .1 .0 (t, i, n), running-begun (λ n. k .1 .1 .0 (t, i, n)))))
+      worked-numbered l w (finishes-numbered whole p l a h ts
+      (λ t i. (λ n. k .1 .0 (t, i, n), running-begun (λ n. k .1 .1 .0 (t, i, inr n)))))
   worked-numbered l (next-call (refused r k) w) h = rw (number-some r) (worked-numbered l w h)
 
   -- and after no start
-  pub fresh-numbered : (F : ℕ → Bool) → Numbered p [] (fresh F)
+  pub fresh-numbered : (F : ℕ → Bool) → Numbered whole [] (fresh F)
   fresh-numbered F = record {
     counts = refl;
     position = λ x k. (λ e. absurd (omega arith), λ w. absurd (omega (arith, w .0)));

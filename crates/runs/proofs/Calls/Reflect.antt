@@ -5,10 +5,12 @@ use Rattle.runs.specs.Plan.{any-of, optional, Picks, Moves, inc, post, P
 use Rattle.runs.specs.Execution.{Status, waiting, running, done, State, Event, start, finish, skip, nodeOf}
 use Rattle.runs.specs.Execution.{task-done, all-done, any-done, skip-done}
 use Rattle.runs.specs.Execution.{Complete, Begun, Rival, by-branch, by-skip, preOf, asserts}
+use Rattle.runs.specs.Calls.{Absent}
 use Rattle.runs.specs.Calls.{Call, one, together, SomeOf, World, Refusal, no-task}
 use Rattle.runs.specs.Calls.{wrong-status, branch-begun, order-open, pre-unmet, inc-broken, not-rising}
 use Rattle.runs.specs.Calls.{post-opposed, no-optional, Task, Optional, WrongStatus, BranchBegun, OrderOpen}
 use Rattle.runs.specs.Calls.{PreUnmet, IncBroken, PostOpposed, Applies}
+use Rattle.runs.specs.Model.Monitor.{absentB}
 use Rattle.runs.specs.Model.Monitor.{statusB, oppositeB, taskB, optionalB, completeIn, completeB, begunB, rivalB}
 use Rattle.runs.specs.Model.Monitor.{wrongStatusB, branchBegunB}
 use Rattle.runs.specs.Model.Monitor.{orderOpenB, preUnmetB, incBrokenB, postOpposedB, appliesB}
@@ -37,7 +39,7 @@ r-opposite (some u) x = r-map (λ q. (u, refl, q), λ y. y .2 ∙ ap (λ b. some
     same : {v : Bool} → some u ≡ some v → u ≡ v
     same q = cc
 
-module _ (p : Plan) (w : WellFormed p) where
+module _ (p : Plan) where
   pub r-task : (t : ℕ) → Reflects (taskB p t) (Task p t)
   unfolding taskB
   r-task t = r-map (λ x. record { node = x .0; is-task = x .1 }, λ x. (x .node, x .is-task))
@@ -48,6 +50,11 @@ module _ (p : Plan) (w : WellFormed p) where
   r-optional g = r-map (λ x. record { node = x .0; is-optional = x .1 }, λ x. (x .node, x .is-optional))
       (r-both _ _ (r-T _) (r-kind _ _))
 
+  pub r-absent : (t : ℕ) → Reflects (absentB p t) (Absent p t)
+  unfolding absentB
+  r-absent t = r-negate _ (r-T _)
+
+module _ (p : Plan) (w : WellFormed p) where
   module _ (s : State) where
     r-complete-in : (k n : ℕ) → Node p n → p .tree .size ≤ n + k → Reflects (completeIn p s k n) (Complete p s n)
     unfolding completeIn
@@ -113,7 +120,7 @@ module _ (p : Plan) (w : WellFormed p) where
     r-wrong-status : (e : Event) → Reflects (wrongStatusB p s e) (WrongStatus p s e)
     unfolding wrongStatusB
     r-wrong-status (start t) = r-negate _ (r-status _ _)
-    r-wrong-status (finish t) = r-negate _ (r-status _ _)
+    r-wrong-status (finish t) = r-either _ _ (r-absent p t) (r-negate _ (r-status _ _))
     r-wrong-status (skip g) =
         r-either _ _ (r-negate _ (r-status _ _)) (r-some-child p w (Begun p s) _ (λ c hc. r-begun c (hc .node)))
 
@@ -208,24 +215,25 @@ module _ (p : Plan) (w : WellFormed p) where
       from x = let o = w .on-task post (x .who) (x .on) (x .sign) (x .leaves) in
           (x .who, x .listed, (x .other, x .other-listed, (x .on, o .2, (x .sign, x .leaves, x .opposes))))
 
-  -- each test is its row of the table
-  pub r-applies : (a : World) (c : Call) (r : Refusal) → Reflects (appliesB p a c r) (Applies p a c r)
+-- each test is its row of the table
+module _ (whole p : Plan) (w : WellFormed p) where
+  pub r-applies : (a : World) (c : Call) (r : Refusal) → Reflects (appliesB whole p a c r) (Applies whole p a c r)
   unfolding appliesB
-  r-applies a (one e) no-task = r-negate _ (r-task (nodeOf e))
-  r-applies a (one e) wrong-status = r-wrong-status (a .status) e
-  r-applies a (one e) branch-begun = r-branch-begun (a .status) (nodeOf e)
-  r-applies a (one e) order-open = r-order-open (a .status) (nodeOf e)
-  r-applies a (one e) pre-unmet = r-pre-unmet (a .flag) e
-  r-applies a (one e) inc-broken = r-inc-broken (a .status) e
-  r-applies a (one e) no-optional = r-negate _ (r-optional (nodeOf e))
+  r-applies a (one e) no-task = r-negate _ (r-task whole (nodeOf e))
+  r-applies a (one e) wrong-status = r-wrong-status p w (a .status) e
+  r-applies a (one e) branch-begun = r-either _ _ (r-absent p (nodeOf e)) (r-branch-begun p w (a .status) (nodeOf e))
+  r-applies a (one e) order-open = r-order-open p w (a .status) (nodeOf e)
+  r-applies a (one e) pre-unmet = r-pre-unmet p w (a .flag) e
+  r-applies a (one e) inc-broken = r-inc-broken p w (a .status) e
+  r-applies a (one e) no-optional = r-negate _ (r-optional whole (nodeOf e))
   r-applies a (one e) not-rising = r-false (λ x. x)
   r-applies a (one e) post-opposed = r-false (λ x. x)
-  r-applies a (together ts) no-task = r-some-of _ ts _ (λ t. r-negate _ (r-task t))
-  r-applies a (together ts) wrong-status = r-some-of _ ts _ (λ t. r-wrong-status (a .status) (finish t))
+  r-applies a (together ts) no-task = r-some-of _ ts _ (λ t. r-negate _ (r-task whole t))
+  r-applies a (together ts) wrong-status = r-some-of _ ts _ (λ t. r-wrong-status p w (a .status) (finish t))
   r-applies a (together ts) branch-begun = r-false (λ x. x)
   r-applies a (together ts) order-open = r-false (λ x. x)
   r-applies a (together ts) pre-unmet = r-false (λ x. x)
-  r-applies a (together ts) inc-broken = r-some-of _ ts _ (λ t. r-inc-broken _ (finish t))
+  r-applies a (together ts) inc-broken = r-some-of _ ts _ (λ t. r-inc-broken p w _ (finish t))
   r-applies a (together ts) no-optional = r-false (λ x. x)
   r-applies a (together ts) not-rising = r-not-rising ts
-  r-applies a (together ts) post-opposed = r-post-opposed ts
+  r-applies a (together ts) post-opposed = r-post-opposed p w ts

@@ -57,7 +57,7 @@ module _ (p : Plan) (a : World) where
 
   -- 22 applies to them exactly if one of them breaks a hold of a running task that is not listed
   pub broken-unlisted : (ts : List ℕ)
-      → Applies p a (together ts) inc-broken ↔ SomeOf ts (λ t. (b : IncBroken p (a .status) (finish t))
+      → Applies p p a (together ts) inc-broken ↔ SomeOf ts (λ t. (b : IncBroken p (a .status) (finish t))
       × (¬ Among (b .who) ts))
   broken-unlisted ts = (λ (t, i, b). (t, i, to t b), λ (t, i, b). (t, i, from t (b .0) (b .1)))
     where
@@ -231,7 +231,7 @@ module _ (p : Plan) (w : WellFormed p) (a : World) (ts : List ℕ) where
           (differ (x .sign) (sym (leaving-true p a (x .on) ts n (x .sign) (x .who) (x .listed) (x .leaves))
           ∙ x .turned))
 
-  pub broken-turned : ¬ PostOpposed p ts → Applies p a (together ts) inc-broken ↔ Turned p a ts
+  pub broken-turned : ¬ PostOpposed p ts → Applies p p a (together ts) inc-broken ↔ Turned p a ts
   broken-turned k = (λ x. to ((broken-unlisted p a ts) .0 x), λ x. (broken-unlisted p a ts) .1 (from x))
     where
       to : SomeOf ts (λ t. (b : IncBroken p (a .status) (finish t)) × (¬ Among (b .who) ts)) → Turned p a ts

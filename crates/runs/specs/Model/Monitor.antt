@@ -38,6 +38,9 @@ module _ (p : Plan) where
   unfoldable pub optionalB : ℕ → Bool
   optionalB g = both (p .tree .here g) (λ u. kindB (p .tree .kind g) optional)
 
+  unfoldable pub absentB : ℕ → Bool
+  absentB t = negate (p .tree .here t)
+
   module _ (s : State) where
     -- k: more than the levels under n
     unfoldable pub completeIn : ℕ → ℕ → Bool
@@ -58,7 +61,7 @@ module _ (p : Plan) where
 
     unfoldable pub wrongStatusB : Event → Bool
     wrongStatusB (start t) = negate (statusB (s t) (asks (start t)))
-    wrongStatusB (finish t) = negate (statusB (s t) (asks (finish t)))
+    wrongStatusB (finish t) = either (absentB t) (λ u. negate (statusB (s t) (asks (finish t))))
     wrongStatusB (skip g) = either (negate (statusB (s g) (asks (skip g)))) (λ u. someChildB p g begunB)
 
     unfoldable pub branchBegunB : ℕ → Bool
@@ -80,25 +83,27 @@ module _ (p : Plan) where
   postOpposedB ts = anyIn ts (λ t. anyIn ts (λ x. anyBelow (p .cond .flags)
       (λ f. oppositeB (p .cond .sign post t f) (p .cond .sign post x f))))
 
+-- whole: the whole plan; p: what is left of it without the blocked nodes
+module _ (whole p : Plan) where
   unfoldable pub appliesB : World → Call → Refusal → Bool
-  appliesB a (one e) no-task = negate (taskB (nodeOf e))
-  appliesB a (one e) wrong-status = wrongStatusB (a .status) e
-  appliesB a (one e) branch-begun = branchBegunB (a .status) (nodeOf e)
-  appliesB a (one e) order-open = orderOpenB (a .status) (nodeOf e)
-  appliesB a (one e) pre-unmet = preUnmetB (a .flag) e
-  appliesB a (one e) inc-broken = incBrokenB (a .status) e
-  appliesB a (one e) no-optional = negate (optionalB (nodeOf e))
+  appliesB a (one e) no-task = negate (taskB whole (nodeOf e))
+  appliesB a (one e) wrong-status = wrongStatusB p (a .status) e
+  appliesB a (one e) branch-begun = either (absentB p (nodeOf e)) (λ u. branchBegunB p (a .status) (nodeOf e))
+  appliesB a (one e) order-open = orderOpenB p (a .status) (nodeOf e)
+  appliesB a (one e) pre-unmet = preUnmetB p (a .flag) e
+  appliesB a (one e) inc-broken = incBrokenB p (a .status) e
+  appliesB a (one e) no-optional = negate (optionalB whole (nodeOf e))
   appliesB a (one e) not-rising = false
   appliesB a (one e) post-opposed = false
-  appliesB a (together ts) no-task = anyIn ts (λ t. negate (taskB t))
-  appliesB a (together ts) wrong-status = anyIn ts (λ t. wrongStatusB (a .status) (finish t))
+  appliesB a (together ts) no-task = anyIn ts (λ t. negate (taskB whole t))
+  appliesB a (together ts) wrong-status = anyIn ts (λ t. wrongStatusB p (a .status) (finish t))
   appliesB a (together ts) branch-begun = false
   appliesB a (together ts) order-open = false
   appliesB a (together ts) pre-unmet = false
-  appliesB a (together ts) inc-broken = anyIn ts (λ t. incBrokenB (happenAll p a (finishes ts) .status) (finish t))
+  appliesB a (together ts) inc-broken = anyIn ts (λ t. incBrokenB p (happenAll p a (finishes ts) .status) (finish t))
   appliesB a (together ts) no-optional = false
   appliesB a (together ts) not-rising = notRisingB ts
-  appliesB a (together ts) post-opposed = postOpposedB ts
+  appliesB a (together ts) post-opposed = postOpposedB p ts
 
 abbrev pub orElse : Bool → Refusal → (Unit {0} → Option Refusal) → Option Refusal
 orElse true r k = some r
@@ -116,10 +121,10 @@ abbrev pub settle : Option Refusal → World → World → World
 settle none old new = new
 settle (some r) old new = old
 
-module _ (p : Plan) where
+module _ (whole p : Plan) where
   -- the first check that applies
   unfoldable pub refusalOf : World → Call → Option Refusal
-  refusalOf a c = firstOf (appliesB p a c) (checks c)
+  refusalOf a c = firstOf (appliesB whole p a c) (checks c)
 
   -- what the call returns
   unfoldable pub returned : World → Call → ℕ
