@@ -24,7 +24,7 @@ use Rattle.base.proofs.Overlay.{length-overlay, at-overlay, past-overlay}
 use Rattle.run_state.proofs.Left.{fresh-accepted}
 use Rattle.run_state.proofs.Passed.{has-room, is-well, byte-rests, byte-optional, byte-shown}
 use Rattle.run_starts.proofs.Numbers.{unstarted-none, ordinal-small}
-use Rattle.run_tasks.specs.Sets.{only}
+use Rattle.node_sets.specs.Sets.{only}
 use Rattle.run_refusals.specs.Events.{eventPlace, callRefusal}
 use Rattle.run_monitor.specs.Events.{afterAll, callState}
 use Rattle.run_monitor.proofs.Events.{Going, nothing, going, all-happened, call-goes}

@@ -30,9 +30,10 @@ use Rattle.runs.proofs.Reflect.{clash}
 use Rattle.runs.proofs.Calls.Listed.{rising-above, rising-tail}
 use Rattle.run_starts.specs.Starts.{nodeByte}
 use Rattle.run_state.specs.Made.{isOf, setAt, literals, made}
-use Rattle.run_tasks.specs.Sets.{only, listed}
+use Rattle.runs.specs.Tests.{listed}
+use Rattle.node_sets.specs.Sets.{only}
 use Rattle.run_conditions.specs.Conditions.{brokenAt}
-use Rattle.run_tasks.proofs.Sets.{listed-among, nothing-listed}
+use Rattle.node_sets.proofs.Sets.{listed-among, nothing-listed}
 
 pub flag-small : (v : ℕ) → flagOf v < 64
 unfolding flagOf

@@ -28,11 +28,12 @@ use Rattle.run_starts.specs.Starts.{nodeByte}
 use Rattle.run_state.specs.State.{flagShown, statusIn, stateRefusal, worldOf}
 use Rattle.run_state.proofs.Passed.{has-room, well-formed, byte-is}
 use Rattle.run_state.specs.Made.{isOf, setAt, made}
-use Rattle.run_tasks.specs.Sets.{only, listed}
+use Rattle.runs.specs.Tests.{listed}
+use Rattle.node_sets.specs.Sets.{only}
 use Rattle.run_conditions.specs.Conditions.{unmetAt, brokenAt}
 use Rattle.run_conditions.proofs.Laws.{flag-small, of-set, set-of, of-is, is-of, sign-at, found, made-flag}
 use Rattle.run_conditions.proofs.Laws.{left-flag, on-task}
-use Rattle.run_tasks.proofs.Sets.{listed-among, among-listed}
+use Rattle.node_sets.proofs.Sets.{listed-among, among-listed}
 
 differ : (v x : Bool) → not (sameB v x) ≡ true → x ≡ not v
 unfolding sameB

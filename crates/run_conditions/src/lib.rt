@@ -22,7 +22,7 @@ ghost use Rattle.plan_rules.specs.Rules.{refusal};
 ghost use Rattle.runs.specs.Tests.{anyBelow, sameB};
 ghost use Rattle.run_state.specs.State.{stateRefusal};
 ghost use Rattle.run_state.specs.Made.{isOf, setAt, made};
-ghost use Rattle.run_tasks.specs.Sets.{marked};
+ghost use Rattle.node_sets.specs.Sets.{marked};
 ghost use Rattle.run_conditions.specs.Conditions.{unmetAt, brokenAt};
 
 // Condition i is at the place (0 pre-, 1 in-, 2 postcondition).

@@ -19,7 +19,7 @@ use Rattle.runs.proofs.Calls.Listed.{rising-once, rising-tail}
 use Rattle.run_starts.specs.Starts.{nodeByte, startedCount}
 use Rattle.run_state.specs.State.{stateRefusal, statusIn, flagShown, ordinalShown, worldOf}
 use Rattle.run_starts.proofs.Numbering.{Numbering}
-use Rattle.run_tasks.specs.Sets.{Each}
+use Rattle.node_sets.specs.Sets.{Each}
 use Rattle.run_refusals.specs.Events.{callRefusal}
 use Rattle.run_refusals.proofs.Chain.{accepted-kind, accepted-byte, event-does}
 use Rattle.run_refusals.proofs.Together.{accepted-rises, accepted-tasks, accepted-running}

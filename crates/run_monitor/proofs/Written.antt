@@ -21,7 +21,7 @@ use Rattle.run_starts.specs.Starts.{nodeByte}
 use Rattle.run_state.specs.State.{stateRefusal}
 use Rattle.run_state.proofs.Passed.{has-room}
 use Rattle.run_state.specs.Made.{made}
-use Rattle.run_tasks.specs.Sets.{only}
+use Rattle.node_sets.specs.Sets.{only}
 use Rattle.run_conditions.proofs.Laws.{literals-idle, made-length, made-flag, of-is, on-task}
 use Rattle.run_monitor.specs.Events.{withEvent}
 

@@ -14,7 +14,7 @@ use Rattle.base.specs.Answers.{first}
 use Rattle.run_starts.specs.Starts.{withOrdinal, startedCount}
 use Rattle.run_state.specs.State.{stateRefusal, worldOf}
 use Rattle.run_state.specs.Made.{made}
-use Rattle.run_tasks.specs.Sets.{only, Each}
+use Rattle.node_sets.specs.Sets.{only, Each}
 use Rattle.run_refusals.specs.Events.{callRefusal}
 
 -- the state with the literals of task t at place q made true, and the byte x at t

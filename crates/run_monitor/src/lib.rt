@@ -3,6 +3,8 @@
 use base::places::POST;
 use base::statuses::DONE;
 use base::statuses::RUNNING;
+use node_sets::mark_all;
+use node_sets::mark_one;
 use run_conditions::with_literals;
 use run_flags::load;
 use run_flags::store;
@@ -17,8 +19,6 @@ use run_refusals::together_refused;
 use run_starts::started;
 use run_starts::write_ordinal;
 use run_state::check_state;
-use run_tasks::mark_all;
-use run_tasks::mark_one;
 ghost use mathlib.Core.Path.{_≡_};
 ghost use Rattle.runs.specs.Execution as execution;
 ghost use Rattle.runs.specs.Calls.{one, together, finishes};

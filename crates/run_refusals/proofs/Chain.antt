@@ -32,7 +32,7 @@ use Rattle.run_starts.specs.Starts.{nodeByte}
 use Rattle.run_state.specs.State.{stateRefusal, statusIn, flagShown, worldOf}
 use Rattle.run_state.proofs.Passed.{has-room, well-formed, byte-is, shown-moves}
 use Rattle.run_state.specs.Made.{made}
-use Rattle.run_tasks.specs.Sets.{only}
+use Rattle.node_sets.specs.Sets.{only}
 use Rattle.run_conditions.specs.Conditions.{brokenAt}
 use Rattle.run_conditions.proofs.Refusals.{broken-is}
 use Rattle.run_refusals.specs.declared.Move.{Move}

@@ -23,7 +23,8 @@ use Rattle.runs.proofs.Calls.Listed.{r-not-rising, any-same, none-in, rises}
 use Rattle.run_starts.specs.Starts.{nodeByte}
 use Rattle.run_state.specs.State.{stateRefusal, statusIn, worldOf}
 use Rattle.run_state.specs.Made.{made}
-use Rattle.run_tasks.specs.Sets.{listed, Each}
+use Rattle.runs.specs.Tests.{listed}
+use Rattle.node_sets.specs.Sets.{Each}
 use Rattle.run_conditions.specs.Conditions.{unmetAt, brokenAt}
 use Rattle.run_conditions.proofs.Refusals.{opposed-is, broken-unless}
 use Rattle.run_refusals.specs.Events.{callRefusal}

@@ -1,8 +1,7 @@
-// The tasks of an event, or of several finishes in one step: as a table that marks them; and what is asked of a list of
-// them (25, 17, 18).
+// What is asked of a list of tasks that finish in one step (25, 17, 18).
 use base::kinds::TASK;
-use base::no_nodes;
 use base::statuses::RUNNING;
+use node_sets::rises;
 use plan_format::fields::is_kind;
 ghost use mathlib.Core.Path.{_≡_};
 ghost use mathlib.Core.Bool.{not};
@@ -13,48 +12,16 @@ ghost use Rattle.plan_format.specs.Format.{Whole, isKind};
 ghost use Rattle.runs.specs.Tests.{anyIn};
 ghost use Rattle.runs.specs.Model.Monitor.{notRisingB};
 ghost use Rattle.run_starts.specs.Starts.{nodeByte};
-ghost use Rattle.run_tasks.specs.Sets.{only, listed, marked, Each};
+ghost use Rattle.node_sets.specs.Sets.{Each};
 
-// A table with one task marked.
-pub fn mark_one(task: usize) -> [u8; 128]
-    requires { ⌜ task < 128 ⌝ }
-    ensures { λ r. ⌜ marked r ≡ only task ⌝ }
-{
-    let mut marks = no_nodes();
-    marks[task] = 1;
-    marks
-}
-
-// A table with the tasks of a list marked.
-pub fn mark_all(tasks: &[usize]) -> [u8; 128]
-    requires { ⌜ Each (now tasks) (λ t. t < 128) ⌝ }
-    ensures { λ r. ⌜ marked r ≡ listed (now (tasks .entry)) ⌝ }
-{
-    let mut marks = no_nodes();
-    let mut i = tasks.len();
-    while 0 < i {
-        i -= 1;
-        marks[tasks[i]] = 1;
-    }
-    marks
-}
-
-// 25: the list is empty or does not strictly rise. It is read up to the first number that is not above the one before.
+// 25: the list is empty or does not strictly rise.
 pub fn not_rising(tasks: &[usize]) -> bool
     ensures { λ r. ⌜ r ≡ notRisingB (now (tasks .entry)) ⌝ }
 {
-    let n = tasks.len();
-    if n == 0 {
+    if tasks.len() == 0 {
         return true;
     }
-    let mut i = 1;
-    while i < n {
-        if tasks[i] <= tasks[i - 1] {
-            return true;
-        }
-        i += 1;
-    }
-    false
+    !rises(tasks)
 }
 
 // 17: some number is not that of a task. The list is read up to the first such number, so of a rising one no more than

@@ -8,7 +8,7 @@ use Rattle.run_flags.specs.Flags.{flagIn}
 use Rattle.plan_format.specs.Format.{nodeCount}
 use Rattle.run_state.proofs.Refused.{Roomy}
 use Rattle.run_state.proofs.Passed.{has-room}
-use Rattle.run_tasks.specs.Sets.{marked}
+use Rattle.node_sets.specs.Sets.{marked}
 use Rattle.run_conditions.proofs.Laws.{on-task, broken-turn, kept-set, kept-clear}
 use borrow.Author.Needs.{needs}
 use native.Mathlib.Omega.{arith}

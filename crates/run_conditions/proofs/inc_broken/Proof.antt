@@ -12,7 +12,7 @@ use mathlib.Core.List.{List}
 use Prim.Native.Nat.{ℕ}
 use Rattle.run_flags.specs.Flags.{allByte}
 use Rattle.run_state.specs.Made.{made}
-use Rattle.run_tasks.specs.Sets.{marked}
+use Rattle.node_sets.specs.Sets.{marked}
 use Rattle.run_conditions.specs.Conditions.{brokenAt}
 use native.Mathlib.Omega.{arith}
 use Rattle.run_conditions.proofs.inc_broken.Statement.{statement}

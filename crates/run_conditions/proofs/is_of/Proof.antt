@@ -5,7 +5,7 @@ use borrow.Author.Tests.{ne-eqb}
 use Rattle.plan_format.specs.Format.{condNode}
 use Rattle.plan_check.proofs.Accepted.{clean}
 use Rattle.run_state.specs.Made.{isOf}
-use Rattle.run_tasks.specs.Sets.{marked}
+use Rattle.node_sets.specs.Sets.{marked}
 use Rattle.run_conditions.proofs.Laws.{on-task}
 use borrow.Author.Needs.{needs}
 use native.Mathlib.Omega.{arith}

@@ -7,7 +7,7 @@ use Rattle.plan_format.specs.Format.{condCount}
 use Rattle.runs.specs.Tests.{anyBelow}
 use Rattle.plan_rules.proofs.Laws.{some-yes, none-more, none-none}
 use Rattle.plan_check.proofs.Accepted.{clean}
-use Rattle.run_tasks.specs.Sets.{marked}
+use Rattle.node_sets.specs.Sets.{marked}
 use Rattle.run_conditions.specs.Conditions.{unmetAt}
 use native.Mathlib.Omega.{arith}
 use Rattle.run_conditions.proofs.unmet.Statement.{statement}

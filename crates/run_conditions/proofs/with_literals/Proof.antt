@@ -6,7 +6,7 @@ use denote.Ref.{now}
 use Rattle.plan_format.specs.Format.{condCount}
 use Rattle.plan_check.proofs.Accepted.{clean}
 use Rattle.run_state.specs.Made.{literals, made}
-use Rattle.run_tasks.specs.Sets.{marked}
+use Rattle.node_sets.specs.Sets.{marked}
 use Rattle.run_conditions.proofs.Laws.{literals-none, literals-turn, literals-kept}
 use native.Mathlib.Omega.{arith}
 use Rattle.run_conditions.proofs.with_literals.Statement.{statement}

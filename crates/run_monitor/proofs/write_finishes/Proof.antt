@@ -9,8 +9,9 @@ use Rattle.plan_check.proofs.Meaning.{kind-is}
 use Rattle.runs.specs.Plan.{post, placeNumber}
 use Rattle.run_state.specs.Made.{made}
 use Rattle.run_state.proofs.Passed.{has-room}
-use Rattle.run_tasks.specs.Sets.{listed, Each}
-use Rattle.run_tasks.proofs.Lists.{among-at, drop-none}
+use Rattle.runs.specs.Tests.{listed}
+use Rattle.node_sets.specs.Sets.{Each}
+use Rattle.node_sets.proofs.Lists.{among-at, drop-none}
 use Rattle.run_monitor.proofs.Finishes.{allDone, nothing-done, done-more, all-written}
 use borrow.Author.Needs.{needs}
 use native.Mathlib.Omega.{arith}

@@ -13,7 +13,7 @@ use Rattle.runs.specs.Tests.{anyIn}
 use Rattle.runs.specs.Model.Monitor.{notRisingB, postOpposedB}
 use Rattle.run_starts.specs.Starts.{nodeByte}
 use Rattle.run_state.proofs.Passed.{has-room}
-use Rattle.run_tasks.specs.Sets.{Each}
+use Rattle.node_sets.specs.Sets.{Each}
 use Rattle.run_refusals.specs.Events.{callRefusal}
 use Rattle.run_refusals.proofs.Together.{together-25, together-17, together-18, together-26, opposed, unopposed}
 use Rattle.run_refusals.proofs.Together.{tasks}

@@ -5,7 +5,7 @@ use Prim.Native.Nat.{_≤_, _-_}
 use lib.ListN.{drop}
 use Rattle.plan_format.specs.Format.{isKind}
 use Rattle.runs.specs.Tests.{anyIn}
-use Rattle.run_tasks.proofs.Lists.{some-here, some-later, some-none}
+use Rattle.node_sets.proofs.Lists.{some-here, some-later, some-none}
 use native.Mathlib.Omega.{arith}
 use Rattle.run_tasks.proofs.no_task.Statement.{statement}
 use Rattle.run_tasks.proofs.no_task.Tie as tie

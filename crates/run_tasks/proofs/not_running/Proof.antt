@@ -9,7 +9,7 @@ use denote.Ref.{now}
 use borrow.Author.Tests.{eq-eqb, ne-eqb}
 use Rattle.runs.specs.Tests.{anyIn}
 use Rattle.run_starts.specs.Starts.{nodeByte}
-use Rattle.run_tasks.proofs.Lists.{among-at, some-here, some-later, some-none}
+use Rattle.node_sets.proofs.Lists.{among-at, some-here, some-later, some-none}
 use native.Mathlib.Omega.{arith}
 use Rattle.run_tasks.proofs.not_running.Statement.{statement}
 use Rattle.run_tasks.proofs.not_running.Tie as tie

@@ -5,7 +5,7 @@ use Rattle.runs.proofs.Base.{[], Among, among-none, ℕ, _<_, arith, T}
 use Rattle.runs.specs.Plan.{all-of, any-of, Picks, Plan, itself, below, Node, Child, Under, WellFormed}
 use Rattle.runs.specs.Summary.{Mark}
 use Rattle.runs.specs.Tests.{either, anyIn, listed}
-use Rattle.runs.specs.Calls.{SomeOf, Rising}
+use Rattle.runs.specs.Calls.{SomeOf, Rising, empty}
 use Rattle.runs.specs.Blocked.{over, Keeps, Stands, stands, without, MarkedUnder, markedUnderB, OrdersAdded}
 use Rattle.runs.specs.Blocked.{Refused28, not-rising, names-root, no-node, no-choice, Refused29, no-branch, Blocks}
 use Rattle.runs.specs.Blocked.{unblockableB, refused28B, refused29B, blockedRefusal}
@@ -156,6 +156,10 @@ module _ (p : Plan) (w : WellFormed p) where
   nothing-listed : (s : ℕ) → ¬ T (listed [] s)
   nothing-listed s x = among-none ((r-listed [] s) .to x)
 
+  pub all-standing : (n : ℕ) → Node p n → stands p (listed []) n ≡ true
+  all-standing n l = T-true _ ((r-stands p w (listed []) n) .from
+      (record { node = l; outside = λ s x u. nothing-listed s x }))
+
   pub blocks-nothing : Blocks p (listed [])
   blocks-nothing = record {
     node = λ s x. absurd (nothing-listed s x);
@@ -165,6 +169,9 @@ module _ (p : Plan) (w : WellFormed p) where
         let (c, hc) = w .some-branch g (x .node) k in
         (c, standing-child p w (listed []) hc (stands-down p w (listed []) hc (nothing-listed c) x));
   }
+
+  pub nothing-refused : blockedRefusal p [] ≡ 0
+  nothing-refused = (refusal-none []) .1 (empty, blocks-nothing)
 
   pub without-none : without p (listed []) ≡ p
   without-none = nothing-absent p w (listed []) nothing-listed

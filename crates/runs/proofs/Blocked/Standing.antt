@@ -1,8 +1,9 @@
 -- The plan with subtrees absent: which nodes stand; it is well formed where each any-of group keeps a branch and, below the root, only choices lose one.
-use Rattle.runs.proofs.Base.{_≡_, refl, ap, _∙_, fun-ext, _↔_, Bool, ℕ, _<_, arith, T}
+use Rattle.runs.proofs.Base.{_≡_, refl, ap, _∙_, fun-ext, _↔_, Bool, true, ℕ, _<_, arith, T}
 use Rattle.runs.specs.Plan.{all-of, any-of, Picks, Plan, itself, below, Node, Child, Under, WellFormed}
+use Rattle.runs.specs.Tests.{both, negate}
 use Rattle.runs.specs.Blocked.{within, over, Stands, stands, standingOrder, without}
-use Rattle.runs.proofs.Reflect.{Reflects, r-map, same-test, r-T, r-both, r-negate, r-any}
+use Rattle.runs.proofs.Reflect.{Reflects, r-map, same-test, T-true, r-T, r-both, r-negate, r-any}
 use Rattle.runs.proofs.Plan.{under-le, r-under}
 use Rattle.runs.proofs.Calls.Rows.{LeftOf}
 use Rattle.runs.proofs.Blocked.Thinner.{Thinner}
@@ -42,6 +43,15 @@ module _ (p : Plan) (w : WellFormed p) (S : ℕ → Bool) where
 
   pub root-stands : ¬ T (S 0) → Stands p S 0
   root-stands k = record { node = w .root-node; outside = λ s y u. let z : s ≡ 0 = omega (arith, under-le p w u) in k (rw z at y) }
+
+  -- the same as tests
+  pub root-standing : ¬ T (S 0) → stands p S 0 ≡ true
+  root-standing k = T-true _ ((r-stands 0) .from (root-stands k))
+
+  pub child-standing : (c : ℕ) → 0 < c → Node p c
+      → stands p S c ≡ both (negate (S c)) (λ u. stands p S (p .tree .parent c))
+  child-standing c z l = same-test _ _ (r-map (stands-child (record { not-root = z; node = l; up = refl })) (r-stands c))
+      (r-both _ _ (r-negate _ (r-T _)) (r-stands (p .tree .parent c)))
 
   pub standing-child : {g c : ℕ} → Child p g c → Stands p S c → Child (without p S) g c
   standing-child {g} {c} hc x = record { not-root = hc .not-root; node = (r-stands c) .from x; up = hc .up }

@@ -11,19 +11,16 @@ use lib.Seq.{getD-set-same, getD-set-other}
 use lib.Dec.{eqb}
 use borrow.Author.Tests.{eq-eqb, ne-eqb}
 use Rattle.base.specs.Zeros.{Zeros}
-use Rattle.runs.specs.Tests.{either, anyIn}
-use Rattle.runs.proofs.Reflect.{r-eq, true-T, T-true}
-use Rattle.runs.proofs.Calls.Listed.{r-some-of}
-use Rattle.run_tasks.specs.Sets.{only, listed, marked}
+use Rattle.runs.specs.Tests.{either, anyIn, listed}
+use Rattle.runs.proofs.Reflect.{true-T, T-true}
+use Rattle.runs.proofs.Calls.Listed.{r-listed}
+use Rattle.node_sets.specs.Sets.{only, marked}
 
 pub listed-among : (ts : List ℕ) (x : ℕ) → listed ts x ≡ true → Among x ts
-unfolding listed
-listed-among ts x y = let w = r-some-of (λ t. x ≡ t) ts (eqb x) (λ t. r-eq x t) .to (true-T _ y) in
-    rw (sym (w .2)) at (w .1)
+listed-among ts x y = (r-listed ts x) .to (true-T _ y)
 
 pub among-listed : (ts : List ℕ) (x : ℕ) → Among x ts → listed ts x ≡ true
-unfolding listed
-among-listed ts x i = T-true _ (r-some-of (λ t. x ≡ t) ts (eqb x) (λ t. r-eq x t) .from (x, i, refl))
+among-listed ts x i = T-true _ ((r-listed ts x) .from i)
 
 pub nothing-listed : (x : ℕ) → listed [] x ≡ true → ⊥
 nothing-listed x y = among-none (listed-among [] x y)
@@ -35,7 +32,7 @@ marked-none table z = fun-ext (λ x. by-cases (decLt x 128)
     (λ (l : x < 128). rw (z .zero x l))
     (λ l. rw (List·getD-eq-default table 0 {n = x} (omega (arith, z .long)))))
 
-marked-more : (table : List ℕ) (t : ℕ) → t < length table → (x : ℕ)
+pub marked-more : (table : List ℕ) (t : ℕ) → t < length table → (x : ℕ)
     → marked (set table t 1) x ≡ either (eqb x t) (λ u. marked table x)
 unfolding marked either
 marked-more table t l x = by-cases (ℕ-discrete x t)

@@ -1,8 +1,8 @@
--- `run_tasks::mark_one` meets its contract. Assumes nothing.
-use Rattle.run_tasks.proofs.Sets.{marked-only}
+-- `node_sets::mark_one` meets its contract. Assumes nothing.
+use Rattle.node_sets.proofs.Sets.{marked-only}
 use borrow.Author.Needs.{needs}
-use Rattle.run_tasks.proofs.mark_one.Statement.{statement}
-use Rattle.run_tasks.proofs.mark_one.Tie as tie
+use Rattle.node_sets.proofs.mark_one.Statement.{statement}
+use Rattle.node_sets.proofs.mark_one.Tie as tie
 
 returns : tie.Need-returns
 returns c = marked-only _ _ (c .no-nodes .ensures) (c .before .pre)

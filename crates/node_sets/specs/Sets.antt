@@ -1,19 +1,21 @@
--- Sets of nodes: one, those of a list, those with a 1 in a table. Definitions only.
-use Prim.Native.Nat.{ℕ}
+-- Sets of nodes: one, those with a 1 in a table. (Those of a list are `listed` of runs.) Definitions only.
+use mathlib.Core.Path.{_≡_}
+use Prim.Native.Nat.{ℕ, _<_}
 use mathlib.Core.Bool.{Bool}
 use mathlib.Core.List.{List, List·Memᴰ as Among}
-use lib.ListN.{getD}
+use lib.ListN.{length, getD}
 use lib.Dec.{eqb}
-use Rattle.runs.specs.Tests.{anyIn}
 
 abbrev pub only : ℕ → ℕ → Bool
 only t x = eqb x t
 
-unfoldable pub listed : List ℕ → ℕ → Bool
-listed ts x = anyIn ts (eqb x)
-
 unfoldable pub marked : List ℕ → ℕ → Bool
 marked table x = eqb (getD table x 0) 1
+
+-- a mark for every node there can be
+pub record AllMarked (table : List ℕ) : Type 0 where
+  pub long : length table ≡ 128
+  pub is : (n : ℕ) → n < 128 → getD table n 0 ≡ 1
 
 -- each number of a list has P
 abbrev pub Each : List ℕ → (ℕ → Type 0) → Type 0

@@ -1,15 +1,17 @@
 -- Lists read from the front: what is still to be read. Assumes nothing.
 use mathlib.Core.Path.{_≡_, refl, sym, ap, _∙_}
-use mathlib.Core.Bool.{Bool, true, false, not}
+use mathlib.Core.Bool.{Bool, true, false}
 use mathlib.Core.List.{List, [], _∷_, List·Memᴰ as Among, List·Memᴰ·head as here, List·Memᴰ·tail as there}
 use Prim.Native.Nat.{ℕ, zero, suc, _+_, _-_, _<_, _≤_}
+use mathlib.Core.Logic.{by-cases}
+use native.Mathlib.Decide.{ℕ-discrete}
 use native.Mathlib.Omega.{arith}
 use native.Mathlib.Numerals.{add-one}
 use lib.ListN.{length, getD, drop}
 use lib.Seq.{drop-cons}
 use borrow.Author.Tests.{lt-ltb, le-ltb}
-use Rattle.runs.specs.Tests.{either, both, negate, anyIn}
-use Rattle.runs.specs.Model.Monitor.{risingB, notRisingB}
+use Rattle.runs.specs.Tests.{either, both, anyIn}
+use Rattle.runs.specs.Model.Monitor.{risingB}
 
 pub drop-none : (l : List ℕ) → drop (length l) l ≡ []
 drop-none [] = refl
@@ -53,19 +55,13 @@ module _ (ts : List ℕ) where
   unfolding risingB both
   rises-on i l m h q = h ∙ rw (drop-two i l m, lt-ltb _ _ q, drop-cons ts i 0 m, add-one i)
 
-  pub rises-all : (i : ℕ) → 1 ≤ i → i ≡ length ts → risingB ts ≡ risingB (drop (i - 1) ts) → risingB ts ≡ true
+  pub rises-all : (i : ℕ) → 1 ≤ i → length ts ≤ i → i ≤ length ts + (1 - length ts)
+      → risingB ts ≡ risingB (drop (i - 1) ts) → risingB ts ≡ true
   unfolding risingB
-  rises-all i l e h =
-      let z : suc (i - 1) ≡ length ts = omega (arith, e) in
-      h ∙ rw (drop-cons ts (i - 1) 0 (omega (arith, e)), z, drop-none ts)
-
--- ---- 25
-pub not-rising-nil : (ts : List ℕ) → length ts ≡ 0 → true ≡ notRisingB ts
-unfolding notRisingB
-not-rising-nil [] e = refl
-not-rising-nil (t ∷ ts) e = absurd (omega arith)
-
-pub not-rising-is : (ts : List ℕ) (v : Bool) → 1 ≤ length ts → risingB ts ≡ v → not v ≡ notRisingB ts
-unfolding notRisingB negate
-not-rising-is [] v l e = absurd (omega arith)
-not-rising-is (t ∷ ts) v l e = ap not (sym e)
+  rises-all i l m n h = by-cases (ℕ-discrete (length ts) 0) (λ (z : length ts ≡ 0). nil ts z) (λ k.
+      let z : suc (i - 1) ≡ length ts = omega arith in
+      h ∙ rw (drop-cons ts (i - 1) 0 (omega arith), z, drop-none ts))
+    where
+      nil : (l : List ℕ) → length l ≡ 0 → risingB l ≡ true
+      nil [] e = refl
+      nil (x ∷ l) e = absurd (omega arith)

@@ -1,31 +1,32 @@
--- `run_tasks::mark_all` meets its contract. Assumes nothing.
+-- `node_sets::mark_all` meets its contract. Assumes nothing.
 use mathlib.Core.Path.{_≡_, sym, ap, _∙_}
 use Prim.Native.Nat.{ℕ, suc, _≤_, _<_, _-_}
 use lib.ListN.{length, getD, drop, length-set}
 use lib.Seq.{drop-cons}
 use denote.Ref.{now}
-use Rattle.run_tasks.specs.Sets.{listed, marked}
-use Rattle.run_tasks.proofs.Sets.{marked-none, marked-cons}
-use Rattle.run_tasks.proofs.Lists.{among-at, drop-none}
+use Rattle.runs.specs.Tests.{listed}
+use Rattle.node_sets.specs.Sets.{marked}
+use Rattle.node_sets.proofs.Sets.{marked-none, marked-cons}
+use Rattle.node_sets.proofs.Lists.{among-at, drop-none}
 use native.Mathlib.Omega.{arith}
-use Rattle.run_tasks.proofs.mark_all.Statement.{statement}
-use Rattle.run_tasks.proofs.mark_all.Tie as tie
+use Rattle.node_sets.proofs.mark_all.Statement.{statement}
+use Rattle.node_sets.proofs.mark_all.Tie as tie
 
 abbrev Inv-loop : tie.InvT-loop
-Inv-loop tasks marks₀ i₀ marks i = (i ≤ length tasks)
-    × ((length marks ≡ 128) × (marked marks ≡ listed (drop i tasks)))
+Inv-loop list marks₀ i₀ marks i = (i ≤ length list)
+    × ((length marks ≡ 128) × (marked marks ≡ listed (drop i list)))
 
 abbrev μ-loop : tie.MeasureT-loop
-μ-loop tasks marks₀ i₀ marks i = i
+μ-loop list marks₀ i₀ marks i = i
 
 loop-holds : tie.Need-loop-holds Inv-loop μ-loop
 loop-holds c =
-    let ts = now (c .before .before .args .tasks) in
+    let ts = now (c .before .before .args .list) in
     (omega arith, (c .no-nodes .ensures .long, marked-none _ (c .no-nodes .ensures) ∙ ap listed (sym (drop-none ts))))
 
 -- the next task is a node's number
 inside : (c : tie.In-loop Inv-loop μ-loop)
-    → getD (now (c .before .before .before .before .args .tasks)) (c .before .loop .i - 1) 0 < 128
+    → getD (now (c .before .before .before .before .args .list)) (c .before .loop .i - 1) 0 < 128
 inside c = c .before .before .before .before .pre _ (among-at _ (c .before .loop .i - 1) (omega arith))
 
 array-write-marks : tie.Need-array-write-marks Inv-loop μ-loop
@@ -34,7 +35,7 @@ array-write-marks c = inside (c .before)
 loop-again : tie.Need-loop-again Inv-loop μ-loop
 loop-again c =
     let l = c .before .before .loop in
-    let ts = now (c .before .before .before .before .before .args .tasks) in
+    let ts = now (c .before .before .before .before .before .args .list) in
     let k : suc (l .i - 1) ≡ l .i = omega arith in (
       omega arith,
       (
@@ -48,7 +49,7 @@ returns : tie.Need-returns Inv-loop μ-loop
 returns c =
     let l = c .before .loop in
     let e : l .i ≡ 0 = omega arith in
-    l .inv .1 .1 ∙ ap (λ (i : ℕ). listed (drop i (now (c .before .before .before .before .args .tasks)))) e
+    l .inv .1 .1 ∙ ap (λ (i : ℕ). listed (drop i (now (c .before .before .before .before .args .list)))) e
 
 pub mark-all-spec : {M : Type 1} → statement M
 mark-all-spec =

@@ -1,0 +1,53 @@
+// Sets of nodes: a table that marks one, or those of a list; whether a list strictly rises.
+use base::no_nodes;
+ghost use mathlib.Core.Path.{_≡_};
+ghost use Prim.Native.Nat.{_<_};
+ghost use Rattle.runs.specs.Tests.{listed};
+ghost use Rattle.runs.specs.Model.Monitor.{risingB};
+ghost use Rattle.node_sets.specs.Sets.{only, marked, AllMarked, Each};
+
+// A table with one node marked.
+pub fn mark_one(node: usize) -> [u8; 128]
+    requires { ⌜ node < 128 ⌝ }
+    ensures { λ r. ⌜ marked r ≡ only node ⌝ }
+{
+    let mut marks = no_nodes();
+    marks[node] = 1;
+    marks
+}
+
+// A table with the nodes of a list marked.
+pub fn mark_all(list: &[usize]) -> [u8; 128]
+    requires { ⌜ Each (now list) (λ t. t < 128) ⌝ }
+    ensures { λ r. ⌜ marked r ≡ listed (now (list .entry)) ⌝ }
+{
+    let mut marks = no_nodes();
+    let mut i = list.len();
+    while 0 < i {
+        i -= 1;
+        marks[list[i]] = 1;
+    }
+    marks
+}
+
+// A table with every node marked.
+pub fn all_nodes() -> [u8; 128]
+    ensures { λ r. ⌜ AllMarked r ⌝ }
+{
+    [1u8; 128]
+}
+
+// The numbers strictly rise. They are read up to the first that is not above the one before.
+pub fn rises(list: &[usize]) -> bool
+    ensures { λ r. ⌜ r ≡ risingB (now (list .entry)) ⌝ }
+{
+    let n = list.len();
+    let mut i = 1;
+    while i < n {
+        if list[i] <= list[i - 1] {
+            return false;
+        }
+        i += 1;
+    }
+    true
+}

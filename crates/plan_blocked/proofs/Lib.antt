@@ -1,0 +1,4 @@
+pub mod Listed
+pub mod Standing
+pub mod Branches
+pub mod Refused

@@ -1,0 +1,59 @@
+-- `plan_blocked::check_list` meets its contract. Assumes nothing.
+use mathlib.Core.Path.{_≡_, sym, ap, _∙_}
+use mathlib.Core.Bool.{Bool, false}
+use Prim.Native.Nat.{ℕ}
+use denote.Ref.{now}
+use Rattle.plan_check.specs.Meaning.{planOf}
+use Rattle.runs.specs.Tests.{listed}
+use Rattle.runs.specs.Blocked.{refused28B}
+use Rattle.plan_blocked.specs.Blocked.{Standing}
+use Rattle.plan_blocked.proofs.Branches.{branchless-29}
+use Rattle.plan_blocked.proofs.Refused.{none-blocked, refused-28, refused-29, none-refused, root-free, small}
+use Rattle.plan_blocked.proofs.check_list.Statement.{statement}
+use Rattle.plan_blocked.proofs.check_list.Tie as tie
+
+passed : (c : tie.Else2) → refused28B (planOf (now (c .before .before .before .before .before .args .plan)))
+    (now (c .before .before .before .before .before .args .list)) ≡ false
+passed c = sym (c .before .list-bad .ensures) ∙ c .if2 .left
+
+mark-all-requires : tie.Need-mark-all-requires
+mark-all-requires c κs = small _ _ (c .before .before .before .before .before .pre .0) (passed c)
+
+mark-standing-requires : tie.Need-mark-standing-requires
+mark-standing-requires c κs =
+    let e = c .before .before .before in
+    let s = e .before .before .before .before .before in
+    (s .pre .0, (ap (λ (S : ℕ → Bool). S 0) (c .before .before .mark-all .ensures) ∙ root-free _ _ (s .pre .0) (passed e), s .pre .1))
+
+-- the table after it
+standing : (c : tie.After-mark-standing)
+    → Standing (now (c .before .before .before .before .before .before .before .before .before .args .plan))
+    (listed (now (c .before .before .before .before .before .before .before .before .before .args .list)))
+    (c .mark-standing .last .1 .1 .0)
+standing c = rw (c .before .before .before .mark-all .ensures) at (c .mark-standing .ensures)
+
+returns-3 : tie.Need-returns-3
+returns-3 c =
+    let w = c .before .before .before in
+    let e = w .before .before .before .before in
+    refused-29 _ _ (e .before .before .before .before .before .pre .0) _ (passed e)
+    (sym (branchless-29 _ _ _ (standing w)) ∙ sym (c .before .branchless .ensures) ∙ c .if3 .taken)
+
+returns-4 : tie.Need-returns-4
+returns-4 c =
+    let w = c .before .before .before in
+    let e = w .before .before .before .before in
+    none-refused _ _ (e .before .before .before .before .before .pre .0) _ (passed e)
+    (sym (branchless-29 _ _ _ (standing w)) ∙ sym (c .before .branchless .ensures) ∙ c .if3 .left) (standing w)
+
+pub check-list-spec : {M : Type 1} → statement M
+check-list-spec = tie.close (tie.spec
+    (λ c. none-blocked _ _ (c .before .before .before .pre .0) _ (c .before .before .before .pre .1) (c .if1 .taken))
+    (λ c κs. c .before .before .before .pre .0)
+    (λ c. refused-28 _ _ (c .before .before .before .before .before .pre .0) _
+    (sym (c .before .list-bad .ensures) ∙ c .if2 .taken))
+    mark-all-requires
+    mark-standing-requires
+    (λ c κs. c .before .before .before .before .before .before .before .before .before .before .pre .0)
+    returns-3
+    returns-4)
