@@ -3,3 +3,4 @@ pub mod Conditions
 pub mod NodeKinds
 pub mod Drawn
 pub mod Stores
+pub mod Standing

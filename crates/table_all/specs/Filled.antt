@@ -1,5 +1,6 @@
 -- The tables of an accepted plan, before and after they are filled. Definitions only.
 use mathlib.Core.Path.{_≡_}
+use mathlib.Core.Bool.{Bool}
 use mathlib.Core.List.{List}
 use Prim.Native.Nat.{ℕ, _+_, _*_, _/_, _%_, _^_, _<_, _≤_}
 use lib.Bits.{bitOr}
@@ -8,6 +9,8 @@ use Rattle.base.specs.Zeros.{Zeros}
 use Rattle.plan_format.specs.Format.{nodeCount}
 use Rattle.plan_check.specs.Meaning.{planOf}
 use Rattle.marks_row.specs.Tables.{Shaped, Represents, RepresentsKinds, RepresentsOrder, RepresentsConditions}
+use Rattle.runs.specs.Blocked.{without, Blocks}
+use Rattle.plan_blocked.specs.Blocked.{Standing}
 use Rattle.table_orders.specs.Links.{Linked, Leading}
 use Rattle.plan_reader.specs.declared.items.Item.{Item}
 use Rattle.plan_reader.specs.declared.items.Item.the-variants as item
@@ -20,10 +23,12 @@ pub record Fresh (kind from kids order conds : List ℕ) : Type 0 where
   pub no-order : Zeros 16384 order
   pub no-conditions : Zeros 768 conds
 
--- tables of the plan that the bytes b mean
-pub record TablesOf (b kind from kids order conds : List ℕ) : Type 0 where
+-- tables of the plan that the bytes b mean, without the blocked nodes: of any blocked nodes S, if a table marks the nodes
+-- that stand
+pub record TablesOf (b standing kind from kids order conds : List ℕ) : Type 0 where
   pub shaped : Shaped from kids (nodeCount b)
-  pub represents : Represents kind from kids order conds (nodeCount b) (planOf b)
+  pub represents : (S : ℕ → Bool) → Blocks (planOf b) S → Standing b S standing
+      → Represents kind from kids order conds (nodeCount b) (without (planOf b) S)
 
 -- an item that has a place in the tables
 unfoldable pub Fits : ℕ → Item → Type 0

@@ -3,17 +3,23 @@ use mathlib.Core.Path.{_≡_, refl, sym, ap, _∙_}
 use mathlib.Core.Logic.{_⊎_, inl, inr, by-cases, _↔_, Iff·trans}
 use mathlib.Core.Bool.{Bool}
 use mathlib.Core.List.{List}
-use Prim.Native.Nat.{ℕ, _^_, _<_}
+use Prim.Native.Nat.{ℕ, zero, suc, _^_, _<_, _≤_}
 use native.Mathlib.Omega.{arith}
 use Rattle.base.specs.Bits.{Says}
 use Rattle.base.proofs.Words.{no-bits}
 use Rattle.base.proofs.Says.{no-flag}
-use Rattle.base.proofs.First.{answer-none, answer-some}
+use Rattle.base.specs.Answers.{refusedOr}
+use Rattle.base.proofs.First.{first-none, answer-none, answer-some}
 use Rattle.plan_rules.specs.Rules.{refusal}
 use Rattle.plan_check.specs.Meaning.{planOf, startOf}
 use Rattle.plan_check.proofs.Accepted.{clean}
 use Rattle.plan_check.proofs.Meaning.{means, means-well-formed}
+use Rattle.plan_blocked.specs.Blocked.{planUnder, refusalUnder}
+use Rattle.plan_blocked.proofs.Refused.{plan-accepted, blocks, under-well-formed}
+use Rattle.runs.specs.Tests.{listed}
 use Rattle.runs.specs.Plan.{Plan, WellFormed}
+use Rattle.runs.specs.Blocked.{without, blockedRefusal}
+use Rattle.runs.proofs.Blocked.Branches.{refusal-28, refusal-29}
 use Rattle.runs.specs.Summary.{Mark, may-pre, must-pre, may-clobber, must-clobber}
 use Rattle.runs.specs.Verdict as verdicts
 use Rattle.runs.specs.Verdict.{CLEAR, DOOMED, OPEN, Fails, Judged}
@@ -25,6 +31,7 @@ use Rattle.runs.proofs.Verdict.Exact.{clear-is, doomed-is, verdict-exact}
 use Rattle.runs.proofs.Calls.Demand3.{demand3}
 use Rattle.marks_words.specs.Words.{MarkWords, StartWord, FailsWord}
 use Rattle.verdict.specs.declared.Verdict.{Verdict}
+use Rattle.verdict.specs.declared.Answer.{Answer}
 use Rattle.verdict.specs.declared.Answer.the-variants.{Refused, Judged as Given}
 use Rattle.verdict.specs.Verdict.{wordOf, said, answerOf, Assessed}
 
@@ -53,70 +60,91 @@ module _ (p : Plan) (w : WellFormed p) (F : ℕ → Bool) where
   open-verdict h k = sym (verdict-exact p w F OPEN .1 (λ c. h (clear-is p w F .0 c), λ d. k (doomed-is p w F .0 d)))
 
 -- what fails is on a flag below 64
-module _ (b : List ℕ) (ok : refusal b ≡ 0) where
-  flag-small : (f : ℕ) → f < planOf b .cond .flags → f < 64
-  flag-small f l = omega (arith, l, means b ok .flags, clean b ok .fits .limits .flags)
+module _ (p : Plan) (w : WellFormed p) (l : p .cond .flags ≤ 64) (F : ℕ → Bool) where
+  may-small : (f : ℕ) (v : Bool) → MayFail p F f v → f < 64
+  may-small f v x = omega (arith, l, may-fail-flag p w F f v x)
 
-  may-small : (f : ℕ) (v : Bool) → MayFail (planOf b) (startOf b) f v → f < 64
-  may-small f v x = flag-small f (may-fail-flag (planOf b) (means-well-formed b ok) (startOf b) f v x)
-
-  must-small : (f : ℕ) (v : Bool) → MustFail (planOf b) (startOf b) f v → f < 64
-  must-small f v x = may-small f v (must-fail-may (planOf b) (means-well-formed b ok) (startOf b) f v x)
+  must-small : (f : ℕ) (v : Bool) → MustFail p F f v → f < 64
+  must-small f v x = may-small f v (must-fail-may p w F f v x)
 
   -- the words of the root and of the start: the flags with a literal that may fail, that must fail
-  module _ {words : List ℕ} {start : ℕ} (w : MarkWords (planOf b) 0 words) (s : StartWord (startOf b) start) where
-    clear-if : {x : ℕ} → FailsWord words start 6 0 x → x ≡ 0 → ¬ SomeLiteral (MayFail (planOf b) (startOf b))
-    clear-if {x} f e = none-fails (planOf b) (startOf b) may-clobber may-pre
-        (f (planOf b) (startOf b) w s may-clobber may-pre refl refl) may-small e
+  module _ {words : List ℕ} {start : ℕ} (m : MarkWords p 0 words) (s : StartWord F start) where
+    clear-if : {x : ℕ} → FailsWord words start 6 0 x → x ≡ 0 → ¬ SomeLiteral (MayFail p F)
+    clear-if {x} f e = none-fails p F may-clobber may-pre (f p F m s may-clobber may-pre refl refl) may-small e
 
-    may-if : {x : ℕ} → x < 2 ^ 64 → FailsWord words start 6 0 x → (x ≡ 0 → ⊥)
-        → ¬ (¬ SomeLiteral (MayFail (planOf b) (startOf b)))
-    may-if l f n = some-fails (planOf b) (startOf b) may-clobber may-pre l
-        (f (planOf b) (startOf b) w s may-clobber may-pre refl refl) n
+    may-if : {x : ℕ} → x < 2 ^ 64 → FailsWord words start 6 0 x → (x ≡ 0 → ⊥) → ¬ (¬ SomeLiteral (MayFail p F))
+    may-if k f n = some-fails p F may-clobber may-pre k (f p F m s may-clobber may-pre refl refl) n
 
-    pub judged-clear : {x : ℕ} → FailsWord words start 6 0 x → x ≡ 0 → CLEAR ≡ verdict (planOf b) (startOf b)
-    judged-clear f e = clear-verdict (planOf b) (means-well-formed b ok) (startOf b) (clear-if f e)
+    pub judged-clear : {x : ℕ} → FailsWord words start 6 0 x → x ≡ 0 → CLEAR ≡ verdict p F
+    judged-clear f e = clear-verdict p w F (clear-if f e)
 
-    pub judged-doomed : {y : ℕ} → y < 2 ^ 64 → FailsWord words start 7 1 y → (y ≡ 0 → ⊥)
-        → DOOMED ≡ verdict (planOf b) (startOf b)
-    judged-doomed l g m = doomed-verdict (planOf b) (means-well-formed b ok) (startOf b)
-        (some-fails (planOf b) (startOf b) must-clobber must-pre l
-        (g (planOf b) (startOf b) w s must-clobber must-pre refl refl) m)
+    pub judged-doomed : {y : ℕ} → y < 2 ^ 64 → FailsWord words start 7 1 y → (y ≡ 0 → ⊥) → DOOMED ≡ verdict p F
+    judged-doomed k g n = doomed-verdict p w F (some-fails p F must-clobber must-pre k
+        (g p F m s must-clobber must-pre refl refl) n)
 
     pub judged-open : {x y : ℕ} → x < 2 ^ 64 → FailsWord words start 6 0 x → (x ≡ 0 → ⊥) → FailsWord words start 7 1 y
-        → y ≡ 0
-        → OPEN ≡ verdict (planOf b) (startOf b)
-    judged-open k f n g e = open-verdict (planOf b) (means-well-formed b ok) (startOf b) (may-if k f n)
-        (none-fails (planOf b) (startOf b) must-clobber must-pre
-        (g (planOf b) (startOf b) w s must-clobber must-pre refl refl) must-small e)
+        → y ≡ 0 → OPEN ≡ verdict p F
+    judged-open k f n g e = open-verdict p w F (may-if k f n)
+        (none-fails p F must-clobber must-pre (g p F m s must-clobber must-pre refl refl) must-small e)
+
+-- the plan that is left has no more flags
+pub left-flags : (b : List ℕ) → refusal b ≡ 0 → (S : ℕ → Bool) → without (planOf b) S .cond .flags ≤ 64
+left-flags b ok S = omega (arith, means b ok .flags, clean b ok .fits .limits .flags)
 
 -- ---- the whole answer
 abbrev word-in : verdicts.Verdict → ℕ ⊎ verdicts.Verdict → verdicts.Verdict
 word-in other (inl n) = other
 word-in other (inr v) = v
 
-module _ (b : List ℕ) where
-  pub assessed-refused : {r : ℕ} → r ≡ refusal b → (r ≡ 0 → ⊥) → Assessed b (Refused r)
+abbrev number-in : ℕ ⊎ verdicts.Verdict → ℕ
+number-in (inl n) = n
+number-in (inr v) = 0
+
+-- a number that an answer tells is its refusal
+told : (a : ℕ ⊎ verdicts.Verdict) (r k : ℕ) (v : verdicts.Verdict) → a ≡ refusedOr r v → (a ≡ inl (suc k)) ↔ (r ≡ suc k)
+told a zero k v e = (λ q. let z : 0 ≡ suc k = ap number-in (sym e ∙ q) in absurd (omega arith), λ q. absurd (omega arith))
+told a (suc r) k v e = (λ q. ap number-in (sym e ∙ q), λ q. e ∙ ap inl q)
+
+module _ (b xs : List ℕ) where
+  -- 28 and 29
+  numbers : (a : Answer) → said a ≡ answerOf b xs → (k : ℕ) → refusal b ≡ 0
+      → (said a ≡ inl (suc k)) ↔ (blockedRefusal (planOf b) xs ≡ suc k)
+  unfolding answerOf refusalUnder
+  numbers a e k ok = let z = first-none (refusal b) (blockedRefusal (planOf b) xs) ok in
+      Iff·trans (told (said a) _ k _ e) (λ q. z ∙ q, λ q. sym z ∙ q)
+
+  pub assessed-refused : {r : ℕ} → r ≡ refusalUnder b xs → (r ≡ 0 → ⊥) → Assessed b xs (Refused r)
   unfolding answerOf
   assessed-refused {r} e n = record {
-    returns = ap inl e ∙ answer-some (refusal b) _ (λ z. n (e ∙ z));
+    returns = q;
+    refused-28 = λ ok. Iff·trans (numbers (Refused r) q 27 ok) (refusal-28 (planOf b) (means-well-formed b ok) xs);
+    refused-29 = λ ok. Iff·trans (numbers (Refused r) q 28 ok) (refusal-29 (planOf b) (means-well-formed b ok) xs);
     judged = λ z. absurd (n (e ∙ z));
     clear = λ z. absurd (n (e ∙ z));
     doomed = λ z. absurd (n (e ∙ z));
   }
+    where
+      q : said (Refused r) ≡ answerOf b xs
+      q = ap inl e ∙ answer-some (refusalUnder b xs) _ (λ z. n (e ∙ z))
 
-  pub assessed : (v : Verdict) → refusal b ≡ 0 → wordOf v ≡ verdict (planOf b) (startOf b) → Assessed b (Given v)
+  pub assessed : (v : Verdict) → refusalUnder b xs ≡ 0 → wordOf v ≡ verdict (planUnder b xs) (startOf b)
+      → Assessed b xs (Given v)
   unfolding answerOf
   assessed v z e = record {
-    returns = ap inr e ∙ answer-none (refusal b) _ z;
+    returns = q;
+    refused-28 = λ ok. Iff·trans (numbers (Given v) q 27 ok) (refusal-28 (planOf b) (means-well-formed b ok) xs);
+    refused-29 = λ ok. Iff·trans (numbers (Given v) q 28 ok) (refusal-29 (planOf b) (means-well-formed b ok) xs);
     judged = λ z. is;
     clear = λ z. Iff·trans (is CLEAR) (d .clear);
     doomed = λ z q. d .doomed (is DOOMED .0 q);
   }
     where
-      d : Demand3 (planOf b) (startOf b)
-      d = demand3 (planOf b) (means-well-formed b z) (startOf b)
+      q : said (Given v) ≡ answerOf b xs
+      q = ap inr e ∙ answer-none (refusalUnder b xs) _ z
 
-      is : (u : verdicts.Verdict) → (said (Given v) ≡ inr u) ↔ Judged (planOf b) (startOf b) u
+      d : Demand3 (planOf b) (listed xs) (startOf b)
+      d = demand3 (planOf b) (means-well-formed b (plan-accepted b xs z)) (listed xs) (blocks b xs z) (startOf b)
+
+      is : (u : verdicts.Verdict) → (said (Given v) ≡ inr u) ↔ Judged (planUnder b xs) (startOf b) u
       is u = Iff·trans (λ q. sym e ∙ ap (word-in u) q, λ q. ap inr (e ∙ q))
-          (verdict-exact (planOf b) (means-well-formed b z) (startOf b) u)
+          (verdict-exact (planUnder b xs) (under-well-formed b xs z) (startOf b) u)

@@ -1,15 +1,22 @@
--- The answer for a plan (01: book): a refusal or a verdict. Definitions only.
+-- The answer for a plan (01: book) with a list of blocked nodes (02: struck): a refusal or a verdict. Definitions only.
 use mathlib.Core.Path.{_≡_}
 use mathlib.Core.Logic.{_⊎_, inl, inr, _↔_}
+use mathlib.Core.Bool.{Bool}
 use mathlib.Core.List.{List}
-use Prim.Native.Nat.{ℕ}
+use Prim.Native.Nat.{ℕ, _≤_}
 use Rattle.base.specs.Answers.{refusedOr}
 use Rattle.plan_rules.specs.Rules.{refusal}
 use Rattle.plan_check.specs.Meaning.{planOf, startOf}
+use Rattle.plan_blocked.specs.Blocked.{planUnder, refusalUnder, Standing}
+use Rattle.runs.specs.Tests.{listed}
+use Rattle.runs.specs.Plan.{Plan, WellFormed}
 use Rattle.runs.specs.Verdict as verdicts
 use Rattle.runs.specs.Verdict.{CLEAR, DOOMED, OPEN, Judged}
+use Rattle.runs.specs.Blocked.{without, Blocks, Refused28, Refused29}
 use Rattle.runs.specs.Demand3.{NeverViolates, NeverCompletes}
 use Rattle.runs.specs.Model.Verdicts.{verdict}
+use Rattle.marks_row.specs.Tables.{Represents}
+use Rattle.marks_words.specs.Words.{StartWord}
 use Rattle.verdict.specs.declared.Verdict.{Verdict}
 use Rattle.verdict.specs.declared.Verdict.the-variants.{Clear, Doomed, Open}
 use Rattle.verdict.specs.declared.Answer.{Answer}
@@ -26,13 +33,28 @@ abbrev pub said : Answer → ℕ ⊎ verdicts.Verdict
 said (answers.Refused n) = inl n
 said (answers.Judged v) = inr (wordOf v)
 
-unfoldable pub answerOf : List ℕ → ℕ ⊎ verdicts.Verdict
-answerOf b = refusedOr (refusal b) (verdict (planOf b) (startOf b))
+-- the verdict of every well-formed plan of at most 64 flags that the tables represent, whatever flags F a word says to be
+-- set at the start
+abbrev pub OfTables : List ℕ → List ℕ → List ℕ → List ℕ → List ℕ → ℕ → ℕ → Verdict → Type 0
+OfTables kind from kids order conds n start v = (p : Plan) (F : ℕ → Bool) → WellFormed p → p .cond .flags ≤ 64
+    → Represents kind from kids order conds n p → StartWord F start → wordOf v ≡ verdict p F
 
-pub record Assessed (b : List ℕ) (a : Answer) : Type 0 where
-  pub returns : said a ≡ answerOf b
-  -- of an accepted plan: 01's words for each verdict; CLEAR exactly if no call in any list returns 21, 22 or 26;
-  -- DOOMED: the root is complete after no list
-  pub judged : refusal b ≡ 0 → (v : verdicts.Verdict) → (said a ≡ inr v) ↔ Judged (planOf b) (startOf b) v
-  pub clear : refusal b ≡ 0 → (said a ≡ inr CLEAR) ↔ NeverViolates (planOf b) (startOf b)
-  pub doomed : refusal b ≡ 0 → said a ≡ inr DOOMED → NeverCompletes (planOf b) (startOf b)
+-- the verdict of the plan that the bytes b mean, without the blocked nodes: of any blocked nodes S, if a table marks the
+-- nodes that stand
+abbrev pub OfStanding : List ℕ → List ℕ → Verdict → Type 0
+OfStanding b standing v = (S : ℕ → Bool) → Blocks (planOf b) S → Standing b S standing
+    → wordOf v ≡ verdict (without (planOf b) S) (startOf b)
+
+unfoldable pub answerOf : List ℕ → List ℕ → ℕ ⊎ verdicts.Verdict
+answerOf b xs = refusedOr (refusalUnder b xs) (verdict (planUnder b xs) (startOf b))
+
+pub record Assessed (b xs : List ℕ) (a : Answer) : Type 0 where
+  pub returns : said a ≡ answerOf b xs
+  -- of an accepted plan: 28 and 29 in 02's words
+  pub refused-28 : refusal b ≡ 0 → (said a ≡ inl 28) ↔ Refused28 (planOf b) xs
+  pub refused-29 : refusal b ≡ 0 → (said a ≡ inl 29) ↔ ((¬ Refused28 (planOf b) xs) × Refused29 (planOf b) xs)
+  -- of an accepted plan and list: 01's words for each verdict, on what is left of the plan; CLEAR exactly if no call in
+  -- any list returns 21, 22 or 26; DOOMED: the root is complete after no list
+  pub judged : refusalUnder b xs ≡ 0 → (v : verdicts.Verdict) → (said a ≡ inr v) ↔ Judged (planUnder b xs) (startOf b) v
+  pub clear : refusalUnder b xs ≡ 0 → (said a ≡ inr CLEAR) ↔ NeverViolates (planOf b) (listed xs) (startOf b)
+  pub doomed : refusalUnder b xs ≡ 0 → said a ≡ inr DOOMED → NeverCompletes (planOf b) (listed xs) (startOf b)

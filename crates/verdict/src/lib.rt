@@ -1,19 +1,26 @@
-// The answer for a plan.
+// The answer for a plan with a list of blocked nodes.
 ghost use mathlib.Core.Path.{_≡_};
 ghost use Rattle.plan_rules.specs.Rules.{refusal};
-ghost use Rattle.plan_check.specs.Meaning.{planOf, startOf};
-ghost use Rattle.runs.specs.Model.Verdicts as model;
+ghost use Rattle.plan_check.specs.Meaning.{startOf};
+ghost use Rattle.marks_row.specs.Tables.{AtGroup};
 ghost use Rattle.marks_words.specs.Words.{StartWord};
-ghost use Rattle.verdict.specs.Verdict.{wordOf, Assessed};
-use marks_of_plan::node_words;
+ghost use Rattle.verdict.specs.Verdict.{OfTables, OfStanding, Assessed};
+use base::no_conditions;
+use base::no_nodes;
+use base::no_starts;
+use marks_of_tables::node_words;
 use marks_words::failing;
 use marks_words::marks::MAY_CLOBBER;
 use marks_words::marks::MAY_PRE;
 use marks_words::marks::MUST_CLOBBER;
 use marks_words::marks::MUST_PRE;
-use plan_check::check;
+use node_sets::all_nodes;
+use plan_blocked::check_blocked;
 use plan_format::fields::flags;
+use plan_format::fields::nodes;
 use plan_format::fields::start_flag;
+use table_all::fill_tables;
+use table_orders::no_order;
 
 pub enum Verdict {
     Clear,
@@ -43,13 +50,21 @@ fn start_word(plan: &[u8]) -> u64
     word
 }
 
-// The verdict on an accepted plan, from the marks of its root.
-pub fn judge(plan: &[u8]) -> Verdict
-    requires { ⌜ refusal (now plan) ≡ 0 ⌝ }
-    ensures { λ r. ⌜ wordOf r ≡ model.verdict (planOf (now (plan .entry))) (startOf (now (plan .entry))) ⌝ }
+// The verdict of any plan that the tables represent, from the marks of its root.
+pub fn judge_tables(
+    kind: &[u8; 128],
+    from: &[u8; 129],
+    kids: &[u8; 128],
+    order: &[u8; 16384],
+    conds: &[u64; 768],
+    n: usize,
+    start: u64,
+) -> Verdict
+    requires { ⌜ AtGroup (now from) (now kids) n 0 ⌝ }
+    ensures { λ r. ⌜ OfTables (now (kind .entry)) (now (from .entry)) (now (kids .entry)) (now (order .entry))
+        (now (conds .entry)) n start r ⌝ }
 {
-    let words = node_words(plan, 0);
-    let start = start_word(plan);
+    let words = node_words(kind, from, kids, order, conds, n, 0);
     if failing(&words, start, MAY_CLOBBER, MAY_PRE) == 0 {
         return Verdict::Clear;
     }
@@ -59,13 +74,38 @@ pub fn judge(plan: &[u8]) -> Verdict
     Verdict::Open
 }
 
-// A refusal up to 14, or the verdict.
-pub fn assess(plan: &[u8]) -> Answer
-    ensures { λ r. ⌜ Assessed (now (plan .entry)) r ⌝ }
+// The verdict on an accepted plan of which the marked nodes stand.
+pub fn judge(plan: &[u8], standing: &[u8; 128]) -> Verdict
+    requires { ⌜ refusal (now plan) ≡ 0 ⌝ }
+    ensures { λ r. ⌜ OfStanding (now (plan .entry)) (now (standing .entry)) r ⌝ }
 {
-    let r = check(plan);
+    let mut kind = no_nodes();
+    let mut from = no_starts();
+    let mut kids = no_nodes();
+    let mut order = no_order();
+    let mut conds = no_conditions();
+    fill_tables(
+        plan,
+        standing,
+        &mut kind,
+        &mut from,
+        &mut kids,
+        &mut order,
+        &mut conds,
+    );
+    let n = nodes(plan);
+    let start = start_word(plan);
+    judge_tables(&kind, &from, &kids, &order, &conds, n, start)
+}
+
+// A refusal, 1 to 14, 28 or 29, or the verdict on what is left of the plan without the blocked nodes.
+pub fn assess(plan: &[u8], blocked: &[usize]) -> Answer
+    ensures { λ r. ⌜ Assessed (now (plan .entry)) (now (blocked .entry)) r ⌝ }
+{
+    let mut standing = all_nodes();
+    let r = check_blocked(plan, blocked, &mut standing);
     if r != 0 {
         return Answer::Refused(r);
     }
-    Answer::Judged(judge(plan))
+    Answer::Judged(judge(plan, &standing))
 }

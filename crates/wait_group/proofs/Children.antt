@@ -46,7 +46,7 @@ module _ {b from kids : List ℕ} {test : Bool} {g : ℕ} (o : GroupOf b from ki
   ok = clean b (o .accepted)
 
   pub at-group : AtGroup from kids (nodeCount b) g
-  at-group = record { shaped = o .tree .shaped; below = o .node }
+  at-group = record { shaped = o .tree .whole .shaped; below = o .node }
 
   module _ {segment : Segment} (here : segment ≡ segmentOf from g) where
     pub child-at : {i c : ℕ} → c ≡ getD kids i 0 → Position segment i → isChild b g c ≡ true

@@ -2,7 +2,7 @@
 -- leave CLEAR as CLEAR and DOOMED as DOOMED.
 use Rattle.runs.proofs.Base.{_≡_, refl, sym, ap, _∙_, _⊎_, inl, inr, _↔_, Iff·trans, Bool, true, false, cond, List}
 use Rattle.runs.proofs.Base.{[], Among, among-none, ℕ, _<_, arith, T}
-use Rattle.runs.specs.Plan.{all-of, any-of, Picks, Plan, itself, below, Node, Child, Under, WellFormed}
+use Rattle.runs.specs.Plan.{all-of, any-of, Picks, Plan, itself, below, Node, Child, Under, Before, direct, chain, WellFormed}
 use Rattle.runs.specs.Summary.{Mark}
 use Rattle.runs.specs.Tests.{either, anyIn, listed}
 use Rattle.runs.specs.Calls.{SomeOf, Rising, empty}
@@ -14,7 +14,7 @@ use Rattle.runs.proofs.Reflect.{r-lt, r-any, T-true, true-T}
 use Rattle.runs.proofs.Plan.{under-node, r-kind, r-picks, r-some-child}
 use Rattle.runs.proofs.Summary.{marks-exact}
 use Rattle.runs.proofs.Calls.Listed.{r-rising, r-some-of, r-listed}
-use Rattle.runs.proofs.Blocked.Standing.{r-stands, r-standing-order, stands-down, standing-child, child-stands}
+use Rattle.runs.proofs.Blocked.Standing.{r-stands, r-standing-order, stands-up, stands-down, standing-child, child-stands}
 use Rattle.runs.proofs.Blocked.Standing.{without-well-formed, nothing-absent}
 use Rattle.runs.proofs.Blocked.Thinner.{Thinner, thinner-keeps}
 
@@ -55,6 +55,20 @@ module _ (p : Plan) (w : WellFormed p) where
     -- an all-of group that stands keeps all its children
     pub parts-stand : {g c : ℕ} → p .tree .kind g ≡ all-of → Child p g c → Stands p S g → Stands p S c
     parts-stand {g} {c} k hc x = stands-down p w S hc (λ y. rw (hc .up, k) at (ok .of-choice c y)) x
+
+    -- the chains of orders between nodes that stand are those of the plan
+    pub before-standing : {a c : ℕ} → Stands p S a → Stands p S c → Before p a c ↔ Before (without p S) a c
+    before-standing xa xc = (out xa xc, into)
+      where
+        out : {a c : ℕ} → Stands p S a → Stands p S c → Before p a c → Before (without p S) a c
+        out {a} {c} xa xc (direct o) = direct ((r-standing-order p w S a c) .from (o, (xa, xc)))
+        out {a} {c} xa xc (chain {b = b} o y) = let (g, k, ha, hb) = w .order-group a b o in
+            let xb = parts-stand k hb (rw (ha .up) at (stands-up p w S (ha .not-root) xa)) in
+            chain ((r-standing-order p w S a b) .from (o, (xa, xb))) (out xb xc y)
+
+        into : {a c : ℕ} → Before (without p S) a c → Before p a c
+        into {a} {c} (direct o) = direct ((r-standing-order p w S a c) .to o .0)
+        into {a} {c} (chain {b = b} o y) = chain ((r-standing-order p w S a b) .to o .0) (into y)
 
   -- 28 and 29 of a list
   module _ (xs : List ℕ) where

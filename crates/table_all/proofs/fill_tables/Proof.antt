@@ -1,6 +1,7 @@
 -- `fill_tables` meets its contract. Assumes nothing.
 use borrow.Author.Needs.{needs}
 use Rattle.plan_check.proofs.Accepted.{clean}
+use Rattle.table_all.proofs.Standing.{left-represented}
 use Rattle.table_all.proofs.fill_tables.Statement.{statement}
 use Rattle.table_all.proofs.fill_tables.Tie as tie
 
@@ -13,8 +14,7 @@ returns c =
     let t = c .fill-children .ensures in
     record {
       shaped = t .shaped;
-      represents =
-          record { kinds = i .kinds; tree = t .tree; orders = i .orders; conditions = i .conditions };
+      represents = λ S k h. left-represented _ (c .before .before .before .before .before .before .before .before .before .pre .0) S k h i (t .tree);
     }
 
 pub fill-tables-spec : {M : Type 1} → statement M

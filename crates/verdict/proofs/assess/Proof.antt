@@ -1,19 +1,26 @@
 -- `assess` meets its contract. Assumes nothing.
-use mathlib.Core.Path.{sym, _∙_}
+use mathlib.Core.Path.{_≡_, sym, _∙_}
+use denote.Ref.{now}
+use Rattle.plan_blocked.specs.Blocked.{refusalUnder}
+use Rattle.plan_blocked.proofs.Refused.{plan-accepted, blocks}
 use Rattle.verdict.proofs.Judging.{assessed-refused, assessed}
-use borrow.Author.Needs.{needs}
 use Rattle.verdict.proofs.assess.Statement.{statement}
 use Rattle.verdict.proofs.assess.Tie as tie
 
-returns : tie.Need-returns
-returns c = assessed-refused _ (c .before .check .ensures) (c .if1 .taken)
-
-judge-requires : tie.Need-judge-requires
-judge-requires c κs = sym (c .before .check .ensures) ∙ c .if1 .left
+passed : (c : tie.Else1) → refusalUnder (now (c .before .before .before .before .before .before .args .plan))
+    (now (c .before .before .before .before .before .before .args .blocked)) ≡ 0
+passed c = sym (c .before .check-blocked .ensures .returns) ∙ c .if1 .left
 
 returns-2 : tie.Need-returns-2
-returns-2 c = assessed _ (c .judge .result) (sym (c .before .before .check .ensures) ∙ c .before .if1 .left)
-    (c .judge .ensures)
+returns-2 c =
+    let e = c .before .before in
+    assessed _ _ (c .judge .result) (passed e)
+    (c .judge .ensures _ (blocks _ _ (passed e)) (e .before .check-blocked .ensures .standing (e .if1 .left)))
 
 pub assess-spec : {M : Type 1} → statement M
-assess-spec = tie.close (tie.spec (λ c κs. search needs) returns judge-requires returns-2)
+assess-spec = tie.close (tie.spec
+    (λ c κs. tt)
+    (λ c κs. c .before .all-nodes .ensures)
+    (λ c. assessed-refused _ _ (c .before .check-blocked .ensures .returns) (c .if1 .taken))
+    (λ c κs. plan-accepted _ _ (passed (c .before)))
+    returns-2)

@@ -1,39 +1,41 @@
 -- `judge` meets its contract. Assumes nothing.
+use mathlib.Core.Path.{_≡_}
 use Rattle.plan_check.proofs.Accepted.{clean}
-use Rattle.verdict.proofs.Judging.{judged-clear, judged-doomed, judged-open}
+use Rattle.plan_check.proofs.Meaning.{means-well-formed}
+use Rattle.runs.proofs.Blocked.Branches.{blocked-well-formed}
+use Rattle.verdict.proofs.Judging.{left-flags}
 use borrow.Author.Needs.{needs}
 use Rattle.verdict.proofs.judge.Statement.{statement}
 use Rattle.verdict.proofs.judge.Tie as tie
 
-node-words-requires : tie.Need-node-words-requires
-node-words-requires c κs = (c .before .pre, clean _ (c .before .pre) .fits .limits .some-node)
+judge-tables-requires : tie.Need-judge-tables-requires
+judge-tables-requires c κs =
+    let p = c .before .before .before .before .before .before .before .before .before .before .before .before .before .before .before .before .before .before .before .pre in
+    let n = c .before .before .before .before .before .before .nodes .ensures in
+    record {
+      shaped = rw n (c .before .before .before .before .before .before .before .fill-tables .ensures .shaped);
+      below = rw n (clean _ p .fits .limits .some-node);
+    }
 
 returns : tie.Need-returns
-returns c = judged-clear _ (c .before .before .before .before .before .before .pre)
-    (c .before .before .before .before .node-words .ensures) (c .before .before .before .start-word .ensures)
-    (c .before .failing .ensures) (c .if1 .taken)
-
-returns-2 : tie.Need-returns-2
-returns-2 c =
-    let d = c .before .before .before .before in
-    judged-doomed _ (d .before .before .before .before .before .pre) (d .before .before .before .node-words .ensures)
-    (d .before .before .start-word .ensures) (search needs) (c .before .failing2 .ensures) (c .if2 .taken)
-
-returns-3 : tie.Need-returns-3
-returns-3 c =
-    let d = c .before .before .before .before in
-    judged-open _ (d .before .before .before .before .before .pre) (d .before .before .before .node-words .ensures)
-    (d .before .before .start-word .ensures) (search needs) (d .failing .ensures)
-    (c .before .before .before .if1 .left) (c .before .failing2 .ensures) (c .if2 .left)
+returns c S k h =
+    let p = c .before .before .before .before .before .before .before .before .before .before .before .before .before .before .before .before .before .before .before .before .pre in
+    let n = c .before .before .before .before .before .before .before .nodes .ensures in
+    c .judge-tables .ensures _ _ (blocked-well-formed _ (means-well-formed _ p) S k) (left-flags _ p S)
+    (rw n (c .before .before .before .before .before .before .before .before .fill-tables .ensures .represents S k h))
+    (c .before .before .before .before .before .before .start-word .ensures)
 
 pub judge-spec : {M : Type 1} → statement M
 judge-spec =
     tie.close
     (tie.spec
-    node-words-requires
     (λ c κs. search needs)
     (λ c κs. search needs)
-    returns
     (λ c κs. search needs)
-    returns-2
-    returns-3)
+    (λ c κs. search needs)
+    (λ c κs. search needs)
+    (λ c κs. search needs)
+    (λ c κs. clean _ (c .before .before .before .before .before .before .before .before .before .before .before .before .pre) .fits .limits .long)
+    (λ c κs. c .before .before .before .before .before .before .before .before .before .before .before .before .before .pre)
+    judge-tables-requires
+    returns)

@@ -1,2 +1,0 @@
--- The nodes of an accepted plan.
-pub mod Nodes

@@ -1,2 +1,0 @@
--- The rows of an accepted plan.
-pub mod Rows

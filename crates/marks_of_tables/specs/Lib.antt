@@ -1,0 +1,2 @@
+-- The marks of a node, from tables.
+pub mod Tables

@@ -1,0 +1,10 @@
+-- The marks of a node, as words, of every plan that tables represent. Definitions only.
+use mathlib.Core.List.{List}
+use Prim.Native.Nat.{ℕ}
+use Rattle.runs.specs.Plan.{Plan, Node, WellFormed}
+use Rattle.marks_row.specs.Tables.{Represents}
+use Rattle.marks_words.specs.Words.{MarkWords}
+
+abbrev pub NodeWords : List ℕ → List ℕ → List ℕ → List ℕ → List ℕ → ℕ → ℕ → List ℕ → Type 0
+NodeWords kind from kids order conds n node words = (p : Plan) → WellFormed p
+    → Represents kind from kids order conds n p → Node p node → MarkWords p node words
