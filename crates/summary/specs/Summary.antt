@@ -1,4 +1,4 @@
--- The summary call (01: sheet): what it returns, every byte that it leaves, and what each byte of a mark tells.
+-- The summary call (01: sheet) with a list of blocked nodes: what it returns, every byte that it leaves, and what each byte of a mark tells.
 -- Definitions only.
 use mathlib.Core.Path.{_≡_}
 use mathlib.Core.Logic.{_⊎_}
@@ -9,31 +9,45 @@ use lib.ListN.{length, getD}
 use lib.Dec.{eqb, ltb}
 use Rattle.base.specs.Answers.{first, overlay}
 use Rattle.plan_format.specs.Format.{nodeCount, flagCount}
-use Rattle.plan_rules.specs.Rules.{refusal}
+use Rattle.base.specs.Bits.{Says}
+use Rattle.plan_blocked.specs.Blocked.{refusalUnder, Standing}
+use Rattle.runs.specs.Tests.{listed}
 use Rattle.runs.specs.Plan.{signNumber}
 use Rattle.plan_check.specs.Meaning.{planOf}
-use Rattle.runs.specs.Summary.{Mark, byteOf, markAt, Marked}
-use Rattle.runs.specs.Model.Marks.{markedB}
+use Rattle.runs.specs.Summary.{Mark, byteOf, markAt}
+use Rattle.runs.specs.Blocked.{MarkedUnder, markedUnderB, Blocks}
+use Rattle.marks_words.specs.Words.{wordIndex}
 
--- 1 to 14; 15: under 16 V bytes; 17: no node
-unfoldable pub summaryRefusal : List ℕ → ℕ → List ℕ → ℕ
-summaryRefusal b n out = first (refusal b)
+-- 1 to 14, 28 and 29; 15: under 16 V bytes; 17: no node
+unfoldable pub summaryRefusal : List ℕ → List ℕ → ℕ → List ℕ → ℕ
+summaryRefusal b xs n out = first (refusalUnder b xs)
     (cond (ltb (length out) (16 * flagCount b)) 15 (cond (not (ltb n (nodeCount b))) 17 0))
 
 -- the mark of byte i: entry i / 8 is 2 f + sign, and its eight bytes are the marks
-unfoldable pub summaryByte : List ℕ → ℕ → ℕ → ℕ
-summaryByte b n i = cond (markedB (planOf b) n (i / 8 / 2) (eqb (i / 8 % 2) 1) (markAt (i % 8))) 1 0
+unfoldable pub summaryByte : List ℕ → List ℕ → ℕ → ℕ → ℕ
+summaryByte b xs n i = cond (markedUnderB (planOf b) (listed xs) n (i / 8 / 2) (eqb (i / 8 % 2) 1) (markAt (i % 8))) 1 0
 
 -- the bytes after the call: accepted, the 2 V entries and then what was there; refused, all that was there
-unfoldable pub summaryLeft : List ℕ → ℕ → List ℕ → List ℕ
-summaryLeft b n out = cond (eqb (summaryRefusal b n out) 0) (overlay (summaryByte b n) (16 * flagCount b) out) out
+unfoldable pub summaryLeft : List ℕ → List ℕ → ℕ → List ℕ → List ℕ
+summaryLeft b xs n out = cond (eqb (summaryRefusal b xs n out) 0) (overlay (summaryByte b xs n) (16 * flagCount b) out)
+    out
 
 -- the byte is 1 and A holds, or it is 0 and A does not hold
 abbrev pub Tells : ℕ → Type 0 → Type 0
 Tells x A = ((x ≡ 1) × A) ⊎ ((x ≡ 0) × (¬ A))
 
-pub record Summarised (b : List ℕ) (n : ℕ) (out : List ℕ) (r : ℕ) (out′ : List ℕ) : Type 0 where
-  pub returns : r ≡ summaryRefusal b n out
-  pub leaves : out′ ≡ summaryLeft b n out
+-- what a check leaves: the refusal, and the table once nothing is refused
+pub record Refused (b xs : List ℕ) (n : ℕ) (out : List ℕ) (r : ℕ) (standing : List ℕ) : Type 0 where
+  pub returns : r ≡ summaryRefusal b xs n out
+  pub stands : r ≡ 0 → Standing b (listed xs) standing
+
+-- sixteen words say the marks of n under blocked nodes: of any blocked nodes S, if a table marks the nodes that stand
+pub record UnderWords (b standing : List ℕ) (n : ℕ) (words : List ℕ) : Type 0 where
+  pub says : (S : ℕ → Bool) → Blocks (planOf b) S → Standing b S standing → (v : Bool) (m : Mark) (f : ℕ) → f < 64
+      → Says (getD words (wordIndex v m) 0) f (MarkedUnder (planOf b) S n f v m)
+
+pub record Summarised (b xs : List ℕ) (n : ℕ) (out : List ℕ) (r : ℕ) (out′ : List ℕ) : Type 0 where
+  pub returns : r ≡ summaryRefusal b xs n out
+  pub leaves : out′ ≡ summaryLeft b xs n out
   pub marks : r ≡ 0 → (f : ℕ) → f < flagCount b → (v : Bool) (m : Mark)
-      → Tells (getD out′ (8 * (2 * f + signNumber v) + byteOf m) 0) (Marked (planOf b) n f v m)
+      → Tells (getD out′ (8 * (2 * f + signNumber v) + byteOf m) 0) (MarkedUnder (planOf b) (listed xs) n f v m)

@@ -2,17 +2,28 @@
 ghost use mathlib.Core.Path.{_≡_};
 ghost use Prim.Native.Nat.{_/_, _%_, _^_, _<_};
 ghost use lib.ListN.{getD};
-ghost use Rattle.summary.specs.Summary.{summaryRefusal, Summarised};
-use marks_of_plan::node_words;
-use plan_check::check;
+ghost use Rattle.node_sets.specs.Sets.{AllMarked};
+ghost use Rattle.plan_format.specs.Format.{nodeCount};
+ghost use Rattle.plan_rules.specs.Rules.{refusal};
+ghost use Rattle.summary.specs.Summary.{UnderWords, Refused, Summarised};
+use base::no_conditions;
+use base::no_nodes;
+use base::no_starts;
+use marks_of_tables::node_words;
+use node_sets::all_nodes;
+use plan_blocked::check_blocked;
 use plan_format::fields::flags;
 use plan_format::fields::nodes;
+use table_all::fill_tables;
+use table_orders::no_order;
 
-// Refusals 1 to 14, 15 and 17, or 0.
-fn summary_refused(plan: &[u8], node: usize, out: &[u8]) -> u32
-    ensures { λ r. ⌜ r ≡ summaryRefusal (now (plan .entry)) node (now (out .entry)) ⌝ }
+// Refusals 1 to 14, 28, 29, 15 and 17, or 0, and then of the marks those of the nodes that stand.
+fn summary_refused(plan: &[u8], blocked: &[usize], node: usize, out: &[u8], standing: &mut [u8; 128]) -> u32
+    requires { ⌜ AllMarked (now standing) ⌝ }
+    ensures { λ r. ⌜ Refused (now (plan .entry)) (now (blocked .entry)) node (now (out .entry)) r
+        (now (standing .exit)) ⌝ }
 {
-    let r = check(plan);
+    let r = check_blocked(plan, blocked, standing);
     if r != 0 {
         return r;
     }
@@ -23,6 +34,40 @@ fn summary_refused(plan: &[u8], node: usize, out: &[u8]) -> u32
         return 17;
     }
     0
+}
+
+// The marks of a node that stands, as words.
+fn standing_words(plan: &[u8], standing: &[u8; 128], node: usize) -> [u64; 16]
+    requires { ⌜ (refusal (now plan) ≡ 0) × ((node < nodeCount (now plan)) × (getD (now standing) node 0 ≡ 1)) ⌝ }
+    ensures { λ r. ⌜ UnderWords (now (plan .entry)) (now (standing .entry)) node r ⌝ }
+{
+    let mut kind = no_nodes();
+    let mut from = no_starts();
+    let mut kids = no_nodes();
+    let mut order = no_order();
+    let mut conds = no_conditions();
+    fill_tables(
+        plan,
+        standing,
+        &mut kind,
+        &mut from,
+        &mut kids,
+        &mut order,
+        &mut conds,
+    );
+    let n = nodes(plan);
+    node_words(&kind, &from, &kids, &order, &conds, n, node)
+}
+
+// The marks of a node: none, if it does not stand.
+fn under_words(plan: &[u8], standing: &[u8; 128], node: usize) -> [u64; 16]
+    requires { ⌜ (refusal (now plan) ≡ 0) × (node < nodeCount (now plan)) ⌝ }
+    ensures { λ r. ⌜ UnderWords (now (plan .entry)) (now (standing .entry)) node r ⌝ }
+{
+    if standing[node] == 1 {
+        return standing_words(plan, standing, node);
+    }
+    [0u64; 16]
 }
 
 // Byte i of a summary: entry i / 8 is 2 f + sign.
@@ -36,14 +81,16 @@ fn mark_byte(words: &[u64; 16], i: usize) -> u8
 }
 
 // Writes the summary of a node; refused, nothing changes.
-pub fn summary(plan: &[u8], node: usize, out: &mut [u8]) -> u32
-    ensures { λ r. ⌜ Summarised (now (plan .entry)) node (now (out .entry)) r (now (out .exit)) ⌝ }
+pub fn summary(plan: &[u8], blocked: &[usize], node: usize, out: &mut [u8]) -> u32
+    ensures { λ r. ⌜ Summarised (now (plan .entry)) (now (blocked .entry)) node (now (out .entry)) r
+        (now (out .exit)) ⌝ }
 {
-    let r = summary_refused(plan, node, out);
+    let mut standing = all_nodes();
+    let r = summary_refused(plan, blocked, node, out, &mut standing);
     if r != 0 {
         return r;
     }
-    let words = node_words(plan, node);
+    let words = under_words(plan, &standing, node);
     let n = 16 * flags(plan);
     let mut i = 0;
     while i < n {
