@@ -5,14 +5,14 @@ use Prim.Native.Nat.{ℕ, _+_, _*_}
 use borrow.Author.Tests.{eq-eqb, ne-eqb}
 use Rattle.base.specs.Answers.{overlay}
 use Rattle.plan_format.specs.Format.{nodeCount}
-use Rattle.run_state.specs.State.{roomRefusal}
+use Rattle.run_state.specs.Under.{roomRefusalUnder}
 use Rattle.run_state.specs.Fresh.{freshByte, freshState}
 
-module _ (b s : List ℕ) where
-  pub fresh-refused : (roomRefusal b s ≡ 0 → ⊥) → s ≡ freshState b s
+module _ (b xs s : List ℕ) where
+  pub fresh-refused : (roomRefusalUnder b xs s ≡ 0 → ⊥) → s ≡ freshState b xs s
   unfolding freshState
-  fresh-refused n = rw (ne-eqb (roomRefusal b s) 0 n)
+  fresh-refused n = rw (ne-eqb (roomRefusalUnder b xs s) 0 n)
 
-  pub fresh-accepted : roomRefusal b s ≡ 0 → overlay (freshByte b) (8 + 3 * nodeCount b) s ≡ freshState b s
+  pub fresh-accepted : roomRefusalUnder b xs s ≡ 0 → overlay (freshByte b) (8 + 3 * nodeCount b) s ≡ freshState b xs s
   unfolding freshState
-  fresh-accepted e = rw (eq-eqb (roomRefusal b s) 0 e)
+  fresh-accepted e = rw (eq-eqb (roomRefusalUnder b xs s) 0 e)

@@ -13,14 +13,21 @@ use Rattle.plan_format.specs.Format.{nodeCount, kindOf, isKind}
 use Rattle.plan_rules.proofs.Laws.{either, or-none, or-split, not-passed}
 use Rattle.plan_check.specs.Meaning.{planOf}
 use Rattle.plan_check.proofs.Meaning.{means-well-formed, kind-is, kind-task}
-use Rattle.plan_check.proofs.Nodes.{plan-kind, kind-optional}
-use Rattle.runs.specs.Plan.{Moves, WellFormed}
+use Rattle.plan_check.proofs.Nodes.{node-is, plan-kind, kind-optional}
+use Rattle.runs.specs.Plan.{Moves, Node, WellFormed}
 use Rattle.runs.specs.Execution.{Status, waiting, running, done}
 use Rattle.runs.specs.Calls.{statusByte}
 use Rattle.run_starts.specs.Starts.{nodeByte}
 use Rattle.run_state.specs.State.{badByte, stateRefusal, statusAt, moves, statusIn}
-use Rattle.run_state.proofs.Refused.{Roomy, roomy, state-well}
-use Rattle.run_state.proofs.Well.{Well, well}
+use Rattle.run_state.specs.Under.{badAbsent, stateRefusalUnder}
+use Rattle.plan_blocked.specs.Blocked.{refusalUnder}
+use Rattle.runs.specs.Tests.{listed}
+use Rattle.runs.specs.Blocked.{Stands, stands}
+use Rattle.runs.proofs.Reflect.{true-T}
+use Rattle.runs.proofs.Blocked.Standing.{r-stands}
+use Rattle.run_state.proofs.Refused.{Roomy, roomy, state-well, state-good, room-passed, room-blocked}
+use Rattle.run_state.proofs.Refused.{state-room-under, state-well-under}
+use Rattle.run_state.proofs.Well.{Well, well, from-parts, WellUnder, well-under}
 
 -- a byte and the status that it shows, back and forth
 pub status-back : (x : ℕ) → x ≤ 2 → statusByte (statusAt x) ≡ x
@@ -116,3 +123,24 @@ module _ (b s : List ℕ) (ok : stateRefusal b s ≡ 0) where
 
     pub byte-inside : 8 + n < length s
     byte-inside = omega (arith, has-room .room)
+
+-- and with a list of blocked nodes
+module _ (b xs s : List ℕ) (ok : stateRefusalUnder b xs s ≡ 0) where
+  pub list-passed : refusalUnder b xs ≡ 0
+  list-passed = room-blocked b xs s (state-room-under b xs s ok)
+
+  under-well : WellUnder b xs s
+  under-well = well-under b xs s (state-well-under b xs s ok)
+
+  pub passed : stateRefusal b s ≡ 0
+  passed = sym (state-good b s (room-passed b xs s (state-room-under b xs s ok)) (from-parts b s (under-well .well)))
+
+  -- what does not stand waits
+  pub absent-byte : (n : ℕ) → n < nodeCount b → stands (planOf b) (listed xs) n ≡ false → nodeByte s n ≡ 0
+  unfolding badAbsent
+  absent-byte n l y = eqb-true (nodeByte s n) 0 (not-false _ (rw y at (under-well .absent n l)))
+
+  pub absent-waits : (n : ℕ) → Node (planOf b) n → ¬ Stands (planOf b) (listed xs) n → statusIn b s n ≡ waiting
+  absent-waits n h k = let l = node-is b n h in
+      (byte-is b s passed n l waiting) .0 (absent-byte n l (not-passed _
+      (λ y. k ((r-stands (planOf b) (well-formed b s passed) (listed xs) n) .to (true-T _ y)))))

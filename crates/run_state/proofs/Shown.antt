@@ -1,7 +1,7 @@
 -- What the fresh state shows, and that it is well formed. Assumes nothing.
 use mathlib.Core.Path.{_≡_, refl, sym, _∙_, fun-ext}
 use mathlib.Core.Logic.{by-cases, ⊎-elim}
-use mathlib.Core.Bool.{Bool, true, false, cond, and-false}
+use mathlib.Core.Bool.{Bool, true, false, cond, not, and-false}
 use mathlib.Core.List.{List}
 use Prim.Native.Nat.{ℕ, _+_, _*_, _/_, _<_, _≤_}
 use native.Mathlib.Decide.{decLt}
@@ -15,18 +15,21 @@ use Rattle.base.proofs.Count.{count-none}
 use Rattle.run_flags.specs.Flags.{flagIn}
 use Rattle.plan_format.specs.Format.{u16At, nodeCount, flagCount, startFlag, isKind}
 use Rattle.plan_rules.proofs.Laws.{either, not-passed}
-use Rattle.plan_check.specs.Meaning.{startOf}
+use Rattle.plan_check.specs.Meaning.{planOf, startOf}
 use Rattle.plan_check.proofs.Accepted.{start-below}
 use Rattle.runs.specs.Execution.{waiting}
 use Rattle.runs.specs.Calls as calls
 use Rattle.run_starts.specs.Starts.{nodeByte}
-use Rattle.run_state.specs.State.{badFlag, badByte, malformed, roomRefusal, stateRefusal, statusAt, moves}
+use Rattle.run_state.specs.State.{badFlag, badByte, malformed, statusAt, moves}
 use Rattle.run_starts.specs.Starts.{ordinalAt, ordinalIn, startedIn}
 use Rattle.run_state.specs.State.{statusIn, flagShown, ordinalShown, worldOf}
 use Rattle.run_starts.specs.Starts.{startedCount, strayOrdinal}
+use Rattle.run_state.specs.Under.{badAbsent, roomRefusalUnder, stateRefusalUnder}
+use Rattle.runs.specs.Tests.{listed}
+use Rattle.runs.specs.Blocked.{stands}
 use Rattle.run_state.specs.Fresh.{freshByte, freshState}
-use Rattle.run_state.proofs.Refused.{Roomy, roomy, room-long, state-good}
-use Rattle.run_state.proofs.Well.{from-parts}
+use Rattle.run_state.proofs.Refused.{Roomy, roomy, room-passed, room-blocked, state-passed}
+use Rattle.run_state.proofs.Well.{well, from-parts, from-under}
 use Rattle.run_state.proofs.Passed.{moves-node}
 
 module _ (b s : List ℕ) (r : Roomy b s) where
@@ -121,21 +124,24 @@ module _ (b s : List ℕ) (r : Roomy b s) where
   unfolding worldOf
   shows = cc (fun-ext shows-status, fun-ext shows-flag, no-starts, fun-ext shows-ordinal)
 
+  fresh-absent : (xs : List ℕ) (n : ℕ) → n < nodeCount b → badAbsent b xs written n ≡ false
+  unfolding badAbsent
+  fresh-absent xs n l = rw (fresh-node n l) (and-false (not (stands (planOf b) (listed xs) n)))
+
 -- an accepted call leaves a state that passes all checks and shows the states at the start
-pub record Started (b s : List ℕ) : Type 0 where
-  pub well-formed : stateRefusal b s ≡ 0
+pub record Started (b xs s : List ℕ) : Type 0 where
+  pub well-formed : stateRefusalUnder b xs s ≡ 0
   pub at-first : worldOf b s ≡ calls.fresh (startOf b)
 
-pub fresh-started : (b s : List ℕ) → roomRefusal b s ≡ 0 → Started b (freshState b s)
+pub fresh-started : (b xs s : List ℕ) → roomRefusalUnder b xs s ≡ 0 → Started b xs (freshState b xs s)
 unfolding freshState written
-fresh-started b s e =
-    let r = roomy b s e in
+fresh-started b xs s e =
+    let r = roomy b s (room-passed b xs s e) in
     let w = overlay (freshByte b) (8 + 3 * nodeCount b) s in
     let n = length-overlay (freshByte b) s (8 + 3 * nodeCount b) in
-    rw (eq-eqb (roomRefusal b s) 0 e)
+    rw (eq-eqb (roomRefusalUnder b xs s) 0 e)
     (record {
-      well-formed = sym (state-good b w
-          (sym (room-long b w (r .accepted) (omega (arith, r .room, n))))
-          (well-formed b s r));
+      well-formed = state-passed b xs w (room-blocked b xs s e) (omega (arith, r .room, n))
+          (from-under b xs w (record { well = well b w (well-formed b s r); absent = fresh-absent b s r xs }));
       at-first = shows b s r;
     })

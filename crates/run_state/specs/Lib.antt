@@ -1,3 +1,4 @@
 pub mod State
+pub mod Under
 pub mod Made
 pub mod Fresh

@@ -34,7 +34,7 @@ badNode b s n = badByte b s n || strayOrdinal b s n
 unfoldable pub malformed : List ℕ → List ℕ → Bool
 malformed b s = anyBelow 64 (badFlag b s) || anyBelow (nodeCount b) (badNode b s) || misnumbered b s
 
--- refusals 1 to 15
+-- refusals 1 to 15, with nothing blocked (specs/Under has the list)
 unfoldable pub roomRefusal : List ℕ → List ℕ → ℕ
 roomRefusal b s = first (refusal b) (cond (tooShort b s) 15 0)
 

@@ -3,7 +3,8 @@ use base::kinds::OPTIONAL;
 use base::kinds::TASK;
 use base::statuses::DONE;
 use base::statuses::WAITING;
-use plan_check::check;
+use node_sets::all_nodes;
+use plan_blocked::check_blocked;
 use plan_format::fields::flags;
 use plan_format::fields::is_kind;
 use plan_format::fields::nodes;
@@ -16,7 +17,9 @@ ghost use lib.ListN.{length};
 ghost use Rattle.plan_format.specs.Format.{nodeCount};
 ghost use Rattle.runs.specs.Tests.{anyBelow};
 ghost use Rattle.run_starts.specs.Starts.{Fits};
-ghost use Rattle.run_state.specs.State.{badFlag, badByte, badNode, roomRefusal, stateRefusal};
+ghost use Rattle.node_sets.specs.Sets.{AllMarked};
+ghost use Rattle.run_state.specs.State.{badFlag};
+ghost use Rattle.run_state.specs.Under.{roomRefusalUnder, stateRefusalUnder, badByteIn, badNodeIn, Checked};
 ghost use Rattle.run_state.specs.Fresh.{freshByte, Freshened};
 
 // A bit for a flag of number v or higher.
@@ -36,14 +39,17 @@ fn flags_bad(plan: &[u8], state: &[u8]) -> bool
     false
 }
 
-// The byte of node n is none that it may have.
-fn byte_bad(plan: &[u8], state: &[u8], n: usize) -> bool
+// The byte of node n is none that it may have: one that does not stand waits.
+fn byte_bad(plan: &[u8], state: &[u8], standing: &[u8; 128], n: usize) -> bool
     requires { ⌜ (n < nodeCount (now plan)) × Fits (now plan) (now state) ⌝ }
-    ensures { λ r. ⌜ r ≡ badByte (now (plan .entry)) (now (state .entry)) n ⌝ }
+    ensures { λ r. ⌜ r ≡ badByteIn (now (plan .entry)) (now (standing .entry)) (now (state .entry)) n ⌝ }
 {
     let x = state[8 + n];
     if x == WAITING {
         return false;
+    }
+    if standing[n] != 1 {
+        return true;
     }
     if is_kind(plan, n, TASK) {
         return DONE < x;
@@ -52,22 +58,22 @@ fn byte_bad(plan: &[u8], state: &[u8], n: usize) -> bool
 }
 
 // The byte of node n is bad, or it has an ordinal and has not been started.
-fn node_bad(plan: &[u8], state: &[u8], n: usize) -> bool
+fn node_bad(plan: &[u8], state: &[u8], standing: &[u8; 128], n: usize) -> bool
     requires { ⌜ (n < nodeCount (now plan)) × Fits (now plan) (now state) ⌝ }
-    ensures { λ r. ⌜ r ≡ badNode (now (plan .entry)) (now (state .entry)) n ⌝ }
+    ensures { λ r. ⌜ r ≡ badNodeIn (now (plan .entry)) (now (standing .entry)) (now (state .entry)) n ⌝ }
 {
-    byte_bad(plan, state, n) | is_stray(plan, state, n)
+    byte_bad(plan, state, standing, n) | is_stray(plan, state, n)
 }
 
-fn nodes_bad(plan: &[u8], state: &[u8]) -> bool
+fn nodes_bad(plan: &[u8], state: &[u8], standing: &[u8; 128]) -> bool
     requires { ⌜ Fits (now plan) (now state) ⌝ }
     ensures { λ r. ⌜ r ≡ anyBelow (nodeCount (now (plan .entry)))
-        (badNode (now (plan .entry)) (now (state .entry))) ⌝ }
+        (badNodeIn (now (plan .entry)) (now (standing .entry)) (now (state .entry))) ⌝ }
 {
     let n = nodes(plan);
     let mut i = 0;
     while i < n {
-        if node_bad(plan, state, i) {
+        if node_bad(plan, state, standing, i) {
             return true;
         }
         i += 1;
@@ -75,11 +81,13 @@ fn nodes_bad(plan: &[u8], state: &[u8]) -> bool
     false
 }
 
-// Refusals 1 to 15, or 0.
-pub fn check_room(plan: &[u8], state: &[u8]) -> u32
-    ensures { λ r. ⌜ r ≡ roomRefusal (now (plan .entry)) (now (state .entry)) ⌝ }
+// Refusals 1 to 14, 28, 29 and 15, or 0, and then of the marks those of the nodes that stand.
+fn check_room(plan: &[u8], blocked: &[usize], state: &[u8], standing: &mut [u8; 128]) -> u32
+    requires { ⌜ AllMarked (now standing) ⌝ }
+    ensures { λ r. ⌜ Checked (now (plan .entry)) (now (blocked .entry))
+        (roomRefusalUnder (now (plan .entry)) (now (blocked .entry)) (now (state .entry))) r (now (standing .exit)) ⌝ }
 {
-    let r = check(plan);
+    let r = check_blocked(plan, blocked, standing);
     if r != 0 {
         return r;
     }
@@ -89,15 +97,17 @@ pub fn check_room(plan: &[u8], state: &[u8]) -> u32
     0
 }
 
-// Refusals 1 to 16, or 0.
-pub fn check_state(plan: &[u8], state: &[u8]) -> u32
-    ensures { λ r. ⌜ r ≡ stateRefusal (now (plan .entry)) (now (state .entry)) ⌝ }
+// Refusals up to 16, or 0, and then of the marks those of the nodes that stand.
+pub fn check_state(plan: &[u8], blocked: &[usize], state: &[u8], standing: &mut [u8; 128]) -> u32
+    requires { ⌜ AllMarked (now standing) ⌝ }
+    ensures { λ r. ⌜ Checked (now (plan .entry)) (now (blocked .entry))
+        (stateRefusalUnder (now (plan .entry)) (now (blocked .entry)) (now (state .entry))) r (now (standing .exit)) ⌝ }
 {
-    let r = check_room(plan, state);
+    let r = check_room(plan, blocked, state, standing);
     if r != 0 {
         return r;
     }
-    if flags_bad(plan, state) | nodes_bad(plan, state) | ordinals_bad(plan, state) {
+    if flags_bad(plan, state) | nodes_bad(plan, state, standing) | ordinals_bad(plan, state) {
         return 16;
     }
     0
@@ -113,11 +123,12 @@ fn fresh_byte(plan: &[u8], i: usize) -> u8
     0
 }
 
-// A state in which every task waits and each flag is as its start bit says; refused with 1 to 15, nothing changes.
-pub fn fresh(plan: &[u8], state: &mut [u8]) -> u32
-    ensures { λ r. ⌜ Freshened (now (plan .entry)) (now (state .entry)) r (now (state .exit)) ⌝ }
+// A state in which every task waits and each flag is as its start bit says; refused, nothing changes.
+pub fn fresh(plan: &[u8], blocked: &[usize], state: &mut [u8]) -> u32
+    ensures { λ r. ⌜ Freshened (now (plan .entry)) (now (blocked .entry)) (now (state .entry)) r (now (state .exit)) ⌝ }
 {
-    let r = check_room(plan, state);
+    let mut standing = all_nodes();
+    let r = check_room(plan, blocked, state, &mut standing);
     if r != 0 {
         return r;
     }

@@ -3,38 +3,42 @@ use mathlib.Core.Path.{_≡_, sym, ap, _∙_}
 use Prim.Native.Nat.{ℕ, _≤_, _-_, _+_, _*_}
 use denote.Ref.{now}
 use Rattle.plan_format.specs.Format.{nodeCount}
-use Rattle.run_state.specs.State.{roomRefusal}
+use Rattle.run_state.specs.Under.{roomRefusalUnder}
 use Rattle.base.specs.Answers.{overlay}
 use Rattle.base.proofs.Overlay.{overlay-none, overlay-more, length-overlay}
 use Rattle.run_state.specs.Fresh.{freshByte}
 use Rattle.run_state.proofs.Left.{fresh-refused, fresh-accepted}
-use Rattle.run_state.proofs.Refused.{Roomy, roomy}
+use Rattle.run_state.proofs.Refused.{Roomy, roomy, room-passed}
 use borrow.Author.Needs.{needs}
 use native.Mathlib.Omega.{arith}
 use Rattle.run_state.proofs.fresh.Statement.{statement}
 use Rattle.run_state.proofs.fresh.Tie as tie
 
 abbrev Inv-loop : tie.InvT-loop
-Inv-loop plan state₀ r n k₀ state k = (k ≤ n) × (state ≡ overlay (freshByte plan) k state₀)
+Inv-loop plan blocked state₀ r n k₀ state k = (k ≤ n) × (state ≡ overlay (freshByte plan) k state₀)
 
 abbrev μ-loop : tie.MeasureT-loop
-μ-loop plan state₀ r n k₀ state k = n - k
+μ-loop plan blocked state₀ r n k₀ state k = n - k
 
 passed : (c : tie.Else1 Inv-loop μ-loop)
-    → roomRefusal (now (c .before .before .before .before .before .args .plan))
-    (now (c .before .before .before .before .before .args .state)) ≡ 0
-passed c = sym (c .before .check-room .ensures) ∙ c .if1 .left
+    → roomRefusalUnder (now (c .before .before .before .before .before .before .before .before .args .plan))
+    (now (c .before .before .before .before .before .before .before .before .args .blocked))
+    (now (c .before .before .before .before .before .before .before .before .args .state)) ≡ 0
+passed c = sym (c .before .check-room .ensures .returns) ∙ c .if1 .left
 
 enough : (c : tie.Else1 Inv-loop μ-loop)
-    → Roomy (now (c .before .before .before .before .before .args .plan))
-    (now (c .before .before .before .before .before .args .state))
-enough c = roomy _ _ (passed c)
+    → Roomy (now (c .before .before .before .before .before .before .before .before .args .plan))
+    (now (c .before .before .before .before .before .before .before .before .args .state))
+enough c = roomy _ _ (room-passed _ _ _ (passed c))
 
 returns : tie.Need-returns Inv-loop μ-loop
 returns c =
-    let a = c .before .before .before .before .before .args in
-    let e = c .before .check-room .ensures in
-    record { returns = e; leaves = fresh-refused (now (a .plan)) (now (a .state)) (λ z. c .if1 .taken (e ∙ z)) }
+    let a = c .before .before .before .before .before .before .before .before .args in
+    let e = c .before .check-room .ensures .returns in
+    record {
+      returns = e;
+      leaves = fresh-refused (now (a .plan)) (now (a .blocked)) (now (a .state)) (λ z. c .if1 .taken (e ∙ z));
+    }
 
 nodes-requires : tie.Need-nodes-requires Inv-loop μ-loop
 nodes-requires c κs = enough c .plan .fits .limits .long
@@ -70,13 +74,13 @@ returns-2 : tie.Need-returns-2 Inv-loop μ-loop
 returns-2 c =
     let l = c .before in
     let p = passed (l .before .before) in
-    let a = l .before .before .before .before .before .before .before .args in
+    let a = l .before .before .before .before .before .before .before .before .before .before .args in
     let e : l .loop .k ≡ 8 + 3 * nodeCount (now (a .plan)) = omega arith in
     record {
       returns = sym p;
       leaves = l .loop .inv .1
           ∙ ap (λ (k : ℕ). overlay (freshByte (now (a .plan))) k (now (a .state))) e
-          ∙ fresh-accepted (now (a .plan)) (now (a .state)) p;
+          ∙ fresh-accepted (now (a .plan)) (now (a .blocked)) (now (a .state)) p;
     }
 
 pub fresh-spec : {M : Type 1} → statement M
@@ -85,7 +89,8 @@ fresh-spec =
     (tie.spec
     Inv-loop
     μ-loop
-    (λ c κs. search needs)
+    (λ c κs. tt)
+    (λ c κs. c .before .before .all-nodes .ensures)
     (λ c. search needs)
     returns
     nodes-requires

@@ -1,10 +1,10 @@
 -- `run_state::node_bad` meets its contract. Assumes nothing.
-use Rattle.run_state.specs.State.{badNode}
+use Rattle.run_state.specs.Under.{badNodeIn}
 use Rattle.run_state.proofs.node_bad.Statement.{statement}
 use Rattle.run_state.proofs.node_bad.Tie as tie
 
 returns : tie.Need-returns
-unfolding badNode
+unfolding badNodeIn
 returns c = rw (c .before .byte-bad .ensures, c .is-stray .ensures)
 
 pub node-bad-spec : {M : Type 1} → statement M

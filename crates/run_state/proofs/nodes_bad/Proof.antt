@@ -6,16 +6,16 @@ use denote.Ref.{now}
 use Rattle.plan_format.specs.Format.{nodeCount}
 use Rattle.runs.specs.Tests.{anyBelow}
 use Rattle.plan_rules.proofs.Laws.{some-yes, none-more, none-none}
-use Rattle.run_state.specs.State.{badNode}
+use Rattle.run_state.specs.Under.{badNodeIn}
 use native.Mathlib.Omega.{arith}
 use Rattle.run_state.proofs.nodes_bad.Statement.{statement}
 use Rattle.run_state.proofs.nodes_bad.Tie as tie
 
 abbrev Inv-loop : tie.InvT-loop
-Inv-loop plan state n i₀ i = (i ≤ n) × (anyBelow i (badNode plan state) ≡ false)
+Inv-loop plan state standing n i₀ i = (i ≤ n) × (anyBelow i (badNodeIn plan standing state) ≡ false)
 
 abbrev μ-loop : tie.MeasureT-loop
-μ-loop plan state n i₀ i = n - i
+μ-loop plan state standing n i₀ i = n - i
 
 loop-holds : tie.Need-loop-holds Inv-loop μ-loop
 loop-holds c = (omega arith, none-none _)
@@ -27,7 +27,7 @@ returns : tie.Need-returns Inv-loop μ-loop
 returns c =
     let l = c .before .before .before in
     let a = l .before .before .before .before .args in
-    sym (some-yes (nodeCount (now (a .plan))) (badNode (now (a .plan)) (now (a .state))) (l .loop .i) (omega arith)
+    sym (some-yes (nodeCount (now (a .plan))) (badNodeIn (now (a .plan)) (now (a .standing)) (now (a .state))) (l .loop .i) (omega arith)
     (sym (c .before .node-bad .ensures) ∙ c .if1 .taken))
 
 loop-again : tie.Need-loop-again Inv-loop μ-loop
