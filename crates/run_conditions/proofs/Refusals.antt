@@ -299,7 +299,7 @@ module _ (b s : List ℕ) (ok : stateRefusal b s ≡ 0) where
     pub broken-unless : postOpposedB (planOf b) ts ≡ false
         → anyBelow (condCount b) (brokenAt b s (after (placeNumber post) (listed ts) false)
         (after (placeNumber post) (listed ts) true) (listed ts))
-        ≡ appliesB (planOf b) (worldOf b s) (together ts) inc-broken
+        ≡ appliesB (planOf b) (planOf b) (worldOf b s) (together ts) inc-broken
     unfolding planOf worldOf
     broken-unless n = same-test _ _
         (r-map (
@@ -307,7 +307,7 @@ module _ (b s : List ℕ) (ok : stateRefusal b s ≡ 0) where
           λ x. from (broken-turned (planOf b) (well-formed b s ok) (worldOf b s) ts unopposed .0 x),
         )
         (r-broken (listed ts) (after (placeNumber post) (listed ts))))
-        (r-applies (planOf b) (well-formed b s ok) (worldOf b s) (together ts) inc-broken)
+        (r-applies (planOf b) (planOf b) (well-formed b s ok) (worldOf b s) (together ts) inc-broken)
       where
         unopposed : ¬ PostOpposed (planOf b) ts
         unopposed x = true≢false

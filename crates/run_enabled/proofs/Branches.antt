@@ -18,14 +18,14 @@ use Rattle.plan_check.proofs.Nodes.{is-child, child-test, is-node, node-is, pla
 use Rattle.plan_check.proofs.Nodes.{choice-kind}
 use Rattle.runs.specs.Plan.{Picks, Child, Under}
 use Rattle.runs.specs.Execution.{done, start, Begun, Rival, by-branch, by-skip}
-use Rattle.runs.specs.Calls.{one, branch-begun, BranchBegun}
-use Rattle.runs.specs.Model.Monitor.{begunB, branchBegunB, appliesB}
+use Rattle.runs.specs.Calls.{BranchBegun}
+use Rattle.runs.specs.Model.Monitor.{begunB, branchBegunB}
 use Rattle.runs.proofs.Reflect.{Reflects, true-T, T-true}
 use Rattle.runs.proofs.Plan.Trees.{under-le, child-lt}
 use Rattle.runs.proofs.Execution.Completeness.{picks-moves, done-moved}
-use Rattle.runs.proofs.Calls.Reflect.{r-begun, r-applies}
+use Rattle.runs.proofs.Calls.Reflect.{r-begun, r-branch-begun}
 use Rattle.run_starts.specs.Starts.{nodeByte}
-use Rattle.run_state.specs.State.{stateRefusal, statusIn, worldOf}
+use Rattle.run_state.specs.State.{stateRefusal, statusIn}
 use Rattle.run_state.proofs.Passed.{has-room, well-formed, byte-is, shown-moves}
 use Rattle.base.specs.Count.{num, countBelow}
 use Rattle.run_progress.specs.Progress.{countedAt, countedChild, childrenCounted}
@@ -170,8 +170,7 @@ module _ (b s : List ℕ) (ok : stateRefusal b s ≡ 0) where
   none-at-root x = omega (arith, x .own-child .not-root, under-le (planOf b) (well-formed b s ok) (x .above))
 
   branches : (t : ℕ) → Reflects (branchBegunB (planOf b) (statusIn b s) t) (BranchBegun (planOf b) (statusIn b s) t)
-  unfolding appliesB worldOf
-  branches t = r-applies (planOf b) (well-formed b s ok) (worldOf b s) (one (start t)) branch-begun
+  branches t = r-branch-begun (planOf b) (well-formed b s ok) (statusIn b s) t
 
   pub begun-yes : (t : ℕ) → BranchBegun (planOf b) (statusIn b s) t → true ≡ branchBegunB (planOf b) (statusIn b s) t
   begun-yes t x = sym (T-true _ (branches t .from x))

@@ -16,13 +16,13 @@ use Rattle.plan_check.proofs.Accepted.{clean}
 use Rattle.plan_check.proofs.Meaning.{siblings, child-is, order-is, has-order}
 use Rattle.plan_check.proofs.Nodes.{is-node}
 use Rattle.runs.specs.Execution.{start, Complete}
-use Rattle.runs.specs.Calls.{one, order-open, OrderOpen}
-use Rattle.runs.specs.Model.Monitor.{completeB, orderOpenB, appliesB}
+use Rattle.runs.specs.Calls.{OrderOpen}
+use Rattle.runs.specs.Model.Monitor.{completeB, orderOpenB}
 use Rattle.runs.specs.Model.Trees.{underB}
 use Rattle.runs.proofs.Reflect.{Reflects, true-T, T-true, same-test}
 use Rattle.runs.proofs.Plan.Reflect.{r-under}
-use Rattle.runs.proofs.Calls.Reflect.{r-complete, r-applies}
-use Rattle.run_state.specs.State.{stateRefusal, statusIn, worldOf}
+use Rattle.runs.proofs.Calls.Reflect.{r-complete, r-order-open}
+use Rattle.run_state.specs.State.{stateRefusal, statusIn}
 use Rattle.run_state.proofs.Passed.{has-room, well-formed}
 use Rattle.base.specs.Count.{num}
 use Rattle.run_enabled.specs.Enabling.{openAt}
@@ -92,8 +92,7 @@ module _ (b s : List ℕ) (ok : stateRefusal b s ≡ 0) (t : ℕ) (marks : List 
       (λ z. x .incomplete (rw (w .earlier) at (completes (earlierOf b j) (n .0) .to z))))))
 
   opens : Reflects (orderOpenB (planOf b) (statusIn b s) t) (OrderOpen (planOf b) (statusIn b s) t)
-  unfolding appliesB worldOf
-  opens = r-applies (planOf b) (well-formed b s ok) (worldOf b s) (one (start t)) order-open
+  opens = r-order-open (planOf b) (well-formed b s ok) (statusIn b s) t
 
   pub open-is : anyBelow (orderCount b) (openAt b s marks) ≡ orderOpenB (planOf b) (statusIn b s) t
   open-is = same-test _ _ (record { to = open-to; from = open-from }) opens

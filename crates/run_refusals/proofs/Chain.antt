@@ -7,7 +7,7 @@ use Prim.Native.Nat.{ℕ}
 use native.Mathlib.Decide.{ℕ-discrete}
 use native.Mathlib.Omega.{arith}
 use lib.Dec.{eqb}
-use lib.ListN.{replicate}
+use lib.ListN.{getD, replicate}
 use borrow.Author.Tests.{eq-eqb, ne-eqb}
 use Rattle.run_flags.specs.Flags.{allByte}
 use Rattle.plan_format.specs.Format.{kindOf, isKind, condCount}
@@ -18,26 +18,31 @@ use Rattle.plan_check.proofs.Meaning.{kind-is, kind-of, kind-number, kind-limit
 use Rattle.plan_check.proofs.Nodes.{is-node, node-is, plan-kind}
 use Rattle.runs.specs.Plan.{Kind, task, all-of, any-of, optional, post, Node, itself, kindNumber, placeNumber}
 use Rattle.runs.specs.Execution.{Status, waiting, running, Status-discrete, Event, start, finish, skip, nodeOf, asserts}
-use Rattle.runs.specs.Calls.{one, asks, statusByte, no-task, wrong-status, branch-begun, order-open, pre-unmet}
+use Rattle.runs.specs.Calls.{Call, one, checks, asks, statusByte, no-task, wrong-status, branch-begun, order-open, pre-unmet}
 use Rattle.runs.specs.Calls.{inc-broken, no-optional}
 use Rattle.runs.specs.Model.Monitor.{returned, refusalOf, firstOf, orElse, code, appliesB, taskB, optionalB, statusB}
 use Rattle.runs.specs.Model.Monitor.{begunB, wrongStatusB, branchBegunB, orderOpenB, preUnmetB, incBrokenB}
-use Rattle.runs.specs.Tests.{negate, anyBelow}
+use Rattle.plan_blocked.specs.Blocked.{Standing}
+use Rattle.plan_blocked.proofs.Refused.{blocks}
+use Rattle.runs.specs.Tests.{either as or, negate, anyBelow, listed}
+use Rattle.runs.specs.Blocked.{stands}
+use Rattle.runs.proofs.Blocked.Monitor.{testedB, tested-is}
 use Rattle.runs.proofs.Reflect.{Reflects, r-eq, r-map, clash, true-T, T-true, same-test}
-use Rattle.runs.proofs.Calls.Reflect.{r-task, r-optional, r-status, r-begun, r-applies}
+use Rattle.runs.proofs.Calls.Reflect.{r-task, r-optional, r-status, r-begun, r-wrong-status}
 use Rattle.runs.proofs.Calls.Skips.{skip-begun}
 use Rattle.base.specs.Answers.{first}
 use Rattle.base.proofs.First.{first-none, first-some}
 use Rattle.run_starts.specs.Starts.{nodeByte}
 use Rattle.run_state.specs.State.{stateRefusal, statusIn, flagShown, worldOf}
-use Rattle.run_state.proofs.Passed.{has-room, well-formed, byte-is, shown-moves}
+use Rattle.run_state.specs.Under.{stateRefusalUnder}
+use Rattle.run_state.proofs.Passed.{has-room, well-formed, byte-is, shown-moves, passed, list-passed, absent-waits}
 use Rattle.run_state.specs.Made.{made}
-use Rattle.node_sets.specs.Sets.{only}
+use Rattle.node_sets.specs.Sets.{only, marked}
 use Rattle.run_conditions.specs.Conditions.{brokenAt}
 use Rattle.run_conditions.proofs.Refusals.{broken-is}
 use Rattle.run_refusals.specs.declared.Move.{Move}
 use Rattle.run_refusals.specs.declared.Move.the-variants.{Start, Finish}
-use Rattle.run_refusals.specs.Events.{eventOf, eventPlace, eventRefusal}
+use Rattle.run_refusals.specs.Events.{eventOf, eventPlace, callRefusal, eventRefusal}
 use Rattle.run_refusals.specs.Parts.{treeRefusal, beginRefusal}
 
 -- ---- moves
@@ -124,141 +129,18 @@ module _ (b s : List ℕ) (ok : stateRefusal b s ≡ 0) where
   pub task-is : (t : ℕ) → isKind b t 0 ≡ taskB (planOf b) t
   task-is t =
       same-test _ _ (r-map (λ x. record { node = x .0; is-task = x .1 }, λ x. (x .node, x .is-task)) (r-kind t task))
-      (r-task (planOf b) (well-formed b s ok) t)
+      (r-task (planOf b) t)
 
   optional-is : (g : ℕ) → isKind b g 3 ≡ optionalB (planOf b) g
   optional-is g = same-test _ _
       (r-map (λ x. record { node = x .0; is-optional = x .1 }, λ x. (x .node, x .is-optional)) (r-kind g optional))
-      (r-optional (planOf b) (well-formed b s ok) g)
+      (r-optional (planOf b) g)
 
   -- the status of a task, by its byte
   pub status-is : (t : ℕ) → isKind b t 0 ≡ true → (q : Status)
       → eqb (nodeByte s t) (statusByte q) ≡ statusB (statusIn b s t) q
   status-is t y q = same-test _ _ (r-map (byte-is b s ok t (kind-is b t 0 y .0) q) (r-eq (nodeByte s t) (statusByte q)))
       (r-status (statusIn b s t) q)
-
-  -- the end of the chain: 22
-  abbrev broken : Event → ℕ
-  broken e = cond (incBrokenB (planOf b) (statusIn b s) e) 22 0
-
-  chain-of : (e : Event) → OfTask e → eventRefusal b s e
-      ≡ cond (not (taskB (planOf b) (nodeOf e))) 17
-      (cond (not (statusB (statusIn b s (nodeOf e)) (asks e))) 18 (first (beginRefusal b s e) (broken e)))
-  unfolding returned refusalOf firstOf appliesB wrongStatusB worldOf negate treeRefusal beginRefusal
-  chain-of (start t) x = start-chain (not (taskB (planOf b) t)) (not (statusB (statusIn b s t) waiting))
-      (branchBegunB (planOf b) (statusIn b s) t) (orderOpenB (planOf b) (statusIn b s) t)
-      (preUnmetB (planOf b) (flagShown s) (start t)) (incBrokenB (planOf b) (statusIn b s) (start t))
-  chain-of (finish t) x = finish-chain (not (taskB (planOf b) t)) (not (statusB (statusIn b s t) running))
-      (incBrokenB (planOf b) (statusIn b s) (finish t))
-  chain-of (skip g) x = absurd x
-
-  module _ (t : ℕ) (e : Event) (of : nodeOf e ≡ t) (tasks : OfTask e) where
-    abbrev answer : ℕ
-    answer = eventRefusal b s e
-
-    chain : answer ≡ cond (not (isKind b t 0)) 17
-        (cond (not (statusB (statusIn b s t) (asks e))) 18 (first (beginRefusal b s e) (broken e)))
-    chain = chain-of e tasks ∙ rw (of, task-is t)
-
-    pub answer-17 : isKind b t 0 ≡ false → 17 ≡ answer
-    answer-17 y = sym (chain ∙ rw y)
-
-    module _ (y : isKind b t 0 ≡ true) where
-      chain-18 : answer ≡ cond (not (eqb (nodeByte s t) (statusByte (asks e)))) 18
-          (first (beginRefusal b s e) (broken e))
-      chain-18 = chain ∙ rw (y, status-is t y (asks e))
-
-      pub answer-18 : (nodeByte s t ≡ statusByte (asks e) → ⊥) → 18 ≡ answer
-      answer-18 n = sym (chain-18 ∙ rw (ne-eqb (nodeByte s t) (statusByte (asks e)) n))
-
-      module _ (h : nodeByte s t ≡ statusByte (asks e)) where
-        rest : first (beginRefusal b s e) (broken e) ≡ answer
-        rest = sym (chain-18 ∙ rw (eq-eqb (nodeByte s t) (statusByte (asks e)) h))
-
-        pub answer-begin : (r : ℕ) → r ≡ beginRefusal b s e → (r ≡ 0 → ⊥) → r ≡ answer
-        answer-begin r q n = q ∙ first-some (beginRefusal b s e) (broken e) (λ z. n (q ∙ z)) ∙ rest
-
-        pub answer-broken : beginRefusal b s e ≡ 0 → (z : Bool) → incBrokenB (planOf b) (statusIn b s) e ≡ z
-            → cond z 22 0 ≡ answer
-        answer-broken q z d = ap (λ (x : Bool). cond x 22 0) (sym d) ∙ first-none (beginRefusal b s e) (broken e) q
-            ∙ rest
-
-    -- an accepted one is of a task
-    pub answer-task : answer ≡ 0 → isKind b t 0 ≡ true
-    answer-task z =
-        ⊎-elim (λ (y : isKind b t 0 ≡ true). y)
-        (λ (y : isKind b t 0 ≡ false). absurd (omega (arith, answer-17 y, z)))
-        (either (isKind b t 0))
-
-    -- whose byte is the one that it asks for
-    pub answer-asked : answer ≡ 0 → nodeByte s t ≡ statusByte (asks e)
-    answer-asked z =
-        by-cases (ℕ-discrete (nodeByte s t) (statusByte (asks e))) (λ y. y)
-        (λ n. absurd (omega (arith, answer-18 (answer-task z) n, z)))
-
-  -- ---- a skip
-  module _ (g : ℕ) where
-    skips : eventRefusal b s (skip g)
-        ≡ cond (not (isKind b g 3)) 27 (cond (wrongStatusB (planOf b) (statusIn b s) (skip g)) 18 (treeRefusal b s g))
-    unfolding returned refusalOf firstOf appliesB worldOf negate treeRefusal
-    skips = skip-chain (not (optionalB (planOf b) g)) (wrongStatusB (planOf b) (statusIn b s) (skip g))
-        (branchBegunB (planOf b) (statusIn b s) g) (orderOpenB (planOf b) (statusIn b s) g)
-        ∙ rw (optional-is g)
-
-    pub skip-27 : isKind b g 3 ≡ false → 27 ≡ eventRefusal b s (skip g)
-    skip-27 y = sym (skips ∙ rw y)
-
-    -- 18: the group is begun
-    wrong-is : isKind b g 3 ≡ true → wrongStatusB (planOf b) (statusIn b s) (skip g) ≡ begunB (planOf b)
-        (statusIn b s) g
-    unfolding appliesB worldOf
-    wrong-is y = let x = r-kind g optional .to (true-T _ y) in
-        same-test _ _ (r-map (skip-begun (planOf b) (x .1))
-        (r-applies (planOf b) (well-formed b s ok) (worldOf b s) (one (skip g)) wrong-status))
-        (r-begun (planOf b) (well-formed b s ok) (statusIn b s) g (x .0))
-
-    module _ (y : isKind b g 3 ≡ true) where
-      pub skip-18 : begunB (planOf b) (statusIn b s) g ≡ true → 18 ≡ eventRefusal b s (skip g)
-      skip-18 z = sym (skips ∙ rw (y, wrong-is y ∙ z))
-
-      pub skip-tree : begunB (planOf b) (statusIn b s) g ≡ false → (r : ℕ) → r ≡ treeRefusal b s g
-          → r ≡ eventRefusal b s (skip g)
-      skip-tree z r q = q ∙ sym (skips ∙ rw (y, wrong-is y ∙ z))
-
-    pub skip-optional : eventRefusal b s (skip g) ≡ 0 → isKind b g 3 ≡ true
-    skip-optional z =
-        ⊎-elim (λ (y : isKind b g 3 ≡ true). y)
-        (λ (y : isKind b g 3 ≡ false). absurd (omega (arith, skip-27 y, z)))
-        (either (isKind b g 3))
-
-    pub skip-waits : eventRefusal b s (skip g) ≡ 0 → nodeByte s g ≡ 0
-    skip-waits z =
-        let y = skip-optional z in
-        let l = kind-is b g 3 y .0 in
-        ⊎-elim
-        (λ (x : begunB (planOf b) (statusIn b s) g ≡ true). absurd (omega (arith, skip-18 y x, z)))
-        (λ (x : begunB (planOf b) (statusIn b s) g ≡ false).
-        byte-is b s ok g l waiting .1 (waits-unbegun x (Status-discrete (statusIn b s g) waiting)))
-        (either (begunB (planOf b) (statusIn b s) g))
-      where
-        waits-unbegun : begunB (planOf b) (statusIn b s) g ≡ false → Dec (statusIn b s g ≡ waiting)
-            → statusIn b s g ≡ waiting
-        waits-unbegun x (yes q) = q
-        waits-unbegun x (no q) = absurd (true≢false (sym (T-true _
-            (r-begun (planOf b) (well-formed b s ok) (statusIn b s) g
-            (is-node b g (kind-is b g 3 (skip-optional z) .0)) .from
-            (record { who = g; moves = shown-moves b s ok g q; beneath = itself; begun = q }))) ∙ x))
-
-  -- ---- an accepted event: its node is of the kind that it moves, and has the byte that it asks for
-  pub accepted-kind : (e : Event) → eventRefusal b s e ≡ 0 → isKind b (nodeOf e) (kindNumber (eventKind e)) ≡ true
-  accepted-kind (start t) z = answer-task t (start t) refl tt z
-  accepted-kind (finish t) z = answer-task t (finish t) refl tt z
-  accepted-kind (skip g) z = skip-optional g z
-
-  pub accepted-byte : (e : Event) → eventRefusal b s e ≡ 0 → nodeByte s (nodeOf e) ≡ statusByte (asks e)
-  accepted-byte (start t) z = answer-asked t (start t) refl tt z
-  accepted-byte (finish t) z = answer-asked t (finish t) refl tt z
-  accepted-byte (skip g) z = skip-waits g z
 
   -- what an event asserts
   pub event-does : (e : Event) → isKind b (nodeOf e) (kindNumber (eventKind e)) ≡ true → (f : ℕ)
@@ -289,37 +171,191 @@ module _ (b s : List ℕ) (ok : stateRefusal b s ≡ 0) where
       ∙ ap (λ (n : ℕ). signIn b (eventPlace e) n f) of in
       rw (m, k) at h ∙ broken-is b s ok t (eventPlace e) e of g
 
+-- ---- with a list of blocked nodes
+module _ (b xs s : List ℕ) (under : stateRefusalUnder b xs s ≡ 0) where
+  abbrev ok : stateRefusal b s ≡ 0
+  ok = passed b xs s under
+
+  stood : ℕ → Bool
+  stood t = stands (planOf b) (listed xs) t
+
+  -- a call's refusal, by the table of the whole plan and the nodes that stand
+  pub by-table : (c : Call) → callRefusal b xs s c ≡ code (firstOf (testedB (planOf b) (well-formed b s ok) (listed xs)
+      (blocks b xs (list-passed b xs s under)) (worldOf b s) c) (checks c))
+  unfolding returned worldOf
+  by-table c = ap code (tested-is (planOf b) (well-formed b s ok) (listed xs) (blocks b xs (list-passed b xs s under))
+      (worldOf b s) (absent-waits b xs s under) c)
+
+  -- the end of the chain: 22
+  abbrev broken : Event → ℕ
+  broken e = cond (incBrokenB (planOf b) (statusIn b s) e) 22 0
+
+  chain-of : (e : Event) → OfTask e → eventRefusal b xs s e
+      ≡ cond (not (taskB (planOf b) (nodeOf e))) 17
+      (cond (not (statusB (statusIn b s (nodeOf e)) (asks e))) 18 (first (beginRefusal b s e (stood (nodeOf e))) (broken e)))
+  unfolding firstOf testedB appliesB worldOf negate treeRefusal beginRefusal stood
+  chain-of (start t) x = by-table (one (start t)) ∙ start-chain (not (taskB (planOf b) t))
+      (not (statusB (statusIn b s t) waiting))
+      (or (not (stood t)) (λ u. branchBegunB (planOf b) (statusIn b s) t)) (orderOpenB (planOf b) (statusIn b s) t)
+      (preUnmetB (planOf b) (flagShown s) (start t)) (incBrokenB (planOf b) (statusIn b s) (start t))
+  chain-of (finish t) x = by-table (one (finish t)) ∙ finish-chain (not (taskB (planOf b) t)) (not (statusB (statusIn b s t) running))
+      (incBrokenB (planOf b) (statusIn b s) (finish t))
+  chain-of (skip g) x = absurd x
+
+  module _ (t : ℕ) (e : Event) (of : nodeOf e ≡ t) (tasks : OfTask e) where
+    abbrev answer : ℕ
+    answer = eventRefusal b xs s e
+
+    chain : answer ≡ cond (not (isKind b t 0)) 17
+        (cond (not (statusB (statusIn b s t) (asks e))) 18 (first (beginRefusal b s e (stood t)) (broken e)))
+    chain = chain-of e tasks ∙ rw (of, task-is b s ok t)
+
+    pub answer-17 : isKind b t 0 ≡ false → 17 ≡ answer
+    answer-17 y = sym (chain ∙ rw y)
+
+    module _ (y : isKind b t 0 ≡ true) where
+      chain-18 : answer ≡ cond (not (eqb (nodeByte s t) (statusByte (asks e)))) 18
+          (first (beginRefusal b s e (stood t)) (broken e))
+      chain-18 = chain ∙ rw (y, status-is b s ok t y (asks e))
+
+      pub answer-18 : (nodeByte s t ≡ statusByte (asks e) → ⊥) → 18 ≡ answer
+      answer-18 n = sym (chain-18 ∙ rw (ne-eqb (nodeByte s t) (statusByte (asks e)) n))
+
+      module _ (h : nodeByte s t ≡ statusByte (asks e)) where
+        rest : first (beginRefusal b s e (stood t)) (broken e) ≡ answer
+        rest = sym (chain-18 ∙ rw (eq-eqb (nodeByte s t) (statusByte (asks e)) h))
+
+        -- by a table that marks the nodes that stand
+        module _ {table : List ℕ} (tells : Standing b (listed xs) table) where
+          same : beginRefusal b s e (marked table t) ≡ beginRefusal b s e (stood t)
+          unfolding stood
+          same = ap (beginRefusal b s e) (tells .is t (kind-is b t 0 y .0))
+
+          pub answer-begin : (r : ℕ) → r ≡ beginRefusal b s e (marked table t) → (r ≡ 0 → ⊥) → r ≡ answer
+          answer-begin r k n = let q = k ∙ same in
+              q ∙ first-some (beginRefusal b s e (stood t)) (broken e) (λ z. n (q ∙ z)) ∙ rest
+
+          pub answer-broken : beginRefusal b s e (marked table t) ≡ 0 → (z : Bool)
+              → incBrokenB (planOf b) (statusIn b s) e ≡ z → cond z 22 0 ≡ answer
+          answer-broken q z d = ap (λ (x : Bool). cond x 22 0) (sym d)
+              ∙ first-none (beginRefusal b s e (stood t)) (broken e) (sym same ∙ q) ∙ rest
+
+    -- an accepted one is of a task
+    pub answer-task : answer ≡ 0 → isKind b t 0 ≡ true
+    answer-task z =
+        ⊎-elim (λ (y : isKind b t 0 ≡ true). y)
+        (λ (y : isKind b t 0 ≡ false). absurd (omega (arith, answer-17 y, z)))
+        (either (isKind b t 0))
+
+    -- whose byte is the one that it asks for
+    pub answer-asked : answer ≡ 0 → nodeByte s t ≡ statusByte (asks e)
+    answer-asked z =
+        by-cases (ℕ-discrete (nodeByte s t) (statusByte (asks e))) (λ y. y)
+        (λ n. absurd (omega (arith, answer-18 (answer-task z) n, z)))
+
+  -- ---- a skip
+  module _ (g : ℕ) where
+    skips : eventRefusal b xs s (skip g)
+        ≡ cond (not (isKind b g 3)) 27 (cond (wrongStatusB (planOf b) (statusIn b s) (skip g)) 18 (treeRefusal b s g (stood g)))
+    unfolding firstOf testedB appliesB worldOf negate treeRefusal stood
+    skips = by-table (one (skip g)) ∙ skip-chain (not (optionalB (planOf b) g)) (wrongStatusB (planOf b) (statusIn b s) (skip g))
+        (or (not (stood g)) (λ u. branchBegunB (planOf b) (statusIn b s) g)) (orderOpenB (planOf b) (statusIn b s) g)
+        ∙ rw (optional-is b s ok g)
+
+    pub skip-27 : isKind b g 3 ≡ false → 27 ≡ eventRefusal b xs s (skip g)
+    skip-27 y = sym (skips ∙ rw y)
+
+    -- 18: the group is begun
+    wrong-is : isKind b g 3 ≡ true → wrongStatusB (planOf b) (statusIn b s) (skip g) ≡ begunB (planOf b)
+        (statusIn b s) g
+    wrong-is y = let x = r-kind b s ok g optional .to (true-T _ y) in
+        same-test _ _ (r-map (skip-begun (planOf b) (x .1))
+        (r-wrong-status (planOf b) (well-formed b s ok) (statusIn b s) (skip g)))
+        (r-begun (planOf b) (well-formed b s ok) (statusIn b s) g (x .0))
+
+    module _ (y : isKind b g 3 ≡ true) where
+      pub skip-18 : begunB (planOf b) (statusIn b s) g ≡ true → 18 ≡ eventRefusal b xs s (skip g)
+      skip-18 z = sym (skips ∙ rw (y, wrong-is y ∙ z))
+
+      pub skip-tree : begunB (planOf b) (statusIn b s) g ≡ false → {table : List ℕ} → Standing b (listed xs) table
+          → (r : ℕ) → r ≡ treeRefusal b s g (marked table g) → r ≡ eventRefusal b xs s (skip g)
+      unfolding stood
+      skip-tree z tells r q = q ∙ ap (treeRefusal b s g) (tells .is g (kind-is b g 3 y .0))
+          ∙ sym (skips ∙ rw (y, wrong-is y ∙ z))
+
+    pub skip-optional : eventRefusal b xs s (skip g) ≡ 0 → isKind b g 3 ≡ true
+    skip-optional z =
+        ⊎-elim (λ (y : isKind b g 3 ≡ true). y)
+        (λ (y : isKind b g 3 ≡ false). absurd (omega (arith, skip-27 y, z)))
+        (either (isKind b g 3))
+
+    pub skip-waits : eventRefusal b xs s (skip g) ≡ 0 → nodeByte s g ≡ 0
+    skip-waits z =
+        let y = skip-optional z in
+        let l = kind-is b g 3 y .0 in
+        ⊎-elim
+        (λ (x : begunB (planOf b) (statusIn b s) g ≡ true). absurd (omega (arith, skip-18 y x, z)))
+        (λ (x : begunB (planOf b) (statusIn b s) g ≡ false).
+        byte-is b s ok g l waiting .1 (waits-unbegun x (Status-discrete (statusIn b s g) waiting)))
+        (either (begunB (planOf b) (statusIn b s) g))
+      where
+        waits-unbegun : begunB (planOf b) (statusIn b s) g ≡ false → Dec (statusIn b s g ≡ waiting)
+            → statusIn b s g ≡ waiting
+        waits-unbegun x (yes q) = q
+        waits-unbegun x (no q) = absurd (true≢false (sym (T-true _
+            (r-begun (planOf b) (well-formed b s ok) (statusIn b s) g
+            (is-node b g (kind-is b g 3 (skip-optional z) .0)) .from
+            (record { who = g; moves = shown-moves b s ok g q; beneath = itself; begun = q }))) ∙ x))
+
+  -- ---- an accepted event: its node is of the kind that it moves, and has the byte that it asks for
+  pub accepted-kind : (e : Event) → eventRefusal b xs s e ≡ 0 → isKind b (nodeOf e) (kindNumber (eventKind e)) ≡ true
+  accepted-kind (start t) z = answer-task t (start t) refl tt z
+  accepted-kind (finish t) z = answer-task t (finish t) refl tt z
+  accepted-kind (skip g) z = skip-optional g z
+
+  pub accepted-byte : (e : Event) → eventRefusal b xs s e ≡ 0 → nodeByte s (nodeOf e) ≡ statusByte (asks e)
+  accepted-byte (start t) z = answer-asked t (start t) refl tt z
+  accepted-byte (finish t) z = answer-asked t (finish t) refl tt z
+  accepted-byte (skip g) z = skip-waits g z
+
 -- ---- the parts
-module _ (b s : List ℕ) (t : ℕ) where
-  pub tree-19 : branchBegunB (planOf b) (statusIn b s) t ≡ true → 19 ≡ treeRefusal b s t
-  unfolding treeRefusal
-  tree-19 y = rw y
+module _ (b table s : List ℕ) (t : ℕ) where
+  -- a node that does not stand
+  pub tree-absent : (getD table t 0 ≡ 1 → ⊥) → 19 ≡ treeRefusal b s t (marked table t)
+  unfolding treeRefusal marked or negate
+  tree-absent k = rw (ne-eqb (getD table t 0) 1 k)
 
-  pub tree-20 : branchBegunB (planOf b) (statusIn b s) t ≡ false → orderOpenB (planOf b) (statusIn b s) t ≡ true
-      → 20 ≡ treeRefusal b s t
-  unfolding treeRefusal
-  tree-20 x y = rw (x, y)
+  -- one that stands
+  pub tree-19 : getD table t 0 ≡ 1 → branchBegunB (planOf b) (statusIn b s) t ≡ true
+      → 19 ≡ treeRefusal b s t (marked table t)
+  unfolding treeRefusal marked or negate
+  tree-19 e y = rw (e, y)
 
-  pub tree-none : branchBegunB (planOf b) (statusIn b s) t ≡ false → orderOpenB (planOf b) (statusIn b s) t ≡ false
-      → 0 ≡ treeRefusal b s t
-  unfolding treeRefusal
-  tree-none x y = rw (x, y)
+  pub tree-20 : getD table t 0 ≡ 1 → branchBegunB (planOf b) (statusIn b s) t ≡ false → orderOpenB (planOf b) (statusIn b s) t ≡ true
+      → 20 ≡ treeRefusal b s t (marked table t)
+  unfolding treeRefusal marked or negate
+  tree-20 e x y = rw (e, x, y)
 
-  pub begin-tree : (r : ℕ) → r ≡ treeRefusal b s t → (r ≡ 0 → ⊥) → r ≡ beginRefusal b s (start t)
+  pub tree-none : getD table t 0 ≡ 1 → branchBegunB (planOf b) (statusIn b s) t ≡ false → orderOpenB (planOf b) (statusIn b s) t ≡ false
+      → 0 ≡ treeRefusal b s t (marked table t)
+  unfolding treeRefusal marked or negate
+  tree-none e x y = rw (e, x, y)
+
+  pub begin-tree : (r : ℕ) → r ≡ treeRefusal b s t (marked table t) → (r ≡ 0 → ⊥) → r ≡ beginRefusal b s (start t) (marked table t)
   unfolding beginRefusal
-  begin-tree r q n = q ∙ first-some (treeRefusal b s t) (cond (preUnmetB (planOf b) (flagShown s) (start t)) 21 0)
+  begin-tree r q n = q ∙ first-some (treeRefusal b s t (marked table t)) (cond (preUnmetB (planOf b) (flagShown s) (start t)) 21 0)
       (λ z. n (q ∙ z))
 
-  pub begin-unmet : treeRefusal b s t ≡ 0 → (z : Bool) → preUnmetB (planOf b) (flagShown s) (start t) ≡ z
-      → cond z 21 0 ≡ beginRefusal b s (start t)
+  pub begin-unmet : treeRefusal b s t (marked table t) ≡ 0 → (z : Bool) → preUnmetB (planOf b) (flagShown s) (start t) ≡ z
+      → cond z 21 0 ≡ beginRefusal b s (start t) (marked table t)
   unfolding beginRefusal
   begin-unmet q z d = ap (λ (x : Bool). cond x 21 0) (sym d)
-      ∙ first-none (treeRefusal b s t) (cond (preUnmetB (planOf b) (flagShown s) (start t)) 21 0) q
+      ∙ first-none (treeRefusal b s t (marked table t)) (cond (preUnmetB (planOf b) (flagShown s) (start t)) 21 0) q
 
-pub begin-start : (b s : List ℕ) (m : Move) (t : ℕ) → m ≡ Start
-    → beginRefusal b s (start t) ≡ beginRefusal b s (eventOf m t)
-begin-start b s m t e = rw e
+pub begin-start : (b s : List ℕ) (m : Move) (t : ℕ) (v : Bool) → m ≡ Start
+    → beginRefusal b s (start t) v ≡ beginRefusal b s (eventOf m t) v
+begin-start b s m t v e = rw e
 
-pub begin-finish : (b s : List ℕ) (m : Move) (t : ℕ) → m ≡ Finish → 0 ≡ beginRefusal b s (eventOf m t)
+pub begin-finish : (b s : List ℕ) (m : Move) (t : ℕ) (v : Bool) → m ≡ Finish → 0 ≡ beginRefusal b s (eventOf m t) v
 unfolding beginRefusal
-begin-finish b s m t e = rw e
+begin-finish b s m t v e = rw e

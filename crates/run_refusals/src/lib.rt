@@ -1,5 +1,5 @@
 // Which refusal applies to the start or the finish of a task, to the skip of an optional group, or to several finishes
-// in one step, on a state that passes 1 to 16.
+// in one step, on a state that passes the checks up to 16.
 use base::kinds::OPTIONAL;
 use base::kinds::TASK;
 use base::places::INC;
@@ -30,7 +30,8 @@ ghost use Rattle.runs.specs.Calls.{asks, statusByte, together};
 ghost use Rattle.run_state.specs.State.{AtEvent, stateRefusal};
 ghost use Rattle.run_progress.specs.Progress.{Counted};
 ghost use Rattle.run_progress.specs.declared.Tally.the-variants.{Begun};
-ghost use Rattle.run_refusals.specs.Events.{eventOf, eventPlace, eventRefusal, callRefusal};
+ghost use Rattle.run_refusals.specs.Events.{eventOf, eventPlace, Refuses, RefusesEvent};
+ghost use Rattle.node_sets.specs.Sets.{marked};
 ghost use Rattle.run_refusals.specs.Parts.{treeRefusal, beginRefusal};
 
 // How a call moves a task on.
@@ -59,12 +60,22 @@ fn asked(m: Move) -> u8
     }
 }
 
-// Refusals 19 and 20, or 0.
-fn tree_refused(plan: &[u8], state: &[u8], begun: &[u8; 128], node: usize) -> u32
+// Refusals 19 and 20, or 0; 19 also tells a node that does not stand.
+fn tree_refused(
+    plan: &[u8],
+    state: &[u8],
+    standing: &[u8; 128],
+    begun: &[u8; 128],
+    node: usize,
+) -> u32
     requires { ⌜ AtEvent (now plan) (now state) node ⌝ }
     requires { ⌜ Counted Begun (now plan) (now state) (now begun) ⌝ }
-    ensures { λ r. ⌜ r ≡ treeRefusal (now (plan .entry)) (now (state .entry)) node ⌝ }
+    ensures { λ r. ⌜ r ≡ treeRefusal (now (plan .entry)) (now (state .entry)) node
+        (marked (now (standing .entry)) node) ⌝ }
 {
+    if standing[node] != 1 {
+        return 19;
+    }
     if branch_begun(plan, state, begun, node) {
         return 19;
     }
@@ -77,12 +88,13 @@ fn tree_refused(plan: &[u8], state: &[u8], begun: &[u8; 128], node: usize) -> u3
 }
 
 // Refusals 19 to 21 of a start, or 0.
-fn start_refused(plan: &[u8], state: &[u8], task: usize) -> u32
+fn start_refused(plan: &[u8], state: &[u8], standing: &[u8; 128], task: usize) -> u32
     requires { ⌜ AtEvent (now plan) (now state) task ⌝ }
-    ensures { λ r. ⌜ r ≡ beginRefusal (now (plan .entry)) (now (state .entry)) (execution.start task) ⌝ }
+    ensures { λ r. ⌜ r ≡ beginRefusal (now (plan .entry)) (now (state .entry)) (execution.start task)
+        (marked (now (standing .entry)) task) ⌝ }
 {
     let begun = children(plan, state, Tally::Begun);
-    let r = tree_refused(plan, state, &begun, task);
+    let r = tree_refused(plan, state, standing, &begun, task);
     if r != 0 {
         return r;
     }
@@ -94,20 +106,21 @@ fn start_refused(plan: &[u8], state: &[u8], task: usize) -> u32
 }
 
 // Refusals 19 to 21, which are asked of a start only, or 0.
-fn begin_refused(plan: &[u8], state: &[u8], m: Move, task: usize) -> u32
+fn begin_refused(plan: &[u8], state: &[u8], standing: &[u8; 128], m: Move, task: usize) -> u32
     requires { ⌜ AtEvent (now plan) (now state) task ⌝ }
-    ensures { λ r. ⌜ r ≡ beginRefusal (now (plan .entry)) (now (state .entry)) (eventOf m task) ⌝ }
+    ensures { λ r. ⌜ r ≡ beginRefusal (now (plan .entry)) (now (state .entry)) (eventOf m task)
+        (marked (now (standing .entry)) task) ⌝ }
 {
     match m {
-        Move::Start => start_refused(plan, state, task),
+        Move::Start => start_refused(plan, state, standing, task),
         Move::Finish => 0,
     }
 }
 
 // Refusals 17 to 22 of a move, or 0.
-pub fn refused(plan: &[u8], state: &[u8], m: Move, task: usize) -> u32
+pub fn refused(plan: &[u8], state: &[u8], standing: &[u8; 128], m: Move, task: usize) -> u32
     requires { ⌜ stateRefusal (now plan) (now state) ≡ 0 ⌝ }
-    ensures { λ r. ⌜ r ≡ eventRefusal (now (plan .entry)) (now (state .entry)) (eventOf m task) ⌝ }
+    ensures { λ r. ⌜ RefusesEvent (now (plan .entry)) (now (state .entry)) (now (standing .entry)) (eventOf m task) r ⌝ }
 {
     if !is_kind(plan, task, TASK) {
         return 17;
@@ -115,7 +128,7 @@ pub fn refused(plan: &[u8], state: &[u8], m: Move, task: usize) -> u32
     if state[8 + task] != asked(m) {
         return 18;
     }
-    let r = begin_refused(plan, state, m, task);
+    let r = begin_refused(plan, state, standing, m, task);
     if r != 0 {
         return r;
     }
@@ -127,9 +140,10 @@ pub fn refused(plan: &[u8], state: &[u8], m: Move, task: usize) -> u32
 }
 
 // Refusals 27 and 18 to 20 of a skip, or 0.
-pub fn skip_refused(plan: &[u8], state: &[u8], group: usize) -> u32
+pub fn skip_refused(plan: &[u8], state: &[u8], standing: &[u8; 128], group: usize) -> u32
     requires { ⌜ stateRefusal (now plan) (now state) ≡ 0 ⌝ }
-    ensures { λ r. ⌜ r ≡ eventRefusal (now (plan .entry)) (now (state .entry)) (execution.skip group) ⌝ }
+    ensures { λ r. ⌜ RefusesEvent (now (plan .entry)) (now (state .entry)) (now (standing .entry))
+        (execution.skip group) r ⌝ }
 {
     if !is_kind(plan, group, OPTIONAL) {
         return 27;
@@ -138,14 +152,14 @@ pub fn skip_refused(plan: &[u8], state: &[u8], group: usize) -> u32
     if is_begun(plan, state, &begun, group) {
         return 18;
     }
-    tree_refused(plan, state, &begun, group)
+    tree_refused(plan, state, standing, &begun, group)
 }
 
 // Refusals 25, 17, 18, 26 and 22 of several finishes in one step, or 0. What the tasks leave must all be true after it
 // (26); of the others that run, none has a hold turned (22).
 pub fn together_refused(plan: &[u8], state: &[u8], tasks: &[usize]) -> u32
     requires { ⌜ stateRefusal (now plan) (now state) ≡ 0 ⌝ }
-    ensures { λ r. ⌜ r ≡ callRefusal (now (plan .entry)) (now (state .entry)) (together (now (tasks .entry))) ⌝ }
+    ensures { λ r. ⌜ Refuses (now (plan .entry)) (now (state .entry)) (together (now (tasks .entry))) r ⌝ }
 {
     if not_rising(tasks) {
         return 25;

@@ -9,12 +9,12 @@ use Rattle.run_refusals.proofs.begin_refused.Tie as tie
 returns : tie.Need-returns
 returns c =
     let e : c .before .before .before .before .before .args .m ≡ Start = cc in
-    c .start-refused .ensures ∙ begin-start _ _ _ _ e
+    c .start-refused .ensures ∙ begin-start _ _ _ _ _ e
 
 returns-2 : tie.Need-returns-2
 returns-2 c =
     let e : c .before .before .before .before .args .m ≡ Finish = cc in
-    begin-finish _ _ _ _ e
+    begin-finish _ _ _ _ _ e
 
 pub begin-refused-spec : {M : Type 1} → statement M
 begin-refused-spec =

@@ -14,7 +14,8 @@ use Rattle.runs.specs.Model.Monitor.{incBrokenB}
 use Rattle.run_starts.specs.Starts.{nodeByte}
 use Rattle.run_state.specs.State.{statusIn}
 use Rattle.run_state.proofs.Passed.{has-room}
-use Rattle.run_refusals.specs.Events.{eventOf, eventRefusal}
+use Rattle.run_refusals.specs.Events.{eventOf, RefusesEvent}
+use Rattle.node_sets.specs.Sets.{marked}
 use Rattle.run_refusals.specs.Parts.{beginRefusal}
 use Rattle.run_refusals.proofs.Chain.{asks-of, place-is, node-of, task-event, answer-17, answer-18, answer-begin}
 use Rattle.run_refusals.proofs.Chain.{answer-broken, broken-by}
@@ -49,6 +50,8 @@ begun : (c : tie.Else3) → beginRefusal
     (now (c .before .before .before .before .before .before .before .before .before .args .plan))
     (now (c .before .before .before .before .before .before .before .before .before .args .state))
     (eventOf (c .before .before .before .before .before .before .before .before .before .args .m)
+    (c .before .before .before .before .before .before .before .before .before .args .task))
+    (marked (now (c .before .before .before .before .before .before .before .before .before .args .standing))
     (c .before .before .before .before .before .before .before .before .before .args .task)) ≡ 0
 begun c = sym (c .before .begin-refused .ensures) ∙ c .if3 .left
 
@@ -68,7 +71,7 @@ broken c =
     _ (c .before .before .before .mark-one .ensures) _ (c .inc-broken .ensures))
 
 returns : tie.Need-returns
-returns c = answer-17 _ _ (c .before .before .before .before .pre) (c .before .before .before .before .args .task) _
+returns c xs u h = answer-17 _ xs _ u (c .before .before .before .before .args .task) _
     (node-of (c .before .before .before .before .args .m) (c .before .before .before .before .args .task))
     (task-event (c .before .before .before .before .args .m) (c .before .before .before .before .args .task))
     (sym (c .before .is-kind .ensures) ∙ not-true _ (c .if1 .taken))
@@ -86,8 +89,8 @@ shared-slice-read-if2 c = omega
 
 returns-2 : tie.Need-returns-2
 unfolding nodeByte
-returns-2 c = let s = c .before .before .before .before .before .before .before in
-    answer-18 _ _ (s .pre) (s .args .task) _ (node-of (s .args .m) (s .args .task))
+returns-2 c xs u h = let s = c .before .before .before .before .before .before .before in
+    answer-18 _ xs _ u (s .args .task) _ (node-of (s .args .m) (s .args .task))
     (task-event (s .args .m) (s .args .task))
     (is-task (c .before .before .before)) (λ z. c .if2 .taken (z ∙ sym (asked-is (c .before))))
 
@@ -98,10 +101,10 @@ begin-refused-requires c κs = record {
 }
 
 returns-3 : tie.Need-returns-3
-returns-3 c = let s = c .before .before .before .before .before .before .before .before .before in
-    answer-begin _ _ (s .pre) (s .args .task) _ (node-of (s .args .m) (s .args .task))
+returns-3 c xs u h = let s = c .before .before .before .before .before .before .before .before .before in
+    answer-begin _ xs _ u (s .args .task) _ (node-of (s .args .m) (s .args .task))
     (task-event (s .args .m) (s .args .task))
-    (is-task (c .before .before .before .before .before)) (as-asked (c .before .before)) _
+    (is-task (c .before .before .before .before .before)) (as-asked (c .before .before)) h _
     (c .before .begin-refused .ensures) (c .if3 .taken)
 
 mark-one-requires : tie.Need-mark-one-requires
@@ -113,12 +116,13 @@ mark-one-requires c κs = omega (
 )
 
 -- 22, the last
-last : (c : tie.After-inc-broken) (v : Bool) → c .inc-broken .result ≡ v → cond v 22 0 ≡ eventRefusal
-    (now (start c .args .plan)) (now (start c .args .state)) (eventOf (start c .args .m) (start c .args .task))
-last c v q = let s = start c in answer-broken _ _ (s .pre) (s .args .task) _ (node-of (s .args .m) (s .args .task))
+last : (c : tie.After-inc-broken) (v : Bool) → c .inc-broken .result ≡ v → RefusesEvent (now (start c .args .plan))
+    (now (start c .args .state)) (now (start c .args .standing)) (eventOf (start c .args .m) (start c .args .task))
+    (cond v 22 0)
+last c v q xs u h = let s = start c in answer-broken _ xs _ u (s .args .task) _ (node-of (s .args .m) (s .args .task))
     (task-event (s .args .m) (s .args .task))
     (is-task (c .before .before .before .before .before .before .before .before .before))
-    (as-asked (c .before .before .before .before .before .before)) (begun (c .before .before .before .before)) v
+    (as-asked (c .before .before .before .before .before .before)) h (begun (c .before .before .before .before)) v
     (broken c ∙ q)
 
 returns-4 : tie.Need-returns-4

@@ -16,7 +16,7 @@ is-optional : (c : tie.Else1) → isKind (now (c .before .before .before .before
 is-optional c = sym (c .before .is-kind .ensures) ∙ not-false _ (c .if1 .left)
 
 returns : tie.Need-returns
-returns c = skip-27 _ _ (c .before .before .before .before .pre) _
+returns c xs u h = skip-27 _ xs _ u _
     (sym (c .before .is-kind .ensures) ∙ not-true _ (c .if1 .taken))
 
 is-begun-requires : tie.Need-is-begun-requires
@@ -26,7 +26,7 @@ is-begun-requires c κs =
     (l, (s .pre, c .before .children .ensures .1 _ (node-small _ _ (s .pre) _ l)))
 
 returns-2 : tie.Need-returns-2
-returns-2 c = skip-18 _ _ (c .before .before .before .before .before .before .before .before .pre) _
+returns-2 c xs u h = skip-18 _ xs _ u _
     (is-optional (c .before .before .before .before))
     (sym (c .before .is-begun .ensures) ∙ c .if2 .taken)
 
@@ -38,9 +38,9 @@ tree-refused-requires c κs =
     )
 
 returns-3 : tie.Need-returns-3
-returns-3 c = skip-tree _ _ (c .before .before .before .before .before .before .before .before .before .before .pre) _
+returns-3 c xs u h = skip-tree _ xs _ u _
     (is-optional (c .before .before .before .before .before .before))
-    (sym (c .before .before .before .is-begun .ensures) ∙ c .before .before .if2 .left) _ (c .tree-refused .ensures)
+    (sym (c .before .before .before .is-begun .ensures) ∙ c .before .before .if2 .left) h _ (c .tree-refused .ensures)
 
 pub skip-refused-spec : {M : Type 1} → statement M
 skip-refused-spec =

@@ -7,6 +7,7 @@ use Rattle.runs.specs.Model.Monitor.{preUnmetB}
 use Rattle.run_state.specs.State.{flagShown}
 use Rattle.run_state.proofs.Passed.{has-room}
 use Rattle.run_conditions.proofs.Refusals.{unmet-is}
+use Rattle.node_sets.specs.Sets.{marked}
 use Rattle.run_refusals.specs.Parts.{treeRefusal}
 use Rattle.run_refusals.proofs.Chain.{begin-tree, begin-unmet}
 use borrow.Author.Needs.{needs}
@@ -23,22 +24,22 @@ unmet c = sym (rw (c .before .load .ensures, c .before .before .before .mark-one
     ∙ unmet-is _ _ (start-of c .pre .passed) (start-of c .args .task))
 
 none-yet : (c : tie.After-unmet) → treeRefusal (now (start-of c .args .plan)) (now (start-of c .args .state))
-    (start-of c .args .task) ≡ 0
+    (start-of c .args .task) (marked (now (start-of c .args .standing)) (start-of c .args .task)) ≡ 0
 none-yet c = sym (c .before .before .before .before .before .tree-refused .ensures)
     ∙ c .before .before .before .before .if1 .left
 
 returns : tie.Need-returns
-returns c = begin-tree _ _ _ _ (c .before .tree-refused .ensures) (c .if1 .taken)
+returns c = begin-tree _ _ _ _ _ (c .before .tree-refused .ensures) (c .if1 .taken)
 
 mark-one-requires : tie.Need-mark-one-requires
 mark-one-requires c κs = let s = c .before .before .before .before .before .before in
     omega (arith, s .pre .node, has-room _ _ (s .pre .passed) .plan .fits .limits .nodes)
 
 returns-2 : tie.Need-returns-2
-returns-2 c = begin-unmet _ _ _ (none-yet (c .before)) _ (unmet (c .before) ∙ c .if2 .taken)
+returns-2 c = begin-unmet _ _ _ _ (none-yet (c .before)) _ (unmet (c .before) ∙ c .if2 .taken)
 
 returns-3 : tie.Need-returns-3
-returns-3 c = begin-unmet _ _ _ (none-yet (c .before)) _ (unmet (c .before) ∙ c .if2 .left)
+returns-3 c = begin-unmet _ _ _ _ (none-yet (c .before)) _ (unmet (c .before) ∙ c .if2 .left)
 
 pub start-refused-spec : {M : Type 1} → statement M
 start-refused-spec = tie.close (tie.spec (λ c κs. search needs) (λ c κs. search needs) returns mark-one-requires

@@ -14,7 +14,7 @@ use Rattle.runs.specs.Model.Monitor.{notRisingB, postOpposedB}
 use Rattle.run_starts.specs.Starts.{nodeByte}
 use Rattle.run_state.proofs.Passed.{has-room}
 use Rattle.node_sets.specs.Sets.{Each}
-use Rattle.run_refusals.specs.Events.{callRefusal}
+use Rattle.run_refusals.specs.Events.{Refuses}
 use Rattle.run_refusals.proofs.Together.{together-25, together-17, together-18, together-26, opposed, unopposed}
 use Rattle.run_refusals.proofs.Together.{tasks}
 use native.Mathlib.Omega.{arith}
@@ -56,7 +56,7 @@ inside : (c : tie.Else2) → Each (now (start (else₁ c) .args .tasks))
     (λ t. (t < 128) × (8 + t < length (now (start (else₁ c) .args .state))))
 inside c t i =
     let s = start (else₁ c) in
-    let l = kind-is _ t 0 (tasks _ _ (s .pre) _ (rising (else₁ c)) (fit c) t i) .0 in
+    let l = kind-is _ t 0 (tasks _ _ (s .pre) _ (fit c) t i) .0 in
     let r = has-room _ _ (s .pre) in
     (omega (arith, l, r .plan .fits .limits .nodes), omega (arith, l, r .room))
 
@@ -64,36 +64,35 @@ opposed-here : (c : tie.After-unmet)
     → c .unmet .result ≡ postOpposedB (planOf (now (first c .args .plan))) (now (first c .args .tasks))
 opposed-here c =
     let e = else₃ c in
-    together-26 _ _ (first c .pre) _ (rising (else₁ (else₂ e))) (fit (else₂ e)) (run e) _
+    together-26 _ _ (first c .pre) _ (rising (else₁ (else₂ e))) _
     (c .before .before .before .before .before .mark-all .ensures) _
     (rw (c .before .before .before .load .ensures) at (c .before .before .with-literals .ensures)) _ (c .unmet .ensures)
 
 -- ---- the answers
 returns : tie.Need-returns
-returns c = together-25 _ _ (c .before .before .before .before .before .pre) _
+returns c xs u = together-25 _ xs _ u _
     (sym (c .before .not-rising .ensures) ∙ c .if1 .taken)
 
 returns-2 : tie.Need-returns-2
-returns-2 c = let e = c .before .before in
-    together-17 _ _ (start e .pre) _ (rising e) (sym (c .before .no-task .ensures) ∙ c .if2 .taken)
+returns-2 c xs u = let e = c .before .before in
+    together-17 _ xs _ u _ (rising e) (sym (c .before .no-task .ensures) ∙ c .if2 .taken)
 
 returns-3 : tie.Need-returns-3
-returns-3 c = let e = c .before .before in
-    together-18 _ _ (start (else₁ e) .pre) _ (rising (else₁ e)) (fit e)
+returns-3 c xs u = let e = c .before .before in
+    together-18 _ xs _ u _ (rising (else₁ e)) (fit e)
     (sym (c .before .not-running .ensures) ∙ c .if3 .taken)
 
 returns-4 : tie.Need-returns-4
-returns-4 c = let e = else₃ (c .before) in
-    opposed _ _ (first (c .before) .pre) _ (rising (else₁ (else₂ e))) (fit (else₂ e)) (run e)
+returns-4 c xs u = let e = else₃ (c .before) in
+    opposed _ xs _ u _ (rising (else₁ (else₂ e))) (fit (else₂ e)) (run e)
     (sym (opposed-here (c .before)) ∙ c .if4 .taken)
 
-last : (c : tie.After-inc-broken) (v : Bool) → c .inc-broken .result ≡ v → cond v 22 0 ≡ callRefusal
-    (now (first (unmet c) .args .plan)) (now (first (unmet c) .args .state))
-    (together (now (first (unmet c) .args .tasks)))
-last c v q =
+last : (c : tie.After-inc-broken) (v : Bool) → c .inc-broken .result ≡ v → Refuses (now (first (unmet c) .args .plan))
+    (now (first (unmet c) .args .state)) (together (now (first (unmet c) .args .tasks))) (cond v 22 0)
+last c v q xs u =
     let e = else₃ (unmet c) in
     ap (λ (x : Bool). cond x 22 0) (sym q)
-    ∙ unopposed _ _ (first (unmet c) .pre) _ (rising (else₁ (else₂ e))) (fit (else₂ e)) (run e)
+    ∙ unopposed _ xs _ u _ (rising (else₁ (else₂ e))) (fit (else₂ e)) (run e)
     (sym (opposed-here (unmet c)) ∙ c .before .before .if4 .left) _
     (unmet c .before .before .before .before .before .mark-all .ensures) _ (c .inc-broken .ensures)
 

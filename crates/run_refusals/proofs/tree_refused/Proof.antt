@@ -4,48 +4,50 @@ use denote.Ref.{now}
 use Rattle.plan_check.specs.Meaning.{planOf}
 use Rattle.runs.specs.Model.Monitor.{orderOpenB}
 use Rattle.run_state.specs.State.{statusIn}
-use Rattle.run_state.proofs.Passed.{has-room}
+use Rattle.run_state.proofs.Passed.{has-room, node-small}
 use Rattle.run_enabled.proofs.Orders.{open-is}
-use Rattle.run_refusals.proofs.Chain.{tree-19, tree-20, tree-none}
+use Rattle.run_refusals.proofs.Chain.{tree-absent, tree-19, tree-20, tree-none}
 use borrow.Author.Needs.{needs}
 use Rattle.run_refusals.proofs.tree_refused.Statement.{statement}
 use Rattle.run_refusals.proofs.tree_refused.Tie as tie
 
 opens : (c : tie.After-order-open)
     → c .order-open .result ≡ orderOpenB
-    (planOf (now (c .before .before .before .before .before .before .before .before .before .args .plan)))
-    (statusIn (now (c .before .before .before .before .before .before .before .before .before .args .plan))
-    (now (c .before .before .before .before .before .before .before .before .before .args .state)))
-    (c .before .before .before .before .before .before .before .before .before .args .node)
+    (planOf (now (c .before .before .before .before .before .before .before .before .before .before .before .args .plan)))
+    (statusIn (now (c .before .before .before .before .before .before .before .before .before .before .before .args .plan))
+    (now (c .before .before .before .before .before .before .before .before .before .before .before .args .state)))
+    (c .before .before .before .before .before .before .before .before .before .before .before .args .node)
 opens c = c .order-open .ensures ∙ open-is _ _
-    (c .before .before .before .before .before .before .before .before .before .pre .0 .passed) _
+    (c .before .before .before .before .before .before .before .before .before .before .before .pre .0 .passed) _
     _ (c .before .before .before .path .ensures .1)
 
-returns : tie.Need-returns
-returns c = tree-19 _ _ _ (sym (c .before .branch-begun .ensures) ∙ c .if1 .taken)
+returns-2 : tie.Need-returns-2
+returns-2 c = tree-19 _ _ _ _ (c .before .before .if1 .left) (sym (c .before .branch-begun .ensures) ∙ c .if2 .taken)
 
 path-requires : tie.Need-path-requires
-path-requires c κs = let s = c .before .before .before .before .before in
+path-requires c κs = let s = c .before .before .before .before .before .before .before in
     (s .pre .0 .node, has-room _ _ (s .pre .0 .passed) .accepted)
 
-returns-2 : tie.Need-returns-2
-returns-2 c = tree-20 _ _ _ (sym (c .before .before .before .before .before .before .before .branch-begun .ensures)
-    ∙ c .before .before .before .before .before .before .if1 .left)
-    (sym (opens (c .before)) ∙ c .if2 .taken)
-
 returns-3 : tie.Need-returns-3
-returns-3 c = tree-none _ _ _ (sym (c .before .before .before .before .before .before .before .branch-begun .ensures)
-    ∙ c .before .before .before .before .before .before .if1 .left)
-    (sym (opens (c .before)) ∙ c .if2 .left)
+returns-3 c = let e = c .before .before .before .before .before .before in
+    tree-20 _ _ _ _ (e .before .before .if1 .left) (sym (e .before .branch-begun .ensures) ∙ e .if2 .left)
+    (sym (opens (c .before)) ∙ c .if3 .taken)
+
+returns-4 : tie.Need-returns-4
+returns-4 c = let e = c .before .before .before .before .before .before in
+    tree-none _ _ _ _ (e .before .before .if1 .left) (sym (e .before .branch-begun .ensures) ∙ e .if2 .left)
+    (sym (opens (c .before)) ∙ c .if3 .left)
 
 pub tree-refused-spec : {M : Type 1} → statement M
 tree-refused-spec =
     tie.close
     (tie.spec
+    (λ c. node-small _ _ (c .before .before .pre .0 .passed) _ (c .before .before .pre .0 .node))
+    (λ c. tree-absent _ _ _ _ (c .if1 .taken))
     (λ c κs. search needs)
-    returns
+    returns-2
     (λ c κs. search needs)
     path-requires
     (λ c κs. search needs)
-    returns-2
-    returns-3)
+    returns-3
+    returns-4)

@@ -1,53 +1,54 @@
 -- The monitor under blocked branches: as long as everything absent waits, each call meets what it meets in the whole plan with one more test, a start or a
 -- skip at or under a blocked node; and what stands is complete exactly if it is in the whole plan.
-use Rattle.runs.proofs.Base.{_≡_, refl, sym, ap, _⊎_, inl, inr, _↔_, Bool, List, [], _∷_, ℕ, T}
+use Rattle.runs.proofs.Base.{_≡_, refl, sym, ap, _≢_, _⊎_, inl, inr, _↔_, Bool, true, false, List, [], _∷_}
+use Rattle.runs.proofs.Base.{Among, ℕ, T}
+use Rattle.runs.specs.Tests.{either, negate, anyIn}
 use Rattle.runs.specs.Plan.{Plan, itself, Node, WellFormed}
-use Rattle.runs.specs.Execution.{waiting, State, Event, start, finish, skip, History, nodeOf, statusAfter, Execution, task-done, all-done}
-use Rattle.runs.specs.Execution.{any-done, skip-done, Complete, Begun, Rival, by-branch, by-skip}
-use Rattle.runs.specs.Calls.{Call, one, together, finishes, SomeOf, World, happen, happenAll, Refusal, no-task, wrong-status, branch-begun, order-open}
-use Rattle.runs.specs.Calls.{pre-unmet, inc-broken, no-optional, not-rising, post-opposed, Absent, WrongStatus, BranchBegun, OrderOpen, PreUnmet}
-use Rattle.runs.specs.Calls.{IncBroken, PostOpposed, Applies, checks, First, None}
-use Rattle.runs.specs.Blocked.{Stands, without, Blocks}
-use Rattle.runs.proofs.Reflect.{decided, r-T}
+use Rattle.runs.specs.Execution.{waiting, running, State, Event, start, finish, skip, History, nodeOf, statusAfter}
+use Rattle.runs.specs.Execution.{Execution, task-done, all-done, any-done, skip-done, Complete, Begun, Rival}
+use Rattle.runs.specs.Execution.{by-branch, by-skip}
+use Rattle.runs.specs.Calls.{Call, one, together, finishes, events, World, happen, happenAll, Refusal, no-task}
+use Rattle.runs.specs.Calls.{wrong-status, branch-begun, order-open, pre-unmet, inc-broken, no-optional}
+use Rattle.runs.specs.Calls.{not-rising, post-opposed, Task, WrongStatus, BranchBegun, OrderOpen, checks}
+use Rattle.runs.specs.Blocked.{Stands, stands, without, Blocks}
+use Rattle.runs.specs.Model.Monitor.{statusB, taskB, absentB, wrongStatusB, branchBegunB, orderOpenB, appliesB}
+use Rattle.runs.specs.Model.Monitor.{preUnmetB, incBrokenB, postOpposedB, orElse, firstOf, settle, refusalOf, step}
+use Rattle.runs.proofs.Reflect.{clash, decided, r-T, r-map, r-negate, same-test, true-T}
 use Rattle.runs.proofs.Plan.{under-node, child-under}
 use Rattle.runs.proofs.Execution.{complete-begun, execution-outside, running-moved}
-use Rattle.runs.proofs.Blocked.Standing.{r-stands, r-standing-order, standing-child, child-stands, stands-above, standing-under}
-use Rattle.runs.proofs.Blocked.Standing.{under-stands, without-thinner}
+use Rattle.runs.proofs.Calls.Listed.{any-same, none-in}
+use Rattle.runs.proofs.Calls.Reflect.{r-status, r-task, r-wrong-status, r-branch-begun, r-order-open}
+use Rattle.runs.proofs.Blocked.Standing.{r-stands, r-standing-order, standing-child, child-stands, stands-above}
+use Rattle.runs.proofs.Blocked.Standing.{standing-under, under-stands, without-thinner}
 use Rattle.runs.proofs.Blocked.Thinner.{Thinner, complete-in}
 use Rattle.runs.proofs.Blocked.Branches.{blocked-well-formed, parts-stand}
 
--- two tables meet the same in a list of checks: row by row, or as far as a row that applies in both
-data Agree (A B : Refusal → Type 0) : List Refusal → Type 0 where
-  no-more : Agree A B []
-  both-apply : {r : Refusal} {l : List Refusal} → A r → B r → Agree A B (r ∷ l)
-  alike : {r : Refusal} {l : List Refusal} → A r ↔ B r → Agree A B l → Agree A B (r ∷ l)
+-- two tables of tests meet the same in a list of checks: row by row, or as far as a row that applies in both
+data Agree (g h : Refusal → Bool) : List Refusal → Type 0 where
+  no-more : Agree g h []
+  both-apply : {r : Refusal} {l : List Refusal} → g r ≡ true → h r ≡ true → Agree g h (r ∷ l)
+  alike : {r : Refusal} {l : List Refusal} → g r ≡ h r → (h r ≡ false → Agree g h l) → Agree g h (r ∷ l)
 
-module _ {A B : Refusal → Type 0} where
-  agree-first : {l : List Refusal} (r : Refusal) → Agree A B l → First A r l ↔ First B r l
-  agree-first r no-more = (λ x. x, λ x. x)
-  agree-first r (both-apply {r = k} {l = l} a b) = (to, from)
-    where
-      to : First A r (k ∷ l) → First B r (k ∷ l)
-      to (inl (e, x)) = inl (e, rw e at b)
-      to (inr (n, x)) = absurd (n a)
+agree-first : {g h : Refusal → Bool} {l : List Refusal} → Agree g h l → firstOf g l ≡ firstOf h l
+unfolding firstOf
+agree-first no-more = refl
+agree-first (both-apply x y) = rw (x, y)
+agree-first {g} {h} (alike {r = r} {l = l} e k) = rw e (go (h r) refl (λ z. agree-first (k z)))
+  where
+    go : (v : Bool) → h r ≡ v → (h r ≡ false → firstOf g l ≡ firstOf h l)
+        → orElse v r (λ u. firstOf g l) ≡ orElse v r (λ u. firstOf h l)
+    go true z ih = refl
+    go false z ih = ih z
 
-      from : First B r (k ∷ l) → First A r (k ∷ l)
-      from (inl (e, x)) = inl (e, rw e at a)
-      from (inr (n, x)) = absurd (n b)
-  agree-first r (alike {r = k} {l = l} g y) = (to (agree-first r y .0), from (agree-first r y .1))
-    where
-      to : (First A r l → First B r l) → First A r (k ∷ l) → First B r (k ∷ l)
-      to ih (inl (e, x)) = inl (e, rw e at (g .0 (rw (sym e) at x)))
-      to ih (inr (n, x)) = inr (λ z. n (g .1 z), ih x)
+-- rows that are the same
+alike-row : {g h : Refusal → Bool} {r : Refusal} {l : List Refusal} → g r ≡ h r → Agree g h l → Agree g h (r ∷ l)
+alike-row e k = alike e (λ z. k)
 
-      from : (First B r l → First A r l) → First B r (k ∷ l) → First A r (k ∷ l)
-      from ih (inl (e, x)) = inl (e, rw e at (g .1 (rw (sym e) at x)))
-      from ih (inr (n, x)) = inr (λ z. n (g .0 z), ih x)
-
-  agree-none : {l : List Refusal} → Agree A B l → None A l ↔ None B l
-  agree-none no-more = (λ x. x, λ x. x)
-  agree-none (both-apply a b) = (λ x. absurd (x .0 a), λ x. absurd (x .0 b))
-  agree-none (alike g y) = (λ x. (λ z. x .0 (g .1 z), agree-none y .0 (x .1)), λ x. (λ z. x .0 (g .0 z), agree-none y .1 (x .1)))
+-- a test that does not apply
+negate-none : (v : Bool) → negate v ≡ false → T v
+unfolding negate
+negate-none true q = tt
+negate-none false q = clash cc
 
 module _ (p : Plan) (w : WellFormed p) (S : ℕ → Bool) (ok : Blocks p S) where
   abbrev q : Plan
@@ -141,111 +142,100 @@ module _ (p : Plan) (w : WellFormed p) (S : ℕ → Bool) (ok : Blocks p S) wher
         earlier : (a b : ℕ) → T (p .order a b) → Stands p S b → Stands p S a
         earlier a b o xb = let (g, k, ha, hb) = w .order-group a b o in parts-stand p w S ok k ha (stands-above p w S (child-under p hb) xb)
 
-    -- 18
-    status-same : (e : Event) → WrongStatus q s e ↔ WrongStatus p s e
-    status-same (start t) = (λ y. y, λ y. y)
-    status-same (finish t) = (to (decided (r-T (p .tree .here t))), from)
-      where
-        to : Dec (Node p t) → WrongStatus q s (finish t) → WrongStatus p s (finish t)
-        to (yes l) (inl k) = inr (λ r. running-moved r (idle t l (λ x. k ((r-stands p w S t) .from x))))
-        to (no n) (inl k) = inl n
-        to d (inr k) = inr k
-
-        from : WrongStatus p s (finish t) → WrongStatus q s (finish t)
-        from (inl k) = inl (λ l. k (standing t l .node))
-        from (inr k) = inr k
-    status-same (skip g) = (to, from)
-      where
-        to : WrongStatus q s (skip g) → WrongStatus p s (skip g)
-        to (inl k) = inl k
-        to (inr (c, hc, y)) = inr (c, child-stands p w S hc .0, begun-in y)
-
-        from : WrongStatus p s (skip g) → WrongStatus q s (skip g)
-        from (inl k) = inl k
-        from (inr (c, hc, y)) = let (x, z) = begun-out (hc .node) y in inr (c, standing-child p w S hc x, z)
-
-  -- 21, 22 and 26 rest on the conditions and the states alone
-  pre-same : (flag : ℕ → Bool) (e : Event) → PreUnmet q flag e ↔ PreUnmet p flag e
-  pre-same flag e = (
-    λ y. record { on = y .on; sign = y .sign; needs = y .needs; unmet = y .unmet },
-    λ y. record { on = y .on; sign = y .sign; needs = y .needs; unmet = y .unmet },
-  )
-
-  inc-same : (s : State) (e : Event) → IncBroken q s e ↔ IncBroken p s e
-  inc-same s e = (
-    λ y. record { who = y .who; on = y .on; sign = y .sign; another = y .another; runs = y .runs; holds = y .holds; breaks = y .breaks },
-    λ y. record { who = y .who; on = y .on; sign = y .sign; another = y .another; runs = y .runs; holds = y .holds; breaks = y .breaks },
-  )
-
-  opposed-same : (ts : List ℕ) → PostOpposed q ts ↔ PostOpposed p ts
-  opposed-same ts = (at, back)
-    where
-      at : PostOpposed q ts → PostOpposed p ts
-      at y = record { who = y .who; other = y .other; listed = y .listed; other-listed = y .other-listed; on = y .on; sign = y .sign; leaves = y .leaves; opposes = y .opposes }
-
-      back : PostOpposed p ts → PostOpposed q ts
-      back y = record { who = y .who; other = y .other; listed = y .listed; other-listed = y .other-listed; on = y .on; sign = y .sign; leaves = y .leaves; opposes = y .opposes }
-
   happen-same : (a : World) (h : History) → happenAll q a h ≡ happenAll p a h
   happen-same a [] = refl
   happen-same a (e ∷ h) = ap (λ b. happen p b e) (happen-same a h)
 
-  some-same : (P Q : ℕ → Type 0) (ts : List ℕ) → ((t : ℕ) → P t ↔ Q t) → SomeOf ts P ↔ SomeOf ts Q
-  some-same P Q ts g = (λ (t, i, x). (t, i, (g t) .0 x), λ (t, i, x). (t, i, (g t) .1 x))
+  -- the table of the whole plan with one more test: a start or a skip of what does not stand meets 19. (A number that is
+  -- no task is told by 17, so 18 asks for the status alone.)
+  unfoldable pub testedB : World → Call → Refusal → Bool
+  testedB a (one (start t)) wrong-status = negate (statusB (a .status t) waiting)
+  testedB a (one (finish t)) wrong-status = negate (statusB (a .status t) running)
+  testedB a (one (skip g)) wrong-status = wrongStatusB p (a .status) (skip g)
+  testedB a (one e) no-task = appliesB p p a (one e) no-task
+  testedB a (one e) branch-begun = either (negate (stands p S (nodeOf e))) (λ u. branchBegunB p (a .status) (nodeOf e))
+  testedB a (one e) order-open = appliesB p p a (one e) order-open
+  testedB a (one e) pre-unmet = appliesB p p a (one e) pre-unmet
+  testedB a (one e) inc-broken = appliesB p p a (one e) inc-broken
+  testedB a (one e) no-optional = appliesB p p a (one e) no-optional
+  testedB a (one e) not-rising = false
+  testedB a (one e) post-opposed = false
+  testedB a (together ts) no-task = appliesB p p a (together ts) no-task
+  testedB a (together ts) wrong-status = anyIn ts (λ t. negate (statusB (a .status t) running))
+  testedB a (together ts) branch-begun = false
+  testedB a (together ts) order-open = false
+  testedB a (together ts) pre-unmet = false
+  testedB a (together ts) inc-broken = appliesB p p a (together ts) inc-broken
+  testedB a (together ts) no-optional = false
+  testedB a (together ts) not-rising = appliesB p p a (together ts) not-rising
+  testedB a (together ts) post-opposed = appliesB p p a (together ts) post-opposed
 
-  -- what is absent waits: of a record, 02's 16 sees to it
+  -- what is absent waits: of a state, 02's 16 sees to it
   module _ (a : World) (idle : (t : ℕ) → Node p t → ¬ Stands p S t → a .status t ≡ waiting) where
-    -- the table of the whole plan with one more test: a start or a skip at or under a blocked node meets 19
-    abbrev pub Tested : Call → Refusal → Type 0
-    Tested (one e) no-task = Applies p p a (one e) no-task
-    Tested (one e) wrong-status = Applies p p a (one e) wrong-status
-    Tested (one e) branch-begun = (¬ Stands p S (nodeOf e)) ⊎ BranchBegun p (a .status) (nodeOf e)
-    Tested (one e) order-open = Applies p p a (one e) order-open
-    Tested (one e) pre-unmet = Applies p p a (one e) pre-unmet
-    Tested (one e) inc-broken = Applies p p a (one e) inc-broken
-    Tested (one e) no-optional = Applies p p a (one e) no-optional
-    Tested (one e) not-rising = ⊥
-    Tested (one e) post-opposed = ⊥
-    Tested (together ts) r = Applies p p a (together ts) r
-
-    same : {A : Type 0} → A ↔ A
-    same = (λ y. y, λ y. y)
-
-    absent : (t : ℕ) → Absent q t ↔ (¬ Stands p S t)
-    absent t = (λ k x. k ((r-stands p w S t) .from x), λ k l. k (standing t l))
-
-    begins-same : (t : ℕ) → Stands p S t → (Absent q t ⊎ BranchBegun q (a .status) t) ↔ ((¬ Stands p S t) ⊎ BranchBegun p (a .status) t)
-    begins-same t x = (to, from)
+    -- 18, of a task
+    status-row : (t : ℕ) → Task p t
+        → wrongStatusB q (a .status) (finish t) ≡ negate (statusB (a .status t) running)
+    status-row t k = same-test _ _ (r-map (to (decided (r-stands p w S t)), inr) (r-wrong-status q wq (a .status) (finish t)))
+        (r-negate _ (r-status _ _))
       where
-        to : Absent q t ⊎ BranchBegun q (a .status) t → (¬ Stands p S t) ⊎ BranchBegun p (a .status) t
-        to (inl k) = inl ((absent t) .0 k)
-        to (inr y) = inr ((branch-same (a .status) idle t x) .0 y)
+        to : Dec (Stands p S t) → WrongStatus q (a .status) (finish t) → a .status t ≢ running
+        to (yes x) (inl n) = absurd (n ((r-stands p w S t) .from x))
+        to (no n) (inl x) = λ r. running-moved r (idle t (k .node) n)
+        to d (inr n) = n
 
-        from : (¬ Stands p S t) ⊎ BranchBegun p (a .status) t → Absent q t ⊎ BranchBegun q (a .status) t
-        from (inl k) = inl ((absent t) .1 k)
-        from (inr y) = inr ((branch-same (a .status) idle t x) .1 y)
-
-    broken-same : (ts : List ℕ) (t : ℕ) → IncBroken q (happenAll q a (finishes ts) .status) (finish t) ↔ IncBroken p (happenAll p a (finishes ts) .status) (finish t)
-    broken-same ts t = rw (happen-same a (finishes ts)) (inc-same (happenAll p a (finishes ts) .status) (finish t))
-
-    tested : (c : Call) → Agree (Applies p q a c) (Tested c) (checks c)
-    tested (one (start t)) = go (decided (r-stands p w S t))
+    -- 18, of a skip
+    skip-row : (g : ℕ) → wrongStatusB q (a .status) (skip g) ≡ wrongStatusB p (a .status) (skip g)
+    skip-row g = same-test _ _ (r-map (to, from) (r-wrong-status q wq (a .status) (skip g)))
+        (r-wrong-status p w (a .status) (skip g))
       where
-        go : Dec (Stands p S t) → Agree (Applies p q a (one (start t))) (Tested (one (start t))) (checks (one (start t)))
-        go (yes x) = alike same (alike (status-same (a .status) idle (start t)) (alike (begins-same t x) (alike (order-same (a .status) idle t x)
-            (alike (pre-same (a .flag) (start t)) (alike (inc-same (a .status) (start t)) no-more)))))
-        go (no k) = alike same (alike (status-same (a .status) idle (start t)) (both-apply (inl ((absent t) .1 k)) (inl k)))
-    tested (one (finish t)) = alike same (alike (status-same (a .status) idle (finish t)) (alike (inc-same (a .status) (finish t)) no-more))
-    tested (one (skip g)) = go (decided (r-stands p w S g))
+        to : WrongStatus q (a .status) (skip g) → WrongStatus p (a .status) (skip g)
+        to (inl k) = inl k
+        to (inr (c, hc, y)) = inr (c, child-stands p w S hc .0, begun-in (a .status) idle y)
+
+        from : WrongStatus p (a .status) (skip g) → WrongStatus q (a .status) (skip g)
+        from (inl k) = inl k
+        from (inr (c, hc, y)) = let (x, z) = begun-out (a .status) idle (hc .node) y in
+            inr (c, standing-child p w S hc x, z)
+
+    -- 19 and 20, of what stands
+    branch-row : (t : ℕ) → Stands p S t → branchBegunB q (a .status) t ≡ branchBegunB p (a .status) t
+    branch-row t x = same-test _ _ (r-map (branch-same (a .status) idle t x) (r-branch-begun q wq (a .status) t))
+        (r-branch-begun p w (a .status) t)
+
+    order-row : (t : ℕ) → Stands p S t → orderOpenB q (a .status) t ≡ orderOpenB p (a .status) t
+    order-row t x = same-test _ _ (r-map (order-same (a .status) idle t x) (r-order-open q wq (a .status) t))
+        (r-order-open p w (a .status) t)
+
+    -- 19 and 20, and the rows after them
+    begins : (e : Event) (l : List Refusal) → Agree (appliesB p q a (one e)) (testedB a (one e)) l
+        → Agree (appliesB p q a (one e)) (testedB a (one e)) (branch-begun ∷ order-open ∷ l)
+    unfolding appliesB testedB absentB either negate
+    begins e l rest = go (stands p S (nodeOf e)) refl
       where
-        go : Dec (Stands p S g) → Agree (Applies p q a (one (skip g))) (Tested (one (skip g))) (checks (one (skip g)))
-        go (yes x) = alike same (alike (status-same (a .status) idle (skip g)) (alike (begins-same g x) (alike (order-same (a .status) idle g x) no-more)))
-        go (no k) = alike same (alike (status-same (a .status) idle (skip g)) (both-apply (inl ((absent g) .1 k)) (inl k)))
-    tested (together ts) = alike same (alike same (alike (some-same _ _ ts (λ t. status-same (a .status) idle (finish t))) (alike (opposed-same ts)
-        (alike (some-same _ _ ts (broken-same ts)) no-more))))
+        go : (v : Bool) → stands p S (nodeOf e) ≡ v
+            → Agree (appliesB p q a (one e)) (testedB a (one e)) (branch-begun ∷ order-open ∷ l)
+        go true z = let x = (r-stands p w S (nodeOf e)) .to (true-T _ z) in
+            alike-row (rw (z, branch-row (nodeOf e) x)) (alike-row (order-row (nodeOf e) x) rest)
+        go false z = both-apply {r = branch-begun} (rw z) (rw z)
 
-    pub blocked-refusal : (c : Call) (r : Refusal) → First (Applies p q a c) r (checks c) ↔ First (Tested c) r (checks c)
-    blocked-refusal c r = agree-first r (tested c)
+    listed-tasks : (ts : List ℕ) → anyIn ts (λ t. negate (taskB p t)) ≡ false → (t : ℕ) → Among t ts → Task p t
+    listed-tasks ts z t i = (r-task p t) .to (negate-none _ (none-in ts _ z t i))
 
-    pub blocked-accepted : (c : Call) → None (Applies p q a c) (checks c) ↔ None (Tested c) (checks c)
-    blocked-accepted c = agree-none (tested c)
+    tested : (c : Call) → Agree (appliesB p q a c) (testedB a c) (checks c)
+    unfolding appliesB testedB wrongStatusB preUnmetB incBrokenB postOpposedB
+    tested (one (start t)) = alike-row refl (alike-row refl (begins (start t) _ (alike-row refl (alike-row refl no-more))))
+    tested (one (finish t)) = alike refl (λ z. alike-row (status-row t ((r-task p t) .to (negate-none _ z)))
+        (alike-row refl no-more))
+    tested (one (skip g)) = alike-row refl (alike-row (skip-row g) (begins (skip g) _ no-more))
+    tested (together ts) = alike-row refl (alike refl (λ z.
+        alike-row (any-same ts _ _ (λ t i. status-row t (listed-tasks ts z t i)))
+        (alike-row refl (alike-row (rw (happen-same a (finishes ts))) no-more))))
+
+    -- the monitor on what is left meets what this table says
+    pub tested-is : (c : Call) → refusalOf p q a c ≡ firstOf (testedB a c) (checks c)
+    unfolding refusalOf
+    tested-is c = agree-first (tested c)
+
+    pub step-is : (c : Call) → step p q a c ≡ settle (firstOf (testedB a c) (checks c)) a (happenAll p a (events c))
+    unfolding step
+    step-is c = rw (tested-is c, happen-same a (events c))

@@ -117,14 +117,14 @@ module _ (p : Plan) (w : WellFormed p) where
         from (by-branch c hc ne t) = inl (c, hc, (ne, t))
         from (by-skip k d) = inr (k, d)
 
-    r-wrong-status : (e : Event) → Reflects (wrongStatusB p s e) (WrongStatus p s e)
+    pub r-wrong-status : (e : Event) → Reflects (wrongStatusB p s e) (WrongStatus p s e)
     unfolding wrongStatusB
     r-wrong-status (start t) = r-negate _ (r-status _ _)
     r-wrong-status (finish t) = r-either _ _ (r-absent p t) (r-negate _ (r-status _ _))
     r-wrong-status (skip g) =
         r-either _ _ (r-negate _ (r-status _ _)) (r-some-child p w (Begun p s) _ (λ c hc. r-begun c (hc .node)))
 
-    r-branch-begun : (t : ℕ) → Reflects (branchBegunB p s t) (BranchBegun p s t)
+    pub r-branch-begun : (t : ℕ) → Reflects (branchBegunB p s t) (BranchBegun p s t)
     unfolding branchBegunB
     r-branch-begun t = r-map (to, from)
         (r-any (λ g. Picks (p .tree .kind g) × ((b : ℕ) × Child p g b × (Under p b t × Rival p s g b))) _ _
@@ -143,7 +143,7 @@ module _ (p : Plan) (w : WellFormed p) where
           (x .picks, (x .own, x .own-child, (x .above, x .rival))),
         )
 
-    r-order-open : (t : ℕ) → Reflects (orderOpenB p s t) (OrderOpen p s t)
+    pub r-order-open : (t : ℕ) → Reflects (orderOpenB p s t) (OrderOpen p s t)
     unfolding orderOpenB
     r-order-open t = r-map (to, from)
         (r-any (λ a. (b : ℕ) × (b < p .tree .size) × Open a b) _ _ (λ a. r-any (Open a) _ _
