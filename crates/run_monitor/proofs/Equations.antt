@@ -8,7 +8,7 @@ use Rattle.runs.specs.Calls.{Call, events}
 use Rattle.base.specs.Answers.{first}
 use Rattle.base.proofs.First.{first-some}
 use Rattle.run_starts.specs.Starts.{withOrdinal, startedCount}
-use Rattle.run_state.specs.State.{stateRefusal}
+use Rattle.run_state.specs.Under.{stateRefusalUnder}
 use Rattle.run_refusals.specs.declared.Move.{Move}
 use Rattle.run_refusals.specs.declared.Move.the-variants.{Start, Finish}
 use Rattle.run_refusals.specs.Events.{eventOf, eventPlace, callRefusal}
@@ -23,17 +23,17 @@ module _ (b s : List ℕ) (m : Move) (t q : ℕ) (place : q ≡ placeNumber (eve
   pub finish-written : m ≡ Finish → (z : List ℕ) → z ≡ withEvent b q t 2 s → z ≡ afterEvent b s (eventOf m t)
   finish-written e z h = h ∙ rw (place, e)
 
-module _ (b s : List ℕ) (c : Call) where
-  pub refused-16 : (stateRefusal b s ≡ 0 → ⊥) → (stateRefusal b s ≡ callReturn b s c) × (s ≡ callState b s c)
+module _ (b xs s : List ℕ) (c : Call) where
+  pub refused-16 : (stateRefusalUnder b xs s ≡ 0 → ⊥) → (stateRefusalUnder b xs s ≡ callReturn b xs s c) × (s ≡ callState b xs s c)
   unfolding callReturn callState
-  refused-16 n = let z = first-some (stateRefusal b s) (callRefusal b s c) n in
-      (z, rw (ne-eqb (first (stateRefusal b s) (callRefusal b s c)) 0 (λ y. n (z ∙ y))))
+  refused-16 n = let z = first-some (stateRefusalUnder b xs s) (callRefusal b xs s c) n in
+      (z, rw (ne-eqb (first (stateRefusalUnder b xs s) (callRefusal b xs s c)) 0 (λ y. n (z ∙ y))))
 
-  module _ (ok : stateRefusal b s ≡ 0) where
-    pub refused-22 : (callRefusal b s c ≡ 0 → ⊥) → (callRefusal b s c ≡ callReturn b s c) × (s ≡ callState b s c)
+  module _ (ok : stateRefusalUnder b xs s ≡ 0) where
+    pub refused-22 : (callRefusal b xs s c ≡ 0 → ⊥) → (callRefusal b xs s c ≡ callReturn b xs s c) × (s ≡ callState b xs s c)
     unfolding callReturn callState
-    refused-22 n = (rw ok, rw (ok, ne-eqb (callRefusal b s c) 0 n))
+    refused-22 n = (rw ok, rw (ok, ne-eqb (callRefusal b xs s c) 0 n))
 
-    pub accepted : callRefusal b s c ≡ 0 → (0 ≡ callReturn b s c) × (afterAll b s (events c) ≡ callState b s c)
+    pub accepted : callRefusal b xs s c ≡ 0 → (0 ≡ callReturn b xs s c) × (afterAll b s (events c) ≡ callState b xs s c)
     unfolding callReturn callState
     accepted z = (rw (ok, z), rw (ok, z))

@@ -1,7 +1,7 @@
 -- What the bytes of events and of calls show: the states that 01 works out. Assumes nothing.
 use mathlib.Core.Path.{_≡_, refl, sym, ap, _∙_, fun-ext}
 use mathlib.Core.Logic.{by-cases}
-use mathlib.Core.Bool.{Bool, true}
+use mathlib.Core.Bool.{Bool, true, false, true≢false}
 use mathlib.Core.List.{List, [], _∷_, List·Memᴰ as Among, List·Memᴰ·head as here, List·Memᴰ·tail as there}
 use mathlib.Core.Option.{Option, some, none, Option·getD}
 use Prim.Native.Nat.{ℕ, _<_}
@@ -18,10 +18,15 @@ use Rattle.runs.proofs.Calls.First.{code-inj}
 use Rattle.runs.proofs.Calls.Listed.{rising-once, rising-tail}
 use Rattle.run_starts.specs.Starts.{nodeByte, startedCount}
 use Rattle.run_state.specs.State.{stateRefusal, statusIn, flagShown, ordinalShown, worldOf}
+use Rattle.run_state.specs.Under.{stateRefusalUnder}
+use Rattle.run_state.proofs.Passed.{passed, list-passed, absent-byte, under-passed}
+use Rattle.plan_blocked.specs.Blocked.{planUnder}
+use Rattle.runs.specs.Tests.{listed}
+use Rattle.runs.specs.Blocked.{stands}
 use Rattle.run_starts.proofs.Numbering.{Numbering}
 use Rattle.node_sets.specs.Sets.{Each}
 use Rattle.run_refusals.specs.Events.{callRefusal}
-use Rattle.run_refusals.proofs.Chain.{accepted-kind, accepted-byte, event-does}
+use Rattle.run_refusals.proofs.Chain.{accepted-kind, accepted-byte, accepted-stands, running-stands, event-does}
 use Rattle.run_refusals.proofs.Together.{accepted-rises, accepted-tasks, accepted-running}
 use Rattle.run_monitor.specs.Events.{afterEvent, afterAll, callState}
 use Rattle.run_monitor.proofs.Equations.{refused-22, accepted}
@@ -61,65 +66,102 @@ module _ (b s : List ℕ) (ok : stateRefusal b s ≡ 0) (e : Event) (fit : Fit b
         shows = ap (worldOf b) q ∙ same;
       }
 
--- ---- several such events, each after those before it
-pub data Going (b s : List ℕ) : History → Type 0 where
-  nothing : Going b s []
-  going : {e : Event} {h : History} → Going b s h → Fit b e
-      → nodeByte (afterAll b s h) (nodeOf e) ≡ statusByte (asks e) → Going b s (e ∷ h)
+-- ---- several such events, each after those before it, of nodes that stand
+pub data Going (b xs s : List ℕ) : History → Type 0 where
+  nothing : Going b xs s []
+  going : {e : Event} {h : History} → Going b xs s h → Fit b e → stands (planOf b) (listed xs) (nodeOf e) ≡ true
+      → nodeByte (afterAll b s h) (nodeOf e) ≡ statusByte (asks e) → Going b xs s (e ∷ h)
 
-module _ (b s : List ℕ) (ok : stateRefusal b s ≡ 0) where
-  pub all-happened : {h : History} → Going b s h → Showing b (afterAll b s h) (happenAll (planOf b) (worldOf b s) h)
+-- the bytes z pass all checks, with the list too, and show the states a
+pub record ShowingUnder (b xs z : List ℕ) (a : World) : Type 0 where
+  pub well-formed : stateRefusalUnder b xs z ≡ 0
+  pub shows : worldOf b z ≡ a
+
+module _ (b xs s : List ℕ) (under : stateRefusalUnder b xs s ≡ 0) where
+  abbrev ok : stateRefusal b s ≡ 0
+  ok = passed b xs s under
+
+  all-happened : {h : History} → Going b xs s h → Showing b (afterAll b s h) (happenAll (planOf b) (worldOf b s) h)
   all-happened nothing = record { well-formed = ok; shows = refl }
-  all-happened (going {e = e} {h = h} g fit asked) =
+  all-happened (going {e = e} {h = h} g fit st asked) =
       let w = all-happened g in
       let x = happened b (afterAll b s h) (w .well-formed) e fit asked in
       record { well-formed = x .well-formed; shows = x .shows ∙ ap (λ (a : World). happen (planOf b) a e) (w .shows) }
 
+  -- what does not stand waits as before
+  absent-stay : {h : History} → Going b xs s h → (n : ℕ) → n < nodeCount b → stands (planOf b) (listed xs) n ≡ false
+      → nodeByte (afterAll b s h) n ≡ 0
+  absent-stay nothing n l y = absent-byte b xs s under n l y
+  absent-stay (going {e = e} {h = h} g fit st asked) n l y =
+      let z = all-happened g .well-formed in
+      ap (λ (x : List ℕ). nodeByte x n) (event-written b _ z e fit)
+      ∙ after-other b _ z e fit n l (λ q. true≢false (sym st ∙ ap (stands (planOf b) (listed xs)) (sym q) ∙ y))
+      ∙ absent-stay g n l y
+
+  pub goes-under : {h : History} → Going b xs s h
+      → ShowingUnder b xs (afterAll b s h) (happenAll (planOf b) (worldOf b s) h)
+  goes-under {h} g = record {
+    well-formed = under-passed b xs (afterAll b s h) (list-passed b xs s under) (all-happened g .well-formed) (absent-stay g);
+    shows = all-happened g .shows;
+  }
+
   -- the finishes of a rising list of running tasks; the bytes of other nodes stay
   finishes-go : (ts : List ℕ) → Rising ts → Each ts (λ t. isKind b t 0 ≡ true) → Each ts (λ t. nodeByte s t ≡ 1)
-      → Going b s (finishes ts)
+      → Going b xs s (finishes ts)
       × ((n : ℕ) → n < nodeCount b → ¬ Among n ts → nodeByte (afterAll b s (finishes ts)) n ≡ nodeByte s n)
   finishes-go [] r k y = (nothing, λ n l i. refl)
   finishes-go (t ∷ ts) r k y =
       let (g, stays) = finishes-go ts (rising-tail r) (λ x i. k x (there i)) (λ x i. y x (there i)) in
       let z = all-happened g .well-formed in
-      let fit : Fit b (finish t) = k t (here refl) in (
-        going g fit (stays t (kind-is b t 0 fit .0) (rising-once r) ∙ y t (here refl)),
+      let fit : Fit b (finish t) = k t (here refl) in
+      let l = kind-is b t 0 fit .0 in (
+        going g fit (running-stands b xs s under t l (y t (here refl))) (stays t l (rising-once r) ∙ y t (here refl)),
         λ n l i. ap (λ (x : List ℕ). nodeByte x n) (event-written b _ z (finish t) fit)
             ∙ after-other b _ z (finish t) fit n l (λ q. i (here q)) ∙ stays n l (λ j. i (there j)),
       )
 
   -- the events of an accepted call
-  pub call-goes : (c : Call) → callRefusal b s c ≡ 0 → Going b s (events c)
-  call-goes (one e) z = going nothing (accepted-kind b s ok e z) (accepted-byte b s ok e z)
-  call-goes (together ts) z = finishes-go ts (accepted-rises b s ok ts z) (accepted-tasks b s ok ts z)
-      (accepted-running b s ok ts z) .0
+  pub call-goes : (c : Call) → callRefusal b xs s c ≡ 0 → Going b xs s (events c)
+  call-goes (one e) z = going nothing (accepted-kind b xs s under e z) (accepted-stands b xs s under e z)
+      (accepted-byte b xs s under e z)
+  call-goes (together ts) z = finishes-go ts (accepted-rises b xs s under ts z) (accepted-tasks b xs s under ts z)
+      (accepted-running b xs s under ts z) .0
+
+-- events leave the flags that they leave in the whole plan
+happen-left : (b xs : List ℕ) (a : World) (h : History)
+    → happenAll (planUnder b xs) a h ≡ happenAll (planOf b) a h
+happen-left b xs a [] = refl
+happen-left b xs a (e ∷ h) = ap (λ (w : World). happen (planOf b) w e) (happen-left b xs a h)
 
 -- ---- after a call, accepted or refused, the state passes all checks and shows the states that 01 works out
 settled : (o : Option Refusal) (old new : World) → (code o ≡ 0 → ⊥) → settle o old new ≡ old
 settled none old new h = absurd (h refl)
 settled (some r) old new h = refl
 
-module _ (b s : List ℕ) (ok : stateRefusal b s ≡ 0) (c : Call) where
+module _ (b xs s : List ℕ) (under : stateRefusalUnder b xs s ≡ 0) (c : Call) where
   abbrev Stepped : Type 0
-  Stepped = Showing b (callState b s c) (step (planOf b) (worldOf b s) c)
+  Stepped = ShowingUnder b xs (callState b xs s c) (step (planOf b) (planUnder b xs) (worldOf b s) c)
 
-  moves : callRefusal b s c ≡ 0 → Stepped
+  moves : callRefusal b xs s c ≡ 0 → Stepped
   unfolding returned step
   moves z =
-      let q = sym (accepted b s c ok z .1) in
-      let w = all-happened b s ok (call-goes b s ok c z) in
-      let n : refusalOf (planOf b) (worldOf b s) c ≡ none = code-inj {x = none} z in
-      record { well-formed = ap (stateRefusal b) q ∙ w .well-formed; shows = ap (worldOf b) q ∙ w .shows ∙ rw n }
+      let q = sym (accepted b xs s c under z .1) in
+      let w = goes-under b xs s under (call-goes b xs s under c z) in
+      let n : refusalOf (planOf b) (planUnder b xs) (worldOf b s) c ≡ none = code-inj {x = none} z in
+      record {
+        well-formed = ap (stateRefusalUnder b xs) q ∙ w .well-formed;
+        shows = ap (worldOf b) q ∙ w .shows ∙ rw (n, happen-left b xs (worldOf b s) (events c));
+      }
 
-  refused : (callRefusal b s c ≡ 0 → ⊥) → Stepped
+  refused : (callRefusal b xs s c ≡ 0 → ⊥) → Stepped
   unfolding step returned
   refused n =
-      let q = refused-22 b s c ok n .1 in
+      let q = refused-22 b xs s c under n .1 in
       record {
-        well-formed = ap (stateRefusal b) (sym q) ∙ ok;
-        shows = ap (worldOf b) (sym q) ∙ sym (settled (refusalOf (planOf b) (worldOf b s) c) (worldOf b s) _ n);
+        well-formed = ap (stateRefusalUnder b xs) (sym q) ∙ under;
+        shows = ap (worldOf b) (sym q)
+            ∙ sym (settled (refusalOf (planOf b) (planUnder b xs) (worldOf b s) c) (worldOf b s) _ n);
       }
 
   pub call-steps : Stepped
-  call-steps = by-cases (ℕ-discrete (callRefusal b s c) 0) (λ z. moves z) (λ n. refused n)
+  call-steps = by-cases (ℕ-discrete (callRefusal b xs s c) 0) (λ z. moves z) (λ n. refused n)

@@ -12,7 +12,9 @@ use Rattle.runs.specs.Execution.{running, done, Event, start, finish, skip, His
 use Rattle.runs.specs.Calls.{Call, events, Rising, statusByte, Answered}
 use Rattle.base.specs.Answers.{first}
 use Rattle.run_starts.specs.Starts.{withOrdinal, startedCount}
+use Rattle.plan_blocked.specs.Blocked.{planUnder}
 use Rattle.run_state.specs.State.{stateRefusal, worldOf}
+use Rattle.run_state.specs.Under.{stateRefusalUnder}
 use Rattle.run_state.specs.Made.{made}
 use Rattle.node_sets.specs.Sets.{only, Each}
 use Rattle.run_refusals.specs.Events.{callRefusal}
@@ -42,18 +44,20 @@ pub record Finishing (b s ts : List ℕ) : Type 0 where
   pub rises : Rising ts
   pub tasks : Each ts (λ t. isKind b t 0 ≡ true)
 
--- 1 to 16, then the call's own checks
-unfoldable pub callReturn : List ℕ → List ℕ → Call → ℕ
-callReturn b s c = first (stateRefusal b s) (callRefusal b s c)
+-- the checks up to 16, then the call's own
+unfoldable pub callReturn : List ℕ → List ℕ → List ℕ → Call → ℕ
+callReturn b xs s c = first (stateRefusalUnder b xs s) (callRefusal b xs s c)
 
 -- the events of an accepted call happen; a refused one changes nothing
-unfoldable pub callState : List ℕ → List ℕ → Call → List ℕ
-callState b s c = cond (eqb (callReturn b s c) 0) (afterAll b s (events c)) s
+unfoldable pub callState : List ℕ → List ℕ → List ℕ → Call → List ℕ
+callState b xs s c = cond (eqb (callReturn b xs s c) 0) (afterAll b s (events c)) s
 
--- what `start`, `finish`, `skip` and `finish_together` return, and the bytes that they leave
-pub record Called (b s : List ℕ) (c : Call) (r : ℕ) (s′ : List ℕ) : Type 0 where
-  pub returns : r ≡ callReturn b s c
-  pub leaves : s′ ≡ callState b s c
-  -- on a state that passes 1 to 16, in the words of 01 and 02: no refusal applies, 0, and the events happen; or the
-  -- first that applies, and nothing does
-  pub answered : stateRefusal b s ≡ 0 → Answered (planOf b) (worldOf b s) c r (worldOf b s′)
+-- what `start`, `finish`, `skip` and `finish_together` return with the list xs of blocked nodes, and the bytes that they
+-- leave
+pub record Called (b xs s : List ℕ) (c : Call) (r : ℕ) (s′ : List ℕ) : Type 0 where
+  pub returns : r ≡ callReturn b xs s c
+  pub leaves : s′ ≡ callState b xs s c
+  -- on a state that passes the checks up to 16, in the words of 01 and 02: no refusal applies, 0, and the events happen;
+  -- or the first that applies, and nothing does
+  pub answered : stateRefusalUnder b xs s ≡ 0
+      → Answered (planOf b) (planUnder b xs) (worldOf b s) c r (worldOf b s′)

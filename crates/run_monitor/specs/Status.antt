@@ -5,10 +5,11 @@ use mathlib.Core.Logic.{_⊎_, inl, inr, _↔_}
 use mathlib.Core.Bool.{Bool, true, false}
 use mathlib.Core.List.{List}
 use Rattle.base.specs.Answers.{refusedOr}
-use Rattle.plan_check.specs.Meaning.{planOf}
+use Rattle.plan_blocked.specs.Blocked.{planUnder}
 use Rattle.runs.specs.Execution as execution
 use Rattle.runs.specs.Model.Monitor.{completeB}
-use Rattle.run_state.specs.State.{stateRefusal, statusIn}
+use Rattle.run_state.specs.State.{statusIn}
+use Rattle.run_state.specs.Under.{stateRefusalUnder}
 use Rattle.run_monitor.specs.declared.Progress.{Progress}
 use Rattle.run_monitor.specs.declared.Progress.the-variants.{Refused, Complete, Unfinished}
 
@@ -25,10 +26,12 @@ abbrev pub wordFor : Bool → Word
 wordFor true = COMPLETE
 wordFor false = UNFINISHED
 
-unfoldable pub statusAnswer : List ℕ → List ℕ → ℕ ⊎ Word
-statusAnswer b s = refusedOr (stateRefusal b s) (wordFor (completeB (planOf b) (statusIn b s) 0))
+unfoldable pub statusAnswer : List ℕ → List ℕ → List ℕ → ℕ ⊎ Word
+statusAnswer b xs s = refusedOr (stateRefusalUnder b xs s) (wordFor (completeB (planUnder b xs) (statusIn b s) 0))
 
--- what `status` answers: COMPLETE exactly if the state passes 1 to 16 and shows the root complete
-pub record Told (b s : List ℕ) (r : Progress) : Type 0 where
-  pub returns : said r ≡ statusAnswer b s
-  pub complete : (said r ≡ inr COMPLETE) ↔ ((stateRefusal b s ≡ 0) × execution.Complete (planOf b) (statusIn b s) 0)
+-- what `status` answers with the list xs of blocked nodes: COMPLETE exactly if the state passes the checks up to 16 and
+-- shows the root complete, of what is left of the plan
+pub record Told (b xs s : List ℕ) (r : Progress) : Type 0 where
+  pub returns : said r ≡ statusAnswer b xs s
+  pub complete : (said r ≡ inr COMPLETE)
+      ↔ ((stateRefusalUnder b xs s ≡ 0) × execution.Complete (planUnder b xs) (statusIn b s) 0)

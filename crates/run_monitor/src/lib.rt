@@ -3,6 +3,7 @@
 use base::places::POST;
 use base::statuses::DONE;
 use base::statuses::RUNNING;
+use node_sets::all_nodes;
 use node_sets::mark_all;
 use node_sets::mark_one;
 use run_conditions::with_literals;
@@ -33,11 +34,12 @@ pub enum Progress {
     Unfinished,
 }
 
-// A refusal up to 16, or whether the root is complete.
-pub fn status(plan: &[u8], state: &[u8]) -> Progress
-    ensures { λ r. ⌜ Told (now (plan .entry)) (now (state .entry)) r ⌝ }
+// A refusal up to 16, 28 or 29, or whether the root is complete.
+pub fn status(plan: &[u8], blocked: &[usize], state: &[u8]) -> Progress
+    ensures { λ r. ⌜ Told (now (plan .entry)) (now (blocked .entry)) (now (state .entry)) r ⌝ }
 {
-    let r = check_state(plan, state);
+    let mut standing = all_nodes();
+    let r = check_state(plan, blocked, state, &mut standing);
     if r != 0 {
         return Progress::Refused(r);
     }
@@ -77,14 +79,16 @@ fn write_move(plan: &[u8], state: &mut [u8], m: Move, task: usize)
 }
 
 // The task moves on: what its move changes is written. Refused, nothing changes.
-fn call(plan: &[u8], state: &mut [u8], m: Move, task: usize) -> u32
-    ensures { λ r. ⌜ Called (now (plan .entry)) (now (state .entry)) (one (eventOf m task)) r (now (state .exit)) ⌝ }
+fn call(plan: &[u8], blocked: &[usize], state: &mut [u8], m: Move, task: usize) -> u32
+    ensures { λ r. ⌜ Called (now (plan .entry)) (now (blocked .entry)) (now (state .entry)) (one (eventOf m task)) r
+        (now (state .exit)) ⌝ }
 {
-    let r = check_state(plan, state);
+    let mut standing = all_nodes();
+    let r = check_state(plan, blocked, state, &mut standing);
     if r != 0 {
         return r;
     }
-    let q = refused(plan, state, m, task);
+    let q = refused(plan, state, &standing, m, task);
     if q != 0 {
         return q;
     }
@@ -94,31 +98,32 @@ fn call(plan: &[u8], state: &mut [u8], m: Move, task: usize) -> u32
 
 // The task starts: its byte says running, its inconditions are made true and its start takes the next ordinal. Refused,
 // nothing changes.
-pub fn start(plan: &[u8], state: &mut [u8], task: usize) -> u32
-    ensures { λ r. ⌜ Called (now (plan .entry)) (now (state .entry)) (one (execution.start task)) r
+pub fn start(plan: &[u8], blocked: &[usize], state: &mut [u8], task: usize) -> u32
+    ensures { λ r. ⌜ Called (now (plan .entry)) (now (blocked .entry)) (now (state .entry)) (one (execution.start task)) r
         (now (state .exit)) ⌝ }
 {
-    call(plan, state, Move::Start, task)
+    call(plan, blocked, state, Move::Start, task)
 }
 
 // The task finishes: its byte says done and its postconditions are made true. Refused, nothing changes.
-pub fn finish(plan: &[u8], state: &mut [u8], task: usize) -> u32
-    ensures { λ r. ⌜ Called (now (plan .entry)) (now (state .entry)) (one (execution.finish task)) r
+pub fn finish(plan: &[u8], blocked: &[usize], state: &mut [u8], task: usize) -> u32
+    ensures { λ r. ⌜ Called (now (plan .entry)) (now (blocked .entry)) (now (state .entry)) (one (execution.finish task)) r
         (now (state .exit)) ⌝ }
 {
-    call(plan, state, Move::Finish, task)
+    call(plan, blocked, state, Move::Finish, task)
 }
 
 // The optional group is skipped: its byte says done, and no other byte changes. Refused, nothing changes.
-pub fn skip(plan: &[u8], state: &mut [u8], group: usize) -> u32
-    ensures { λ r. ⌜ Called (now (plan .entry)) (now (state .entry)) (one (execution.skip group)) r
+pub fn skip(plan: &[u8], blocked: &[usize], state: &mut [u8], group: usize) -> u32
+    ensures { λ r. ⌜ Called (now (plan .entry)) (now (blocked .entry)) (now (state .entry)) (one (execution.skip group)) r
         (now (state .exit)) ⌝ }
 {
-    let r = check_state(plan, state);
+    let mut standing = all_nodes();
+    let r = check_state(plan, blocked, state, &mut standing);
     if r != 0 {
         return r;
     }
-    let q = skip_refused(plan, state, group);
+    let q = skip_refused(plan, state, &standing, group);
     if q != 0 {
         return q;
     }
@@ -143,11 +148,12 @@ fn write_finishes(plan: &[u8], state: &mut [u8], tasks: &[usize])
 }
 
 // The tasks finish in one step: their bytes say done and their postconditions are made true. Refused, nothing changes.
-pub fn finish_together(plan: &[u8], state: &mut [u8], tasks: &[usize]) -> u32
-    ensures { λ r. ⌜ Called (now (plan .entry)) (now (state .entry)) (together (now (tasks .entry))) r
-        (now (state .exit)) ⌝ }
+pub fn finish_together(plan: &[u8], blocked: &[usize], state: &mut [u8], tasks: &[usize]) -> u32
+    ensures { λ r. ⌜ Called (now (plan .entry)) (now (blocked .entry)) (now (state .entry))
+        (together (now (tasks .entry))) r (now (state .exit)) ⌝ }
 {
-    let r = check_state(plan, state);
+    let mut standing = all_nodes();
+    let r = check_state(plan, blocked, state, &mut standing);
     if r != 0 {
         return r;
     }

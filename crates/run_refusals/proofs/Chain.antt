@@ -3,14 +3,14 @@ use mathlib.Core.Path.{_≡_, refl, sym, ap, _∙_}
 use mathlib.Core.Logic.{by-cases, ⊎-elim}
 use mathlib.Core.Bool.{Bool, true, false, cond, not, true≢false}
 use mathlib.Core.List.{List}
-use Prim.Native.Nat.{ℕ}
+use Prim.Native.Nat.{ℕ, _<_}
 use native.Mathlib.Decide.{ℕ-discrete}
 use native.Mathlib.Omega.{arith}
 use lib.Dec.{eqb}
 use lib.ListN.{getD, replicate}
 use borrow.Author.Tests.{eq-eqb, ne-eqb}
 use Rattle.run_flags.specs.Flags.{allByte}
-use Rattle.plan_format.specs.Format.{kindOf, isKind, condCount}
+use Rattle.plan_format.specs.Format.{nodeCount, kindOf, isKind, condCount}
 use Rattle.plan_rules.proofs.Laws.{either}
 use mathlib.Core.Option.{Option, some, none}
 use Rattle.plan_check.specs.Meaning.{planOf, kindAt, signIn}
@@ -31,11 +31,12 @@ use Rattle.runs.proofs.Reflect.{Reflects, r-eq, r-map, clash, true-T, T-true, s
 use Rattle.runs.proofs.Calls.Reflect.{r-task, r-optional, r-status, r-begun, r-wrong-status}
 use Rattle.runs.proofs.Calls.Skips.{skip-begun}
 use Rattle.base.specs.Answers.{first}
-use Rattle.base.proofs.First.{first-none, first-some}
+use Rattle.base.proofs.First.{first-none, first-some, both-none}
 use Rattle.run_starts.specs.Starts.{nodeByte}
 use Rattle.run_state.specs.State.{stateRefusal, statusIn, flagShown, worldOf}
 use Rattle.run_state.specs.Under.{stateRefusalUnder}
-use Rattle.run_state.proofs.Passed.{has-room, well-formed, byte-is, shown-moves, passed, list-passed, absent-waits}
+use Rattle.run_state.proofs.Passed.{has-room, well-formed, byte-is, shown-moves, passed, list-passed}
+use Rattle.run_state.proofs.Passed.{absent-byte, absent-waits}
 use Rattle.run_state.specs.Made.{made}
 use Rattle.node_sets.specs.Sets.{only, marked}
 use Rattle.run_conditions.specs.Conditions.{brokenAt}
@@ -170,6 +171,12 @@ module _ (b s : List ℕ) (ok : stateRefusal b s ≡ 0) where
       let g : (f : ℕ) → asserts (planOf b) e f ≡ signIn b (eventPlace e) t f = λ f. task-does e x f
       ∙ ap (λ (n : ℕ). signIn b (eventPlace e) n f) of in
       rw (m, k) at h ∙ broken-is b s ok t (eventPlace e) e of g
+
+-- 19 does not apply to a node only if it stands
+tree-stands : (b s : List ℕ) (t : ℕ) (v : Bool) → treeRefusal b s t v ≡ 0 → v ≡ true
+unfolding treeRefusal or negate
+tree-stands b s t true z = refl
+tree-stands b s t false z = absurd (omega (arith, z))
 
 -- ---- with a list of blocked nodes
 module _ (b xs s : List ℕ) (under : stateRefusalUnder b xs s ≡ 0) where
@@ -317,6 +324,35 @@ module _ (b xs s : List ℕ) (under : stateRefusalUnder b xs s ≡ 0) where
   accepted-byte (start t) z = answer-asked t (start t) refl tt z
   accepted-byte (finish t) z = answer-asked t (finish t) refl tt z
   accepted-byte (skip g) z = skip-waits g z
+
+  -- which stands
+  pub running-stands : (t : ℕ) → t < nodeCount b → nodeByte s t ≡ 1 → stands (planOf b) (listed xs) t ≡ true
+  running-stands t l y = ⊎-elim (λ z. z) (λ z. absurd (omega (arith, y, absent-byte b xs s under t l z)))
+      (either (stands (planOf b) (listed xs) t))
+
+  begin-stands : (t : ℕ) → eventRefusal b xs s (start t) ≡ 0 → stands (planOf b) (listed xs) t ≡ true
+  unfolding beginRefusal stood
+  begin-stands t z =
+      let y = answer-task t (start t) refl tt z in
+      let h = answer-asked t (start t) refl tt z in
+      tree-stands b s t (stood t) (both-none (treeRefusal b s t (stood t)) _
+      (both-none (beginRefusal b s (start t) (stood t)) _ (rest t (start t) refl tt y h ∙ z) .0) .0)
+
+  skip-stands : (g : ℕ) → eventRefusal b xs s (skip g) ≡ 0 → stands (planOf b) (listed xs) g ≡ true
+  unfolding stood
+  skip-stands g z =
+      let y = skip-optional g z in
+      ⊎-elim
+      (λ (x : begunB (planOf b) (statusIn b s) g ≡ true). absurd (omega (arith, skip-18 g y x, z)))
+      (λ (x : begunB (planOf b) (statusIn b s) g ≡ false).
+      tree-stands b s g (stood g) (sym (skips g ∙ rw (y, wrong-is g y ∙ x)) ∙ z))
+      (either (begunB (planOf b) (statusIn b s) g))
+
+  pub accepted-stands : (e : Event) → eventRefusal b xs s e ≡ 0 → stands (planOf b) (listed xs) (nodeOf e) ≡ true
+  accepted-stands (start t) z = begin-stands t z
+  accepted-stands (finish t) z = running-stands t (kind-is b t 0 (accepted-kind (finish t) z) .0)
+      (accepted-byte (finish t) z)
+  accepted-stands (skip g) z = skip-stands g z
 
 -- ---- the parts
 module _ (b table s : List ℕ) (t : ℕ) where

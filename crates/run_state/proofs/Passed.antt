@@ -26,8 +26,8 @@ use Rattle.runs.specs.Blocked.{Stands, stands}
 use Rattle.runs.proofs.Reflect.{true-T}
 use Rattle.runs.proofs.Blocked.Standing.{r-stands}
 use Rattle.run_state.proofs.Refused.{Roomy, roomy, state-well, state-good, room-passed, room-blocked}
-use Rattle.run_state.proofs.Refused.{state-room-under, state-well-under}
-use Rattle.run_state.proofs.Well.{Well, well, from-parts, WellUnder, well-under}
+use Rattle.run_state.proofs.Refused.{state-room-under, state-well-under, state-passed}
+use Rattle.run_state.proofs.Well.{Well, well, from-parts, WellUnder, well-under, from-under}
 
 -- a byte and the status that it shows, back and forth
 pub status-back : (x : ℕ) → x ≤ 2 → statusByte (statusAt x) ≡ x
@@ -144,3 +144,14 @@ module _ (b xs s : List ℕ) (ok : stateRefusalUnder b xs s ≡ 0) where
   absent-waits n h k = let l = node-is b n h in
       (byte-is b s passed n l waiting) .0 (absent-byte n l (not-passed _
       (λ y. k ((r-stands (planOf b) (well-formed b s passed) (listed xs) n) .to (true-T _ y)))))
+
+-- and back
+pub under-passed : (b xs s : List ℕ) → refusalUnder b xs ≡ 0 → stateRefusal b s ≡ 0
+    → ((n : ℕ) → n < nodeCount b → stands (planOf b) (listed xs) n ≡ false → nodeByte s n ≡ 0)
+    → stateRefusalUnder b xs s ≡ 0
+unfolding badAbsent
+under-passed b xs s e ok h = state-passed b xs s e (has-room b s ok .room) (from-under b xs s (record {
+  well = is-well b s ok;
+  absent = λ n l. ⊎-elim (λ (y : stands (planOf b) (listed xs) n ≡ true). rw y)
+      (λ (y : stands (planOf b) (listed xs) n ≡ false). rw (y, h n l y)) (either (stands (planOf b) (listed xs) n));
+}))

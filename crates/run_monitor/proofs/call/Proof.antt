@@ -2,7 +2,10 @@
 use mathlib.Core.Path.{_≡_, sym, _∙_}
 use denote.Ref.{now}
 use Rattle.plan_check.proofs.Meaning.{kind-is}
-use Rattle.run_state.specs.State.{stateRefusal}
+use Rattle.plan_blocked.specs.Blocked.{Standing}
+use Rattle.runs.specs.Tests.{listed}
+use Rattle.run_state.specs.Under.{stateRefusalUnder}
+use Rattle.run_state.proofs.Passed as checks
 use Rattle.run_refusals.specs.Events.{eventOf, eventRefusal}
 use Rattle.run_refusals.proofs.Chain.{node-of, task-event, answer-task}
 use Rattle.run_monitor.proofs.Called.{called-16, called-22, called-0}
@@ -10,35 +13,34 @@ use borrow.Author.Needs.{needs}
 use Rattle.run_monitor.proofs.call.Statement.{statement}
 use Rattle.run_monitor.proofs.call.Tie as tie
 
-passed : (c : tie.Else1) → stateRefusal (now (c .before .before .before .before .before .args .plan))
-    (now (c .before .before .before .before .before .args .state)) ≡ 0
-passed c = sym (c .before .check-state .ensures) ∙ c .if1 .left
+passed : (c : tie.Else1) → stateRefusalUnder (now (c .before .before .before .before .before .before .before .before .args .plan)) (now (c .before .before .before .before .before .before .before .before .args .blocked))
+    (now (c .before .before .before .before .before .before .before .before .args .state)) ≡ 0
+passed c = sym (c .before .check-state .ensures .returns) ∙ c .if1 .left
 
-none : (c : tie.Else2) → eventRefusal
-    (now (c .before .before .before .before .before .before .before .before .args .plan))
-    (now (c .before .before .before .before .before .before .before .before .args .state))
-    (eventOf (c .before .before .before .before .before .before .before .before .args .m)
-    (c .before .before .before .before .before .before .before .before .args .task)) ≡ 0
-none c = sym (c .before .refused .ensures) ∙ c .if2 .left
+refusal-is : (c : tie.After-refused) → c .refused .result ≡ eventRefusal (now (c .before .before .before .before .before .before .before .before .before .before .before .args .plan))
+    (now (c .before .before .before .before .before .before .before .before .before .before .before .args .blocked)) (now (c .before .before .before .before .before .before .before .before .before .before .before .args .state)) (eventOf (c .before .before .before .before .before .before .before .before .before .before .before .args .m) (c .before .before .before .before .before .before .before .before .before .before .before .args .task))
+refusal-is c = let e = c .before .before .before in
+    c .refused .ensures _ (passed e) (e .before .check-state .ensures .standing (e .if1 .left))
 
-returns : tie.Need-returns
-returns c = called-16 _ _ _ _ (c .before .check-state .ensures) (c .if1 .taken)
+none : (c : tie.Else2) → eventRefusal (now (c .before .before .before .before .before .before .before .before .before .before .before .before .args .plan)) (now (c .before .before .before .before .before .before .before .before .before .before .before .before .args .blocked)) (now (c .before .before .before .before .before .before .before .before .before .before .before .before .args .state))
+    (eventOf (c .before .before .before .before .before .before .before .before .before .before .before .before .args .m) (c .before .before .before .before .before .before .before .before .before .before .before .before .args .task)) ≡ 0
+none c = sym (refusal-is (c .before)) ∙ c .if2 .left
 
 returns-2 : tie.Need-returns-2
-returns-2 c = called-22 _ _ _ (passed (c .before .before .before)) _ (c .before .refused .ensures) (c .if2 .taken)
+returns-2 c = called-22 _ _ _ _ (passed (c .before .before .before .before)) _ (refusal-is (c .before)) (c .if2 .taken)
 
 write-move-requires : tie.Need-write-move-requires
 write-move-requires c κs =
-    let a = c .before .before .before .before .before .before .before .before .before .args in
-    let ok = passed (c .before .before .before .before) in
+    let a = c .before .before .before .before .before .before .before .before .before .before .before .before .before .args in
+    let ok = passed (c .before .before .before .before .before) in
     record {
-      node = kind-is _ _ 0 (answer-task _ _ ok (a .task) _ (node-of (a .m) (a .task)) (task-event (a .m) (a .task))
+      node = kind-is _ _ 0 (answer-task _ _ _ ok (a .task) _ (node-of (a .m) (a .task)) (task-event (a .m) (a .task))
           (none (c .before))) .0;
-      passed = ok;
+      passed = checks.passed _ _ _ ok;
     }
 
 returns-3 : tie.Need-returns-3
-returns-3 c = called-0 _ _ _ (passed (c .before .before .before .before .before .before .before))
+returns-3 c = called-0 _ _ _ _ (passed (c .before .before .before .before .before .before .before .before))
     (none (c .before .before .before .before)) (c .before .before .write-move .ensures)
 
 pub call-spec : {M : Type 1} → statement M
@@ -46,9 +48,10 @@ call-spec =
     tie.close
     (tie.spec
     (λ c κs. tt)
+    (λ c κs. c .before .before .all-nodes .ensures)
     (λ c. search needs)
-    returns
-    (λ c κs. passed (c .before))
+    (λ c. called-16 _ _ _ _ _ (c .before .check-state .ensures .returns) (c .if1 .taken))
+    (λ c κs. checks.passed _ _ _ (passed (c .before .before)))
     (λ c. search needs)
     returns-2
     write-move-requires

@@ -2,7 +2,8 @@
 use mathlib.Core.Path.{_≡_, sym, _∙_}
 use denote.Ref.{now}
 use Rattle.runs.specs.Calls.{together}
-use Rattle.run_state.specs.State.{stateRefusal}
+use Rattle.run_state.specs.Under.{stateRefusalUnder}
+use Rattle.run_state.proofs.Passed as checks
 use Rattle.run_refusals.specs.Events.{callRefusal}
 use Rattle.run_refusals.proofs.Together.{accepted-rises, accepted-tasks}
 use Rattle.run_monitor.proofs.Called.{called-16, called-22, called-0}
@@ -10,31 +11,26 @@ use borrow.Author.Needs.{needs}
 use Rattle.run_monitor.proofs.finish_together.Statement.{statement}
 use Rattle.run_monitor.proofs.finish_together.Tie as tie
 
-passed : (c : tie.Else1) → stateRefusal (now (c .before .before .before .before .before .before .args .plan))
-    (now (c .before .before .before .before .before .before .args .state)) ≡ 0
-passed c = sym (c .before .check-state .ensures) ∙ c .if1 .left
+passed : (c : tie.Else1) → stateRefusalUnder (now (c .before .before .before .before .before .before .before .before .before .args .plan)) (now (c .before .before .before .before .before .before .before .before .before .args .blocked))
+    (now (c .before .before .before .before .before .before .before .before .before .args .state)) ≡ 0
+passed c = sym (c .before .check-state .ensures .returns) ∙ c .if1 .left
 
-none : (c : tie.Else2)
-    → callRefusal (now (c .before .before .before .before .before .before .before .before .before .args .plan))
-    (now (c .before .before .before .before .before .before .before .before .before .args .state))
-    (together (now (c .before .before .before .before .before .before .before .before .before .args .tasks))) ≡ 0
-none c = sym (c .before .together-refused .ensures) ∙ c .if2 .left
+refusal-is : (c : tie.After-together-refused) → c .together-refused .result ≡ callRefusal (now (c .before .before .before .before .before .before .before .before .before .before .before .args .plan))
+    (now (c .before .before .before .before .before .before .before .before .before .before .before .args .blocked)) (now (c .before .before .before .before .before .before .before .before .before .before .before .args .state)) (together (now (c .before .before .before .before .before .before .before .before .before .before .before .args .tasks)))
+refusal-is c = c .together-refused .ensures _ (passed (c .before .before))
 
-returns : tie.Need-returns
-returns c = called-16 _ _ _ _ (c .before .check-state .ensures) (c .if1 .taken)
-
-returns-2 : tie.Need-returns-2
-returns-2 c = called-22 _ _ _ (passed (c .before .before .before)) _ (c .before .together-refused .ensures)
-    (c .if2 .taken)
+none : (c : tie.Else2) → callRefusal (now (c .before .before .before .before .before .before .before .before .before .before .before .before .args .plan)) (now (c .before .before .before .before .before .before .before .before .before .before .before .before .args .blocked)) (now (c .before .before .before .before .before .before .before .before .before .before .before .before .args .state))
+    (together (now (c .before .before .before .before .before .before .before .before .before .before .before .before .args .tasks))) ≡ 0
+none c = sym (refusal-is (c .before)) ∙ c .if2 .left
 
 write-finishes-requires : tie.Need-write-finishes-requires
 write-finishes-requires c κs =
     let ok = passed (c .before .before .before .before) in
     let z = none (c .before) in
-    record { passed = ok; rises = accepted-rises _ _ ok _ z; tasks = accepted-tasks _ _ ok _ z }
+    record { passed = checks.passed _ _ _ ok; rises = accepted-rises _ _ _ ok _ z; tasks = accepted-tasks _ _ _ ok _ z }
 
 returns-3 : tie.Need-returns-3
-returns-3 c = called-0 _ _ _ (passed (c .before .before .before .before .before .before .before))
+returns-3 c = called-0 _ _ _ _ (passed (c .before .before .before .before .before .before .before))
     (none (c .before .before .before .before)) (c .before .before .write-finishes .ensures)
 
 pub finish-together-spec : {M : Type 1} → statement M
@@ -42,11 +38,12 @@ finish-together-spec =
     tie.close
     (tie.spec
     (λ c κs. tt)
+    (λ c κs. c .before .before .all-nodes .ensures)
     (λ c. search needs)
-    returns
-    (λ c κs. passed (c .before))
+    (λ c. called-16 _ _ _ _ _ (c .before .check-state .ensures .returns) (c .if1 .taken))
+    (λ c κs. checks.passed _ _ _ (passed (c .before)))
     (λ c. search needs)
-    returns-2
+    (λ c. called-22 _ _ _ _ (passed (c .before .before .before)) _ (refusal-is (c .before)) (c .if2 .taken))
     write-finishes-requires
     (λ c. search needs)
     returns-3)

@@ -7,59 +7,55 @@ use borrow.Author.Needs.{needs}
 use Rattle.plan_format.specs.Format.{nodeCount}
 use Rattle.plan_check.proofs.Meaning.{kind-is}
 use Rattle.runs.specs.Execution as execution
-use Rattle.run_state.specs.State.{stateRefusal}
-use Rattle.run_state.proofs.Passed.{has-room}
+use Rattle.run_state.specs.Under.{stateRefusalUnder}
+use Rattle.run_state.proofs.Refused.{Roomy}
+use Rattle.run_state.proofs.Passed as checks
 use Rattle.run_refusals.specs.Events.{eventRefusal}
 use Rattle.run_refusals.proofs.Chain.{skip-optional}
 use Rattle.run_monitor.proofs.Called.{called-16, called-22, called-0}
 use Rattle.run_monitor.proofs.skip.Statement.{statement}
 use Rattle.run_monitor.proofs.skip.Tie as tie
 
-passed : (c : tie.Else1) → stateRefusal (now (c .before .before .before .before .before .args .plan))
-    (now (c .before .before .before .before .before .args .state)) ≡ 0
-passed c = sym (c .before .check-state .ensures) ∙ c .if1 .left
+passed : (c : tie.Else1) → stateRefusalUnder (now (c .before .before .before .before .before .before .before .before .args .plan)) (now (c .before .before .before .before .before .before .before .before .args .blocked))
+    (now (c .before .before .before .before .before .before .before .before .args .state)) ≡ 0
+passed c = sym (c .before .check-state .ensures .returns) ∙ c .if1 .left
 
-none : (c : tie.Else2) → eventRefusal (now
-    (c .before .before .before .before .before .before .before .before .args .plan))
-    (now (c .before .before .before .before .before .before .before .before .args .state))
-    (execution.skip (c .before .before .before .before .before .before .before .before .args .group)) ≡ 0
-none c = sym (c .before .skip-refused .ensures) ∙ c .if2 .left
+room : (c : tie.Else1) → Roomy (now (c .before .before .before .before .before .before .before .before .args .plan)) (now (c .before .before .before .before .before .before .before .before .args .state))
+room c = checks.has-room _ _ (checks.passed _ _ _ (passed c))
 
-group-below : (c : tie.Else2)
-    → c .before .before .before .before .before .before .before .before .args .group < nodeCount
-    (now (c .before .before .before .before .before .before .before .before .args .plan))
-group-below c = kind-is _ _ 3 (skip-optional _ _ (passed (c .before .before .before)) _ (none c)) .0
+refusal-is : (c : tie.After-skip-refused) → c .skip-refused .result ≡ eventRefusal (now (c .before .before .before .before .before .before .before .before .before .before .before .args .plan))
+    (now (c .before .before .before .before .before .before .before .before .before .before .before .args .blocked)) (now (c .before .before .before .before .before .before .before .before .before .before .before .args .state)) (execution.skip (c .before .before .before .before .before .before .before .before .before .before .before .args .group))
+refusal-is c = let e = c .before .before .before in
+    c .skip-refused .ensures _ (passed e) (e .before .check-state .ensures .standing (e .if1 .left))
 
-returns : tie.Need-returns
-returns c = called-16 _ _ _ _ (c .before .check-state .ensures) (c .if1 .taken)
+none : (c : tie.Else2) → eventRefusal (now (c .before .before .before .before .before .before .before .before .before .before .before .before .args .plan)) (now (c .before .before .before .before .before .before .before .before .before .before .before .before .args .blocked)) (now (c .before .before .before .before .before .before .before .before .before .before .before .before .args .state))
+    (execution.skip (c .before .before .before .before .before .before .before .before .before .before .before .before .args .group)) ≡ 0
+none c = sym (refusal-is (c .before)) ∙ c .if2 .left
+
+group-below : (c : tie.Else2) → c .before .before .before .before .before .before .before .before .before .before .before .before .args .group < nodeCount (now (c .before .before .before .before .before .before .before .before .before .before .before .before .args .plan))
+group-below c = kind-is _ _ 3 (skip-optional _ _ _ (passed (c .before .before .before .before)) _ (none c)) .0
 
 returns-2 : tie.Need-returns-2
-returns-2 c = called-22 _ _ _ (passed (c .before .before .before)) _ (c .before .skip-refused .ensures) (c .if2 .taken)
+returns-2 c = called-22 _ _ _ _ (passed (c .before .before .before .before)) _ (refusal-is (c .before)) (c .if2 .taken)
 
 add-state : tie.Need-add-state
-add-state c = omega (
-  arith,
-  group-below c,
-  has-room _ _ (passed (c .before .before .before)) .plan .fits .limits .nodes,
-)
+add-state c = omega (arith, group-below c, room (c .before .before .before .before) .plan .fits .limits .nodes)
 
 slice-write-state : tie.Need-slice-write-state
-slice-write-state c = omega (arith, group-below c, has-room _ _ (passed (c .before .before .before)) .room)
-
-returns-3 : tie.Need-returns-3
-returns-3 c = called-0 _ _ _ (passed (c .before .before .before)) (none c) refl
+slice-write-state c = omega (arith, group-below c, room (c .before .before .before .before) .room)
 
 pub skip-spec : {M : Type 1} → statement M
 skip-spec =
     tie.close
     (tie.spec
     (λ c κs. tt)
+    (λ c κs. c .before .before .all-nodes .ensures)
     (λ c. search needs)
-    returns
-    (λ c κs. passed (c .before))
+    (λ c. called-16 _ _ _ _ _ (c .before .check-state .ensures .returns) (c .if1 .taken))
+    (λ c κs. checks.passed _ _ _ (passed (c .before .before)))
     (λ c. search needs)
     returns-2
     add-state
     slice-write-state
     (λ c. search needs)
-    returns-3)
+    (λ c. called-0 _ _ _ _ (passed (c .before .before .before .before)) (none c) refl))

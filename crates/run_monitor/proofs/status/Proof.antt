@@ -2,41 +2,42 @@
 use mathlib.Core.Path.{_≡_, sym, _∙_}
 use denote.Ref.{now}
 use Rattle.run_state.specs.State.{stateRefusal}
-use Rattle.run_state.proofs.Passed.{has-room}
+use Rattle.run_state.specs.Under.{stateRefusalUnder}
+use Rattle.run_state.proofs.Passed as checks
 use Rattle.run_monitor.proofs.Answers.{told-refused, told-complete, told-unfinished}
-use borrow.Author.Needs.{needs}
 use native.Mathlib.Omega.{arith}
 use Rattle.run_monitor.proofs.status.Statement.{statement}
 use Rattle.run_monitor.proofs.status.Tie as tie
 
-passed : (c : tie.Else1) → stateRefusal (now (c .before .before .before .before .args .plan))
-    (now (c .before .before .before .before .args .state)) ≡ 0
-passed c = sym (c .before .check-state .ensures) ∙ c .if1 .left
+passed : (c : tie.Else1) → stateRefusalUnder (now (c .before .before .before .before .before .before .before .args .plan)) (now (c .before .before .before .before .before .before .before .args .blocked))
+    (now (c .before .before .before .before .before .before .before .args .state)) ≡ 0
+passed c = sym (c .before .check-state .ensures .returns) ∙ c .if1 .left
 
-returns : tie.Need-returns
-returns c = told-refused _ _ _ (c .before .check-state .ensures) (c .if1 .taken)
+whole : (c : tie.Else1) → stateRefusal (now (c .before .before .before .before .before .before .before .args .plan)) (now (c .before .before .before .before .before .before .before .args .state)) ≡ 0
+whole c = checks.passed _ _ _ (passed c)
 
 is-complete-requires : tie.Need-is-complete-requires
 is-complete-requires c κs = (
-  has-room _ _ (passed (c .before .before)) .plan .fits .limits .some-node,
-  (passed (c .before .before), c .before .children .ensures .1 0 (omega arith)),
+  checks.has-room _ _ (whole (c .before .before)) .plan .fits .limits .some-node,
+  (whole (c .before .before), c .before .children .ensures .1 0 (omega arith)),
 )
 
 returns-2 : tie.Need-returns-2
-returns-2 c = told-complete _ _ (passed (c .before .before .before .before))
+returns-2 c = told-complete _ _ _ (passed (c .before .before .before .before))
     (sym (c .before .is-complete .ensures) ∙ c .if2 .taken)
 
 returns-3 : tie.Need-returns-3
-returns-3 c = told-unfinished _ _ (passed (c .before .before .before .before))
+returns-3 c = told-unfinished _ _ _ (passed (c .before .before .before .before))
     (sym (c .before .is-complete .ensures) ∙ c .if2 .left)
 
 pub status-spec : {M : Type 1} → statement M
 status-spec =
     tie.close
     (tie.spec
-    (λ c κs. search needs)
-    returns
-    (λ c κs. passed c)
+    (λ c κs. tt)
+    (λ c κs. c .before .all-nodes .ensures)
+    (λ c. told-refused _ _ _ _ (c .before .check-state .ensures .returns) (c .if1 .taken))
+    (λ c κs. whole c)
     is-complete-requires
     returns-2
     returns-3)
