@@ -7,7 +7,9 @@ use native.Mathlib.Omega.{arith}
 use lib.ListN.{length, getD, replicate, length-replicate}
 use borrow.Author.Tests.{lt-ltb}
 use Rattle.plan_format.specs.Format.{nodeCount}
-use Rattle.plan_rules.specs.Rules.{refusal}
+use Rattle.plan_blocked.specs.Blocked.{planUnder, refusalUnder}
+use Rattle.plan_blocked.proofs.Refused.{plan-accepted, blocks}
+use Rattle.runs.specs.Tests.{listed}
 use Rattle.plan_check.specs.Meaning.{planOf, startOf}
 use Rattle.plan_check.proofs.Meaning.{means-well-formed}
 use Rattle.runs.specs.Verdict.{Verdict, CLEAR, DOOMED, OPEN}
@@ -26,54 +28,55 @@ use Rattle.run_calls.specs.Lists.{Listed}
 use Rattle.run_calls.specs.Demand3.{Bytes, Demand3Of, Demand3}
 use Rattle.run_calls.proofs.Followed.{list-follows, list-made, list-each}
 
-module _ (b : List ℕ) (h : Bytes b) (acc : refusal b ≡ 0) where
-  on-plans : plans.Demand3 (planOf b) (startOf b)
-  on-plans = proved.demand3 (planOf b) (means-well-formed b acc) (startOf b)
+module _ (b xs : List ℕ) (h : Bytes b) (acc : refusalUnder b xs ≡ 0) where
+  on-plans : plans.Demand3 (planOf b) (listed xs) (startOf b)
+  on-plans = proved.demand3 (planOf b) (means-well-formed b (plan-accepted b xs acc)) (listed xs) (blocks b xs acc)
+      (startOf b)
 
   abbrev Never : Type 0
-  Never = (s : List ℕ) (cs : List Call) (rs z : List ℕ) → Listed b s cs rs z → plans.NoViolation rs
+  Never = (s : List ℕ) (cs : List Call) (rs z : List ℕ) → Listed b xs s cs rs z → plans.NoViolation rs
 
   -- the states worked out are those of some list of calls that was made
-  never-worked : Never → plans.NeverViolates (planOf b) (startOf b)
+  never-worked : Never → plans.NeverViolates (planOf b) (listed xs) (startOf b)
   never-worked g cs ns a w n x =
       let s : List ℕ = replicate {A = ℕ} (8 + 3 * nodeCount b) 0 in
-      let m = list-made b acc s (omega (arith, length-replicate {A = ℕ} (8 + 3 * nodeCount b) 0)) cs in
-      let f = list-follows b h s cs (m .0) (m .1) (m .2) in
+      let m = list-made b xs acc s (omega (arith, length-replicate {A = ℕ} (8 + 3 * nodeCount b) 0)) cs in
+      let f = list-follows b xs h s cs (m .0) (m .1) (m .2) in
       g s cs (m .0) (m .1) (m .2) n (rw (on-plans .unique w (f .worked) .0) at x)
 
   -- the case of the enum for a verdict
-  assessment : (v : Verdict) → v ≡ verdict (planOf b) (startOf b) → (r : Answer) × Assessed b r
-  assessment CLEAR e = (Given Clear, assessed b Clear acc e)
-  assessment DOOMED e = (Given Doomed, assessed b Doomed acc e)
-  assessment OPEN e = (Given Open, assessed b Open acc e)
+  assessment : (v : Verdict) → v ≡ verdict (planUnder b xs) (startOf b) → (r : Answer) × Assessed b xs r
+  assessment CLEAR e = (Given Clear, assessed b xs Clear acc e)
+  assessment DOOMED e = (Given Doomed, assessed b xs Doomed acc e)
+  assessment OPEN e = (Given Open, assessed b xs Open acc e)
 
   -- the ordinals in the bytes are those of the states worked out
-  positions : (s : List ℕ) (cs : List Call) (rs z : List ℕ) → Listed b s cs rs z → (n : ℕ) → n < nodeCount b → (k : ℕ)
+  positions : (s : List ℕ) (cs : List Call) (rs z : List ℕ) → Listed b xs s cs rs z → (n : ℕ) → n < nodeCount b → (k : ℕ)
       → (ordinalIn b z n ≡ suc k) ↔ ((k < length (acceptedStarts cs rs)) × (getD (acceptedStarts cs rs) k 0 ≡ n))
   unfolding worldOf ordinalShown
   positions s cs rs z l n m k =
-      let f = list-follows b h s cs rs z l in
+      let f = list-follows b xs h s cs rs z l in
       let e : f .after .ordinal n ≡ ordinalIn b z n = ap (λ (a : World). a .ordinal n) (sym (f .shown .states))
       ∙ rw (lt-ltb n (nodeCount b) m) in
       rw e at (on-plans .ordinals (f .worked) .position n k)
 
-  of-plan : Demand3Of b
+  of-plan : Demand3Of b xs
   unfolding worldOf
   of-plan =
       record {
-        made = list-made b acc;
-        assessed = assessment (verdict (planOf b) (startOf b)) refl;
-        each = list-each b h;
-        follows = list-follows b h;
+        made = list-made b xs acc;
+        assessed = assessment (verdict (planUnder b xs) (startOf b)) refl;
+        each = list-each b xs h;
+        follows = list-follows b xs h;
         ordinals = positions;
         answer = λ r x. let (v, j, u) = on-plans .judged in (v, x .judged acc v .1 j, j, u);
         clear = λ r x. (
-          λ q s cs rs z l. let f = list-follows b h s cs rs z l in
+          λ q s cs rs z l. let f = list-follows b xs h s cs rs z l in
               on-plans .clear .0 (x .judged acc CLEAR .0 q) cs rs (f .after) (f .worked),
           λ g. x .judged acc CLEAR .1 (on-plans .clear .1 (never-worked g)),
         );
         doomed = λ r x q s cs rs z l.
-            let f = list-follows b h s cs rs z l in
+            let f = list-follows b xs h s cs rs z l in
             let d = x .judged acc DOOMED .0 q in (
               λ a w. on-plans .doomed d cs rs a w,
               λ t k c. on-plans .doomed d cs rs (f .after) (f .worked)

@@ -16,18 +16,19 @@ use Rattle.runs.specs.Plan.{placeNumber}
 use Rattle.runs.specs.Execution.{Event, History, nodeOf, statusOf}
 use Rattle.runs.specs.Calls.{Call, statusByte}
 use Rattle.run_starts.specs.Starts.{nodeByte, ordinalAt, ordinalIn, startedIn}
-use Rattle.run_state.specs.State.{roomRefusal, stateRefusal, moves, ordinalShown, worldOf}
+use Rattle.run_state.specs.State.{stateRefusal, moves, ordinalShown, worldOf}
+use Rattle.run_state.specs.Under.{roomRefusalUnder, stateRefusalUnder}
 use Rattle.run_state.specs.Fresh.{freshByte, freshState}
 use Rattle.base.specs.Answers.{overlay}
-use Rattle.run_state.proofs.Refused.{roomy}
+use Rattle.run_state.proofs.Refused.{roomy, room-passed}
 use Rattle.base.proofs.Overlay.{length-overlay, at-overlay, past-overlay}
 use Rattle.run_state.proofs.Left.{fresh-accepted}
-use Rattle.run_state.proofs.Passed.{has-room, is-well, byte-rests, byte-optional, byte-shown}
+use Rattle.run_state.proofs.Passed.{passed, has-room, is-well, byte-rests, byte-optional, byte-shown}
 use Rattle.run_starts.proofs.Numbers.{unstarted-none, ordinal-small}
 use Rattle.node_sets.specs.Sets.{only}
 use Rattle.run_refusals.specs.Events.{eventPlace, callRefusal}
 use Rattle.run_monitor.specs.Events.{afterAll, callState}
-use Rattle.run_monitor.proofs.Events.{Going, nothing, going, all-happened, call-goes}
+use Rattle.run_monitor.proofs.Events.{Going, nothing, going, goes-under, call-goes}
 use Rattle.run_monitor.proofs.Equations.{refused-22, accepted}
 use Rattle.run_monitor.proofs.Written.{byte-flags}
 use Rattle.run_monitor.proofs.After.{Fit, after, inside, after-length, after-past, after-flags, event-written}
@@ -41,15 +42,15 @@ pub record Kept (b s z : List ℕ) : Type 0 where
   pub small : (k : ℕ) → k < 8 → getD z k 0 < 256
 
 -- ---- fresh
-pub fresh-kept : (b s : List ℕ) → Bytes b → roomRefusal b s ≡ 0 → Kept b s (freshState b s)
+pub fresh-kept : (b xs s : List ℕ) → Bytes b → roomRefusalUnder b xs s ≡ 0 → Kept b s (freshState b xs s)
 unfolding freshByte
-fresh-kept b s h e =
+fresh-kept b xs s h e =
     let n = 8 + 3 * nodeCount b in
-    rw (sym (fresh-accepted b s e))
+    rw (sym (fresh-accepted b xs s e))
     (record {
       same-length = length-overlay (freshByte b) s n;
       later = λ k l. past-overlay (freshByte b) s n k l;
-      small = λ k l. rw (at-overlay (freshByte b) s n k (roomy b s e .room) (omega arith), lt-ltb k 8 l) (h (8 + k));
+      small = λ k l. rw (at-overlay (freshByte b) s n k (roomy b s (room-passed b xs s e) .room) (omega arith), lt-ltb k 8 l) (h (8 + k));
     })
 
 -- ---- events
@@ -77,18 +78,18 @@ module _ (b s z : List ℕ) (ok : stateRefusal b z ≡ 0) (h : Kept b s z) (e : 
       }
 
 -- ---- calls
-module _ (b s z : List ℕ) (ok : stateRefusal b z ≡ 0) (h : Kept b s z) where
-  events-kept : {es : History} → Going b z es → Kept b s (afterAll b z es)
+module _ (b xs s z : List ℕ) (under : stateRefusalUnder b xs z ≡ 0) (h : Kept b s z) where
+  events-kept : {es : History} → Going b xs z es → Kept b s (afterAll b z es)
   events-kept nothing = h
-  events-kept (going {e = e} {h = es} g fit asked) =
-      let w = all-happened b z ok g .well-formed in
+  events-kept (going {e = e} {h = es} g fit st asked) =
+      let w = passed b xs (afterAll b z es) (goes-under b xs z under g .well-formed) in
       rw (event-written b (afterAll b z es) w e fit) (written-kept b s (afterAll b z es) w (events-kept g) e fit)
 
-  pub call-kept : (c : Call) → Kept b s (callState b z c)
+  pub call-kept : (c : Call) → Kept b s (callState b xs z c)
   call-kept c =
-      by-cases (ℕ-discrete (callRefusal b z c) 0)
-      (λ w. rw (sym (accepted b z c ok w .1)) (events-kept (call-goes b z ok c w)))
-      (λ n. rw (sym (refused-22 b z c ok n .1)) h)
+      by-cases (ℕ-discrete (callRefusal b xs z c) 0)
+      (λ w. rw (sym (accepted b xs z c under w .1)) (events-kept (call-goes b xs z under c w)))
+      (λ n. rw (sym (refused-22 b xs z c under n .1)) h)
 
 -- ---- the bytes of a state are those of what it shows
 -- a small number in two bytes

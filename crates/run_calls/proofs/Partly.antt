@@ -19,7 +19,9 @@ use Rattle.runs.specs.Model.Monitor.{returns}
 use Rattle.runs.proofs.Calls.First.{worked-only}
 use Rattle.run_state.specs.Fresh.{Freshened}
 use Rattle.run_state.proofs.Left.{fresh-refused}
-use Rattle.run_state.proofs.Passed.{well-formed}
+use Rattle.run_state.proofs.Passed.{list-passed}
+use Rattle.plan_blocked.specs.Blocked.{planUnder}
+use Rattle.plan_blocked.proofs.Refused.{under-well-formed}
 use Rattle.run_monitor.specs.Events.{Called}
 use Rattle.run_calls.specs.Shown.{shownByte}
 use Rattle.run_calls.specs.Lists.{Calls, no-calls, next-call, Listed}
@@ -64,23 +66,23 @@ part-is ts n e f a p q =
     (λ l. let y : a ≡ n = omega arith in
     ap (λ (k : ℕ). take (f - a) (drop k ts)) y ∙ ap (λ (k : ℕ). take k (drop n ts)) m ∙ t)
 
-pub called-part : {b s s′ : List ℕ} {r : ℕ} (ts : List ℕ) (n e f a : ℕ) → f ≡ min e (length ts) → a ≡ min n f
-    → Called b s (together (take (f - a) (drop a ts))) r s′ → Called b s (together (take (e - n) (drop n ts))) r s′
+pub called-part : {b xs s s′ : List ℕ} {r : ℕ} (ts : List ℕ) (n e f a : ℕ) → f ≡ min e (length ts) → a ≡ min n f
+    → Called b xs s (together (take (f - a) (drop a ts))) r s′ → Called b xs s (together (take (e - n) (drop n ts))) r s′
 called-part ts n e f a p q h = rw (part-is ts n e f a p q) at h
 
 -- ---- one call more
 -- the first i calls are made, from the state that fresh wrote, and their returns are written to out
-pub record Partly (b at-first out : List ℕ) (cs : List Call) (i : ℕ) (s out′ : List ℕ) : Type 0 where
+pub record Partly (b xs at-first out : List ℕ) (cs : List Call) (i : ℕ) (s out′ : List ℕ) : Type 0 where
   pub returned : List ℕ
   pub long : length returned ≡ i
-  pub called : Calls b at-first (take i cs) returned s
+  pub called : Calls b xs at-first (take i cs) returned s
   pub written : out′ ≡ returned ++ drop i out
 
-pub partly-none : (b s out : List ℕ) (cs : List Call) → Partly b s out cs 0 s out
-partly-none b s out cs = record { returned = []; long = refl; called = no-calls; written = refl }
+pub partly-none : (b xs s out : List ℕ) (cs : List Call) → Partly b xs s out cs 0 s out
+partly-none b xs s out cs = record { returned = []; long = refl; called = no-calls; written = refl }
 
-module _ (b at-first out : List ℕ) (cs : List Call) (i : ℕ) (s out′ : List ℕ)
-    (h : Partly b at-first out cs i s out′) where
+module _ (b xs at-first out : List ℕ) (cs : List Call) (i : ℕ) (s out′ : List ℕ)
+    (h : Partly b xs at-first out cs i s out′) where
   pub partly-length : i ≤ length out → length out′ ≡ length out
   partly-length l =
       let q : length (h .returned ++ drop i out) ≡ i + length (drop i out) = length-append (h .returned) (drop i out)
@@ -88,7 +90,7 @@ module _ (b at-first out : List ℕ) (cs : List Call) (i : ℕ) (s out′ : List
       ap length (h .written) ∙ q ∙ omega (arith, length-drop i out)
 
   pub partly-more : i < length cs → i < length out → (d : Call) (r : ℕ) (s′ : List ℕ)
-      → getD cs i (one (start 0)) ≡ d → Called b s d r s′ → Partly b at-first out cs (i + 1) s′ (set out′ i r)
+      → getD cs i (one (start 0)) ≡ d → Called b xs s d r s′ → Partly b xs at-first out cs (i + 1) s′ (set out′ i r)
   partly-more l m d r s′ q c =
       let p : take (suc i) cs ≡ take i cs ++ (d ∷ []) = take-suc cs i (one (start 0)) l
       ∙ ap (λ (x : Call). take i cs ++ (x ∷ [])) q in
@@ -103,24 +105,25 @@ module _ (b at-first out : List ℕ) (cs : List Call) (i : ℕ) (s out′ : List
       }
 
 -- ---- the whole
-module _ (b s out : List ℕ) (cs : List Call) where
-  pub ran-refused : (r : ℕ) (s′ : List ℕ) → Freshened b s r s′ → (r ≡ 0 → ⊥) → Ran b s out cs r s′ out
+module _ (b xs s out : List ℕ) (cs : List Call) where
+  pub ran-refused : (r : ℕ) (s′ : List ℕ) → Freshened b xs s r s′ → (r ≡ 0 → ⊥) → Ran b xs s out cs r s′ out
   ran-refused r s′ f n =
       record {
         returns = f .returns;
-        leaves = f .leaves ∙ sym (fresh-refused b s (λ z. n (f .returns ∙ z))) ∙ rw (ne-eqb r 0 n);
+        leaves = f .leaves ∙ sym (fresh-refused b xs s (λ z. n (f .returns ∙ z))) ∙ rw (ne-eqb r 0 n);
         writes = rw (ne-eqb r 0 n);
         listed = λ z. absurd (n z);
         follows = λ z. absurd (n z);
       }
 
-  pub ran-all : Bytes b → (at-first : List ℕ) → Freshened b s 0 at-first → (rs z : List ℕ) → Calls b at-first cs rs z
-      → (out′ : List ℕ) → out′ ≡ rs ++ drop (length cs) out → Ran b s out cs 0 z out′
+  pub ran-all : Bytes b → (at-first : List ℕ) → Freshened b xs s 0 at-first → (rs z : List ℕ) → Calls b xs at-first cs rs z
+      → (out′ : List ℕ) → out′ ≡ rs ++ drop (length cs) out → Ran b xs s out cs 0 z out′
   unfolding listReturns listState
   ran-all h at-first f rs z c out′ w =
-      let l : Listed b s cs rs z = record { at-first = at-first; freshened = f; called = c } in
-      let g = list-follows b h s cs rs z l in
-      let (p, q) = worked-only (planOf b) (well-formed b z (g .shown .well-formed)) (g .worked) in
+      let l : Listed b xs s cs rs z = record { at-first = at-first; freshened = f; called = c } in
+      let g = list-follows b xs h s cs rs z l in
+      let (p, q) = worked-only (planOf b) (planUnder b xs)
+      (under-well-formed b xs (list-passed b xs z (g .shown .well-formed))) (g .worked) in
       record {
         returns = f .returns;
         leaves = g .shown .bytes ∙ ap (λ (a : World). overlay (shownByte (nodeCount b) a) (8 + 3 * nodeCount b) s) q;

@@ -11,7 +11,8 @@ use Rattle.plan_check.specs.Meaning.{planOf, startOf}
 use Rattle.runs.specs.Execution.{start, finish, skip}
 use Rattle.runs.specs.Calls.{Call, one, together, fresh}
 use Rattle.runs.specs.Model.Monitor.{returns, states}
-use Rattle.run_state.specs.State.{roomRefusal}
+use Rattle.run_state.specs.Under.{roomRefusalUnder}
+use Rattle.plan_blocked.specs.Blocked.{planUnder}
 use Rattle.run_calls.specs.Shown.{shownByte}
 use Rattle.run_calls.specs.Lists.{Listed}
 use Rattle.run_calls.specs.Demand3.{Follows}
@@ -33,21 +34,21 @@ callsOf (k ∷ ks) (n ∷ ns) (e ∷ es) ts [] = []
 callsOf (k ∷ ks) (n ∷ ns) (e ∷ es) ts (x ∷ out) = callFor k n e ts ∷ callsOf ks ns es ts out
 
 -- from the plan and the calls alone: what the calls return, and the state after them in the bytes s
-unfoldable pub listReturns : List ℕ → List Call → List ℕ
-listReturns b cs = returns (planOf b) (fresh (startOf b)) cs
+unfoldable pub listReturns : List ℕ → List ℕ → List Call → List ℕ
+listReturns b xs cs = returns (planOf b) (planUnder b xs) (fresh (startOf b)) cs
 
-unfoldable pub listState : List ℕ → List ℕ → List Call → List ℕ
-listState b s cs =
-    overlay (shownByte (nodeCount b) (states (planOf b) (fresh (startOf b)) cs)) (8 + 3 * nodeCount b) s
+unfoldable pub listState : List ℕ → List ℕ → List ℕ → List Call → List ℕ
+listState b xs s cs =
+    overlay (shownByte (nodeCount b) (states (planOf b) (planUnder b xs) (fresh (startOf b)) cs)) (8 + 3 * nodeCount b) s
 
 -- Where fresh refuses, all is as it was. Else the state is the one after the calls cs, the first places of out hold
 -- what they returned, and the claim of demand 3 about lists holds of them.
-pub record Ran (b s out : List ℕ) (cs : List Call) (r : ℕ) (s′ out′ : List ℕ) : Type 0 where
-  pub returns : r ≡ roomRefusal b s
-  pub leaves : s′ ≡ cond (eqb r 0) (listState b s cs) s
-  pub writes : out′ ≡ cond (eqb r 0) (listReturns b cs ++ drop (length cs) out) out
-  pub listed : r ≡ 0 → Listed b s cs (listReturns b cs) s′
-  pub follows : r ≡ 0 → Follows b s cs (listReturns b cs) s′
+pub record Ran (b xs s out : List ℕ) (cs : List Call) (r : ℕ) (s′ out′ : List ℕ) : Type 0 where
+  pub returns : r ≡ roomRefusalUnder b xs s
+  pub leaves : s′ ≡ cond (eqb r 0) (listState b xs s cs) s
+  pub writes : out′ ≡ cond (eqb r 0) (listReturns b xs cs ++ drop (length cs) out) out
+  pub listed : r ≡ 0 → Listed b xs s cs (listReturns b xs cs) s′
+  pub follows : r ≡ 0 → Follows b xs s cs (listReturns b xs cs) s′
 
-abbrev pub Replayed : List ℕ → List ℕ → List ℕ → List ℕ → List ℕ → List ℕ → List ℕ → ℕ → List ℕ → List ℕ → Type 0
-Replayed b ks ns es ts s out r s′ out′ = Ran b s out (callsOf ks ns es ts out) r s′ out′
+abbrev pub Replayed : List ℕ → List ℕ → List ℕ → List ℕ → List ℕ → List ℕ → List ℕ → List ℕ → ℕ → List ℕ → List ℕ → Type 0
+Replayed b xs ks ns es ts s out r s′ out′ = Ran b xs s out (callsOf ks ns es ts out) r s′ out′

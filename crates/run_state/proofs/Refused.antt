@@ -91,11 +91,13 @@ module _ (b xs s : List ℕ) where
   unfolding roomRefusalUnder tooShort
   room-short-under e l = record { returns = simp (e, lt-ltb _ _ l); standing = λ z. absurd (omega arith) }
 
+  pub room-enough : refusalUnder b xs ≡ 0 → 8 + 3 * nodeCount b ≤ length s → 0 ≡ roomRefusalUnder b xs s
+  unfolding roomRefusalUnder tooShort
+  room-enough e l = simp (e, le-ltb _ _ l)
+
   pub room-long-under : {r : ℕ} {table : List ℕ} → blocked.Checked b xs r table → r ≡ 0
       → 8 + 3 * nodeCount b ≤ length s → Checked b xs (roomRefusalUnder b xs s) 0 table
-  unfolding roomRefusalUnder tooShort
-  room-long-under c z l = let e = sym (c .returns) ∙ z in
-      record { returns = simp (e, le-ltb _ _ l); standing = λ q. c .standing z }
+  room-long-under c z l = record { returns = room-enough (sym (c .returns) ∙ z) l; standing = λ q. c .standing z }
 
   pub state-refused : {r : ℕ} {table : List ℕ} → Checked b xs (roomRefusalUnder b xs s) r table → (r ≡ 0 → ⊥)
       → Checked b xs (stateRefusalUnder b xs s) r table

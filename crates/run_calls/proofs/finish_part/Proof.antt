@@ -21,7 +21,7 @@ part-end c = omega (arith, c .before .before .least .ensures)
 returns : tie.Need-returns
 returns c =
     let l = c .before .before .before .before .before in
-    let a = l .before .before .before .before .before .args in
+    let a = l .before .before .before .before .before .before .args in
     called-part (now (a .tasks)) (a .from) (a .to) _ _ (l .before .least .ensures) (l .least2 .ensures)
     (c .before .before .finish-together .ensures)
 

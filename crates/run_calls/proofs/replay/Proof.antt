@@ -15,17 +15,17 @@ use Rattle.run_calls.proofs.replay.Statement.{statement}
 use Rattle.run_calls.proofs.replay.Tie as tie
 
 abbrev Inv-loop : tie.InvT-loop
-Inv-loop plan codes nodes ends tasks state₀ returns₀ r n i₀ state returns i =
+Inv-loop plan blocked codes nodes ends tasks state₀ returns₀ r n i₀ state returns i =
     ((i ≤ n) × (length state ≡ length state₀))
-    × Partly plan state₀ returns₀ (callsOf codes nodes ends tasks returns₀) i state returns
+    × Partly plan blocked state₀ returns₀ (callsOf codes nodes ends tasks returns₀) i state returns
 
 abbrev μ-loop : tie.MeasureT-loop
-μ-loop plan codes nodes ends tasks state₀ returns₀ r n i₀ state returns i = n - i
+μ-loop plan blocked codes nodes ends tasks state₀ returns₀ r n i₀ state returns i = n - i
 
 -- where the number of calls is known: what the function was given, and the calls
 abbrev entry : tie.After-least3 Inv-loop μ-loop → tie.Start Inv-loop μ-loop
 entry c = c .before .before .before .before .before .before .before .before .before .before .before .before .before
-    .before .before
+    .before .before .before
 
 abbrev calls : tie.After-least3 Inv-loop μ-loop → List Call
 calls c = let a = entry c .args in
@@ -58,10 +58,10 @@ below c =
     record { codes = omega arith; nodes = omega arith; ends = omega arith; returns = omega arith }
 
 returns : tie.Need-returns Inv-loop μ-loop
-returns c = ran-refused _ _ _ _ _ _ (c .before .before .before .fresh .ensures) (c .if1 .taken)
+returns c = ran-refused _ _ _ _ _ _ _ (c .before .before .before .fresh .ensures) (c .if1 .taken)
 
 loop-holds : tie.Need-loop-holds Inv-loop μ-loop
-loop-holds c = ((omega arith, refl), partly-none _ _ _ _)
+loop-holds c = ((omega arith, refl), partly-none _ _ _ _ _)
 
 shared-slice-read-make : tie.Need-shared-slice-read-make Inv-loop μ-loop
 shared-slice-read-make c = below (c .before .before) .codes
@@ -85,7 +85,7 @@ slice-write-returns : tie.Need-slice-write-returns Inv-loop μ-loop
 slice-write-returns c =
     let t = c .before .before .before .before .before .before .before in
     let l = below t .returns in
-    omega (arith, l, partly-length _ _ _ _ _ _ _ (t .before .loop .inv .1) (omega (arith, l)))
+    omega (arith, l, partly-length _ _ _ _ _ _ _ _ (t .before .loop .inv .1) (omega (arith, l)))
 
 loop-again : tie.Need-loop-again Inv-loop μ-loop
 loop-again c =
@@ -94,15 +94,15 @@ loop-again c =
     let a = entry (t .before .before) .args in
     let q : l .i < length (calls (t .before .before)) =
     omega (arith, count (t .before .before), t .loop-test .taken) in
-    let z : length (c .before .before .make .last .1 .0) ≡ length (l .state) = search needs in (
+    let z : length (c .before .before .make .last .1 .1 .0) ≡ length (l .state) = search needs in (
       (omega (arith, t .loop-test .taken), z ∙ l .inv .0 .1),
-      partly-more _ _ _ _ _ _ _ (l .inv .1) q (below t .returns) _ _ _
+      partly-more _ _ _ _ _ _ _ _ (l .inv .1) q (below t .returns) _ _ _
           (calls-at (now (a .codes)) (now (a .nodes)) (now (a .ends)) (now (a .tasks)) (now (a .returns)) (l .i) q)
           (c .before .before .make .ensures),
     )
 
 same-length-3 : tie.Need-same-length-3 Inv-loop μ-loop
-same-length-3 c = partly-length _ _ _ _ _ _ _ (c .before .loop .inv .1)
+same-length-3 c = partly-length _ _ _ _ _ _ _ _ (c .before .loop .inv .1)
     (omega (
       arith,
       c .before .before .least3 .ensures,
@@ -118,8 +118,8 @@ returns-2 c =
     let cs = calls a in
     let e : l .i ≡ length cs = omega (arith, count a, l .inv .0 .0, c .loop-test .left) in
     let f = a .before .before .before .before .before .before in
-    let p = f .before .before .before .before .before .before .before .before .shared-slice-known in
-    ran-all _ _ _ cs (λ i. omega (arith, p .given i)) _
+    let p = f .before .before .before .before .before .before .before .before .before .shared-slice-known in
+    ran-all _ _ _ _ cs (λ i. omega (arith, p .given i)) _
     (rw (a .before .before .before .if1 .left) at (f .fresh .ensures)) (l .inv .1 .returned) _
     (rw (e, take-length cs) at (l .inv .1 .called)) _ (rw e at (l .inv .1 .written))
 
