@@ -1,14 +1,15 @@
 -- The numbers of answers tell what the answers do. Assumes nothing.
 use mathlib.Core.Path.{_≡_, refl, sym, ap, _∙_}
-use mathlib.Core.Logic.{_⊎_, inr, _↔_, Iff·trans}
+use mathlib.Core.Logic.{_⊎_, inl, inr, _↔_, Iff·trans}
 use mathlib.Core.Bool.{cond}
 use mathlib.Core.List.{List}
-use Prim.Native.Nat.{ℕ}
+use Prim.Native.Nat.{ℕ, _<_}
+use native.Mathlib.Omega.{arith}
 use lib.Dec.{eqb}
 use Rattle.base.proofs.First.{answer-none}
-use Rattle.plan_rules.specs.Rules.{refusal}
+use Rattle.plan_blocked.specs.Blocked.{refusalUnder}
 use Rattle.runs.specs.Verdict.{Verdict, CLEAR, DOOMED, OPEN}
-use Rattle.run_state.specs.State.{stateRefusal}
+use Rattle.run_state.specs.Under.{stateRefusalUnder}
 use Rattle.run_monitor.specs.declared.Progress.{Progress}
 use Rattle.run_monitor.specs.Status as status
 use Rattle.run_monitor.specs.Status.{Word, COMPLETE, UNFINISHED, Told, statusAnswer}
@@ -44,28 +45,41 @@ unfolding wordIn
 word-back COMPLETE = refl
 word-back UNFINISHED = refl
 
-pub verdict-told : (b : List ℕ) (a : Answer) {r : ℕ} → Assessed b a → r ≡ verdictNumber (said a) → VerdictNumber b r
+-- a number below those of the words is that of a refusal
+refusal-number : (x : ℕ ⊎ Verdict) (n : ℕ) → n < 128 → (verdictNumber x ≡ n) ↔ (x ≡ inl n)
+refusal-number x n l = (to x, λ q. ap verdictNumber q)
+  where
+    to : (y : ℕ ⊎ Verdict) → verdictNumber y ≡ n → y ≡ inl n
+    to (inl m) q = ap inl q
+    to (inr CLEAR) q = absurd (omega (arith, q))
+    to (inr DOOMED) q = absurd (omega (arith, q))
+    to (inr OPEN) q = absurd (omega (arith, q))
+
+pub verdict-told : (b xs : List ℕ) (a : Answer) {r : ℕ} → Assessed b xs a → r ≡ verdictNumber (said a)
+    → VerdictNumber b xs r
 unfolding answerOf
-verdict-told b a x q =
+verdict-told b xs a x q =
     record {
       returns = q ∙ ap verdictNumber (x .returns);
+      refused-28 = λ acc. rw q (Iff·trans (refusal-number (said a) 28 (omega arith)) (x .refused-28 acc));
+      refused-29 = λ acc. rw q (Iff·trans (refusal-number (said a) 29 (omega arith)) (x .refused-29 acc));
       judged = λ acc v.
           rw q
           (Iff·trans
-          (number-tells verdictNumber verdictIn verdict-back (x .returns ∙ sym (answer-none (refusal b) _ acc)) v)
+          (number-tells verdictNumber verdictIn verdict-back (x .returns ∙ sym (answer-none (refusalUnder b xs) _ acc)) v)
           (x .judged acc v));
     }
 
-pub status-told : (b s : List ℕ) (a : Progress) {r : ℕ} → Told b s a → r ≡ statusNumber (status.said a)
-    → StatusNumber b s r
+pub status-told : (b xs s : List ℕ) (a : Progress) {r : ℕ} → Told b xs s a → r ≡ statusNumber (status.said a)
+    → StatusNumber b xs s r
 unfolding statusAnswer
-status-told b s a x q =
+status-told b xs s a x q =
     record {
       returns = q ∙ ap statusNumber (x .returns);
       complete = λ ok.
           rw q
           (Iff·trans
-          (number-tells statusNumber wordIn word-back (x .returns ∙ sym (answer-none (stateRefusal b s) _ ok)) COMPLETE)
+          (number-tells statusNumber wordIn word-back (x .returns ∙ sym (answer-none (stateRefusalUnder b xs s) _ ok)) COMPLETE)
           (λ c. x .complete .0 c .1, λ c. x .complete .1 (ok, c)));
     }
 

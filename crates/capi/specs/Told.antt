@@ -6,9 +6,12 @@ use mathlib.Core.List.{List}
 use Prim.Native.Nat.{ℕ}
 use Rattle.plan_rules.specs.Rules.{refusal}
 use Rattle.plan_check.specs.Meaning.{planOf, startOf}
+use Rattle.plan_blocked.specs.Blocked.{planUnder, refusalUnder}
+use Rattle.runs.specs.Blocked.{Refused28, Refused29}
 use Rattle.runs.specs.Execution.{Complete}
 use Rattle.runs.specs.Verdict.{Verdict, Judged}
-use Rattle.run_state.specs.State.{stateRefusal, statusIn}
+use Rattle.run_state.specs.State.{statusIn}
+use Rattle.run_state.specs.Under.{stateRefusalUnder}
 use Rattle.run_monitor.specs.Status.{COMPLETE, statusAnswer}
 use Rattle.verdict.specs.Verdict.{answerOf}
 use Rattle.listing.specs.Text.{textOf}
@@ -16,16 +19,21 @@ use Rattle.listing.specs.Sentences.{IsListing}
 use Rattle.listing.specs.Listing.{listedOf, listingLeft}
 use Rattle.capi_numbers.specs.Numbers.{verdictNumber, statusNumber, listingNumber}
 
--- r is the number of the answer for the plan; accepted, it is the number of the verdict that 01 defines
-pub record VerdictNumber (b : List ℕ) (r : ℕ) : Type 0 where
-  pub returns : r ≡ verdictNumber (answerOf b)
-  pub judged : refusal b ≡ 0 → (v : Verdict) → (r ≡ verdictNumber (inr v)) ↔ Judged (planOf b) (startOf b) v
+-- r is the number of the answer for the plan and the list xs of blocked nodes: 28 and 29 in 02's words; accepted, it is
+-- the number of the verdict that 01 defines, on what is left of the plan
+pub record VerdictNumber (b xs : List ℕ) (r : ℕ) : Type 0 where
+  pub returns : r ≡ verdictNumber (answerOf b xs)
+  pub refused-28 : refusal b ≡ 0 → (r ≡ 28) ↔ Refused28 (planOf b) xs
+  pub refused-29 : refusal b ≡ 0 → (r ≡ 29) ↔ ((¬ Refused28 (planOf b) xs) × Refused29 (planOf b) xs)
+  pub judged : refusalUnder b xs ≡ 0 → (v : Verdict)
+      → (r ≡ verdictNumber (inr v)) ↔ Judged (planUnder b xs) (startOf b) v
 
--- r is the number of the answer for the state; accepted, it is the number of COMPLETE exactly if the state shows the
+-- r is the number of the answer for the state, with the list xs; accepted, it is the number of COMPLETE exactly if the state shows the
 -- root complete
-pub record StatusNumber (b s : List ℕ) (r : ℕ) : Type 0 where
-  pub returns : r ≡ statusNumber (statusAnswer b s)
-  pub complete : stateRefusal b s ≡ 0 → (r ≡ statusNumber (inr COMPLETE)) ↔ Complete (planOf b) (statusIn b s) 0
+pub record StatusNumber (b xs s : List ℕ) (r : ℕ) : Type 0 where
+  pub returns : r ≡ statusNumber (statusAnswer b xs s)
+  pub complete : stateRefusalUnder b xs s ≡ 0
+      → (r ≡ statusNumber (inr COMPLETE)) ↔ Complete (planUnder b xs) (statusIn b s) 0
 
 -- r is the number of the answer, and out′ has every byte that the listing leaves; 01's words hold of the text of an
 -- accepted plan, and of no other

@@ -19,64 +19,66 @@ pub extern "C" fn knowetop_refusal(plan: &[u8]) -> u32
 }
 
 #[no_mangle]
-pub extern "C" fn knowetop_verdict(plan: &[u8]) -> u32
-    ensures { λ r. ⌜ VerdictNumber (now (plan .entry)) r ⌝ }
+pub extern "C" fn knowetop_verdict(plan: &[u8], blocked: &[usize]) -> u32
+    ensures { λ r. ⌜ VerdictNumber (now (plan .entry)) (now (blocked .entry)) r ⌝ }
 {
-    let answer = verdict::assess(plan);
+    let answer = verdict::assess(plan, blocked);
     verdict_number(answer)
 }
 
 #[no_mangle]
-pub extern "C" fn knowetop_summary(plan: &[u8], node: usize, out: &mut [u8]) -> u32
-    ensures { λ r. ⌜ Summarised (now (plan .entry)) node (now (out .entry)) r (now (out .exit)) ⌝ }
+pub extern "C" fn knowetop_summary(plan: &[u8], blocked: &[usize], node: usize, out: &mut [u8]) -> u32
+    ensures { λ r. ⌜ Summarised (now (plan .entry)) (now (blocked .entry)) node (now (out .entry)) r
+        (now (out .exit)) ⌝ }
 {
-    summary::summary(plan, node, out)
+    summary::summary(plan, blocked, node, out)
 }
 
 #[no_mangle]
-pub extern "C" fn knowetop_fresh(plan: &[u8], state: &mut [u8]) -> u32
-    ensures { λ r. ⌜ Freshened (now (plan .entry)) (now (state .entry)) r (now (state .exit)) ⌝ }
-{
-    run_state::fresh(plan, state)
-}
-
-#[no_mangle]
-pub extern "C" fn knowetop_start(plan: &[u8], state: &mut [u8], task: usize) -> u32
-    ensures { λ r. ⌜ Called (now (plan .entry)) (now (state .entry)) (one (execution.start task)) r
+pub extern "C" fn knowetop_fresh(plan: &[u8], blocked: &[usize], state: &mut [u8]) -> u32
+    ensures { λ r. ⌜ Freshened (now (plan .entry)) (now (blocked .entry)) (now (state .entry)) r
         (now (state .exit)) ⌝ }
 {
-    run_monitor::start(plan, state, task)
+    run_state::fresh(plan, blocked, state)
 }
 
 #[no_mangle]
-pub extern "C" fn knowetop_finish(plan: &[u8], state: &mut [u8], task: usize) -> u32
-    ensures { λ r. ⌜ Called (now (plan .entry)) (now (state .entry)) (one (execution.finish task)) r
+pub extern "C" fn knowetop_start(plan: &[u8], blocked: &[usize], state: &mut [u8], task: usize) -> u32
+    ensures { λ r. ⌜ Called (now (plan .entry)) (now (blocked .entry)) (now (state .entry)) (one (execution.start task)) r
         (now (state .exit)) ⌝ }
 {
-    run_monitor::finish(plan, state, task)
+    run_monitor::start(plan, blocked, state, task)
 }
 
 #[no_mangle]
-pub extern "C" fn knowetop_finish_together(plan: &[u8], state: &mut [u8], tasks: &[usize]) -> u32
-    ensures { λ r. ⌜ Called (now (plan .entry)) (now (state .entry)) (together (now (tasks .entry))) r
+pub extern "C" fn knowetop_finish(plan: &[u8], blocked: &[usize], state: &mut [u8], task: usize) -> u32
+    ensures { λ r. ⌜ Called (now (plan .entry)) (now (blocked .entry)) (now (state .entry)) (one (execution.finish task)) r
         (now (state .exit)) ⌝ }
 {
-    run_monitor::finish_together(plan, state, tasks)
+    run_monitor::finish(plan, blocked, state, task)
 }
 
 #[no_mangle]
-pub extern "C" fn knowetop_skip(plan: &[u8], state: &mut [u8], group: usize) -> u32
-    ensures { λ r. ⌜ Called (now (plan .entry)) (now (state .entry)) (one (execution.skip group)) r
+pub extern "C" fn knowetop_finish_together(plan: &[u8], blocked: &[usize], state: &mut [u8], tasks: &[usize]) -> u32
+    ensures { λ r. ⌜ Called (now (plan .entry)) (now (blocked .entry)) (now (state .entry)) (together (now (tasks .entry))) r
         (now (state .exit)) ⌝ }
 {
-    run_monitor::skip(plan, state, group)
+    run_monitor::finish_together(plan, blocked, state, tasks)
 }
 
 #[no_mangle]
-pub extern "C" fn knowetop_status(plan: &[u8], state: &[u8]) -> u32
-    ensures { λ r. ⌜ StatusNumber (now (plan .entry)) (now (state .entry)) r ⌝ }
+pub extern "C" fn knowetop_skip(plan: &[u8], blocked: &[usize], state: &mut [u8], group: usize) -> u32
+    ensures { λ r. ⌜ Called (now (plan .entry)) (now (blocked .entry)) (now (state .entry)) (one (execution.skip group)) r
+        (now (state .exit)) ⌝ }
 {
-    let answer = run_monitor::status(plan, state);
+    run_monitor::skip(plan, blocked, state, group)
+}
+
+#[no_mangle]
+pub extern "C" fn knowetop_status(plan: &[u8], blocked: &[usize], state: &[u8]) -> u32
+    ensures { λ r. ⌜ StatusNumber (now (plan .entry)) (now (blocked .entry)) (now (state .entry)) r ⌝ }
+{
+    let answer = run_monitor::status(plan, blocked, state);
     status_number(answer)
 }
 

@@ -12,6 +12,7 @@ ghost use Rattle.listing.specs.Text.{letters, textOf};
 ghost use Rattle.listing.specs.Listing.{Lists, Prints};
 use base::no_nodes;
 use base::no_times;
+use node_sets::all_nodes;
 use plan_check::check;
 use text_decimals::write_bytes;
 use text_lines::end_line;
@@ -65,7 +66,8 @@ pub fn listing(plan: &[u8], out: &mut [u8]) -> Listed
     if out.len() < 2048 {
         return Listed::Refused(15);
     }
-    let verdict = judge(plan);
+    let standing = all_nodes();
+    let verdict = judge(plan, &standing);
     Listed::Text(write_text(plan, verdict, out))
 }
 

@@ -3,3 +3,4 @@ pub mod Counts
 pub mod Segments
 pub mod Places
 pub mod Listed
+pub mod Whole

@@ -2,7 +2,7 @@
 use mathlib.Core.Path.{_≡_, refl, sym, ap, _∙_}
 use mathlib.Core.Logic.{_⊎_, inl, inr, by-cases, _↔_, Iff·trans}
 use mathlib.Core.Bool.{Bool}
-use mathlib.Core.List.{List}
+use mathlib.Core.List.{List, []}
 use Prim.Native.Nat.{ℕ, zero, suc, _^_, _<_, _≤_}
 use native.Mathlib.Omega.{arith}
 use Rattle.base.specs.Bits.{Says}
@@ -15,11 +15,13 @@ use Rattle.plan_check.specs.Meaning.{planOf, startOf}
 use Rattle.plan_check.proofs.Accepted.{clean}
 use Rattle.plan_check.proofs.Meaning.{means, means-well-formed}
 use Rattle.plan_blocked.specs.Blocked.{planUnder, refusalUnder}
-use Rattle.plan_blocked.proofs.Refused.{plan-accepted, blocks, under-well-formed}
+use Rattle.plan_blocked.proofs.Refused.{plan-accepted, blocks, under-well-formed, none-under}
+use Rattle.plan_blocked.proofs.Standing.{all-stand}
+use Rattle.node_sets.specs.Sets.{AllMarked}
 use Rattle.runs.specs.Tests.{listed}
 use Rattle.runs.specs.Plan.{Plan, WellFormed}
 use Rattle.runs.specs.Blocked.{without, blockedRefusal}
-use Rattle.runs.proofs.Blocked.Branches.{refusal-28, refusal-29}
+use Rattle.runs.proofs.Blocked.Branches.{refusal-28, refusal-29, blocks-nothing}
 use Rattle.runs.specs.Summary.{Mark, may-pre, must-pre, may-clobber, must-clobber}
 use Rattle.runs.specs.Verdict as verdicts
 use Rattle.runs.specs.Verdict.{CLEAR, DOOMED, OPEN, Fails, Judged}
@@ -33,7 +35,7 @@ use Rattle.marks_words.specs.Words.{MarkWords, StartWord, FailsWord}
 use Rattle.verdict.specs.declared.Verdict.{Verdict}
 use Rattle.verdict.specs.declared.Answer.{Answer}
 use Rattle.verdict.specs.declared.Answer.the-variants.{Refused, Judged as Given}
-use Rattle.verdict.specs.Verdict.{wordOf, said, answerOf, Assessed}
+use Rattle.verdict.specs.Verdict.{wordOf, said, OfStanding, answerOf, Assessed}
 
 -- ---- a word without bits: no literal fails
 module _ (p : Plan) (F : ℕ → Bool) (m k : Mark) {w : ℕ} where
@@ -90,6 +92,13 @@ module _ (p : Plan) (w : WellFormed p) (l : p .cond .flags ≤ 64) (F : ℕ → 
 -- the plan that is left has no more flags
 pub left-flags : (b : List ℕ) → refusal b ≡ 0 → (S : ℕ → Bool) → without (planOf b) S .cond .flags ≤ 64
 left-flags b ok S = omega (arith, means b ok .flags, clean b ok .fits .limits .flags)
+
+-- with every node marked the verdict is that of the whole plan
+pub whole-verdict : (b : List ℕ) → refusal b ≡ 0 → (table : List ℕ) → AllMarked table → (v : Verdict)
+    → OfStanding b table v → wordOf v ≡ verdict (planOf b) (startOf b)
+whole-verdict b ok table all v h =
+    h (listed []) (blocks-nothing (planOf b) (means-well-formed b ok)) (all-stand b ok table all)
+    ∙ ap (λ (p : Plan). verdict p (startOf b)) (none-under b ok)
 
 -- ---- the whole answer
 abbrev word-in : verdicts.Verdict → ℕ ⊎ verdicts.Verdict → verdicts.Verdict

@@ -20,7 +20,7 @@ use plan_format::fields::kind;
 use plan_format::fields::minutes;
 use plan_format::fields::nodes;
 use plan_format::fields::parent;
-use table_children::fill_children;
+use table_children::fill_all_children;
 use wait_group::longest_child;
 use wait_group::spread;
 
@@ -144,7 +144,7 @@ pub fn longest_waits(plan: &[u8], waits: &mut [u32; 128]) -> u32
 {
     let mut from = no_starts();
     let mut kids = no_nodes();
-    fill_children(plan, &mut from, &mut kids);
+    fill_all_children(plan, &mut from, &mut kids);
     let mut lengths = no_times();
     work_out(plan, &from, &kids, &mut lengths, waits);
     add_waits(plan, waits);

@@ -5,7 +5,7 @@ use Rattle.capi.proofs.knowetop_verdict.Statement.{statement}
 use Rattle.capi.proofs.knowetop_verdict.Tie as tie
 
 returns : tie.Need-returns
-returns c = verdict-told _ _ (c .before .assess .ensures) (c .verdict-number .ensures)
+returns c = verdict-told _ _ _ (c .before .assess .ensures) (c .verdict-number .ensures)
 
 pub knowetop-verdict-spec : {M : Type 1} → statement M
 knowetop-verdict-spec = tie.close (tie.spec (λ c κs. search needs) (λ c κs. search needs) returns)
