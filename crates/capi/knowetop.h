@@ -20,15 +20,16 @@ extern "C" {
 /* The first cause, 1 to 14, for which the plan is refused, or 0 if it is accepted. */
 uint32_t knowetop_refusal(const uint8_t *plan, size_t plan_len);
 
-/* The answer for the plan with these nodes blocked: a refusal, 1 to 14, 28 or 29, or one of these. CLEAR stays CLEAR and DOOMED stays DOOMED when more branches are blocked. */
+/* The answer for the plan with these nodes blocked: a refusal, 1 to 14, 28 or 29, or one of these. CLEAR stays CLEAR and DOOMED stays DOOMED when more branches are
+   blocked, or when orders are added to the plan. */
 #define KNOWETOP_CLEAR 128
 #define KNOWETOP_DOOMED 129
 #define KNOWETOP_OPEN 130
 uint32_t knowetop_verdict(const uint8_t *plan, size_t plan_len, const size_t *blocked, size_t blocked_len);
 
 /* Writes the summary of a node to the first 16 V bytes of out, V the plan's number of flags, and keeps the rest: entry 2 f + sign of 8 bytes is for the literal of flag f with that
-   sign; its bytes are 0 or 1: may need, must need, may leave, must leave, may hold, must hold, may clash, doom. At a blocked node and under it all are 0. Returns 0, or 1 to
-   14, 28, 29, 15 (out_len under 16 V) or 17 (no such node). */
+   sign; its bytes are 0 or 1: may need, must need, may leave, must leave, may hold, must hold, may clash, doom. At a blocked node and under it all are 0. Returns 0,
+   or 1 to 14, 28, 29, 15 (out_len under 16 V) or 17 (no such node). */
 uint32_t knowetop_summary(const uint8_t *plan, size_t plan_len, const size_t *blocked, size_t blocked_len, size_t node, uint8_t *out, size_t out_len);
 
 /* A state is 8 bytes of flags, then a byte for each node, then 2 bytes for each node, the low one first: the place of its start among the accepted starts, from 1, or 0 if it has not

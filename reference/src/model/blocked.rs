@@ -134,3 +134,83 @@ fn no_branch_left(plan: &Plan, blocked: &[usize], group: usize) -> bool {
     let mut branches = plan.children(group);
     plan.is_any_of(group) && branches.all(|branch| blocked.contains(&branch))
 }
+
+#[cfg(test)]
+mod tests {
+    use super::*;
+    use crate::model::format::{ALL_OF, ANY_OF, OPTIONAL, POSTCONDITION, SET, TASK};
+
+    fn node(parent: u8, kind: u8) -> Node {
+        Node {
+            name: *b"NODE",
+            parent,
+            kind,
+            minutes: 0,
+        }
+    }
+
+    /// A choice of a group, in which one task is before another, and of an optional group.
+    fn plan() -> Plan {
+        Plan {
+            flags: 1,
+            start: [1, 0, 0, 0, 0, 0, 0, 0],
+            nodes: vec![
+                node(NO_PARENT, ANY_OF),
+                node(0, ALL_OF),
+                node(0, OPTIONAL),
+                node(1, TASK),
+                node(2, TASK),
+                node(1, TASK),
+            ],
+            conditions: [3, 4, 5].map(leaves_set).to_vec(),
+            orders: vec![Order::new(3, 5)],
+        }
+    }
+
+    fn leaves_set(task: u8) -> Condition {
+        Condition::new(task, POSTCONDITION, 0, SET)
+    }
+
+    #[test]
+    fn numbered_anew() {
+        let left = Remaining::new(&plan(), &[2]).ok().unwrap();
+        assert_eq!(left.numbers, [0, 1, 3, 5]);
+        assert_eq!(left.absent(), [2, 4]);
+        let want = Plan {
+            nodes: vec![
+                node(NO_PARENT, ANY_OF),
+                node(0, ALL_OF),
+                node(1, TASK),
+                node(1, TASK),
+            ],
+            conditions: [2, 3].map(leaves_set).to_vec(),
+            orders: vec![Order::new(2, 3)],
+            ..plan()
+        };
+        assert_eq!(left.plan, want);
+        // The optional group stays without a child.
+        let left = Remaining::new(&plan(), &[1, 4]).ok().unwrap();
+        assert_eq!(left.numbers, [0, 2]);
+        assert_eq!(
+            left.plan.nodes,
+            [node(NO_PARENT, ANY_OF), node(0, OPTIONAL)]
+        );
+        assert_eq!(left.plan.orders, []);
+        let left = Remaining::new(&plan(), &[]).ok().unwrap();
+        assert!(left.absent().is_empty() && left.plan == plan());
+    }
+
+    #[test]
+    fn refused_lists() {
+        let refusal = |blocked: &[usize]| Remaining::new(&plan(), blocked).err();
+        for blocked in [&[][..], &[1], &[2], &[4], &[1, 4], &[2, 4]] {
+            assert_eq!(refusal(blocked), None, "{blocked:?}");
+        }
+        for blocked in [&[0][..], &[3], &[5], &[6], &[4, 4], &[4, 1], &[1, 2, 6]] {
+            assert_eq!(refusal(blocked), Some(28), "{blocked:?}");
+        }
+        for blocked in [&[1, 2][..], &[1, 2, 4]] {
+            assert_eq!(refusal(blocked), Some(29), "{blocked:?}");
+        }
+    }
+}

@@ -113,29 +113,39 @@ pub fn verdict(plan: &mut [u8], blocked: &mut [usize]) -> u32 {
 pub fn make_with(call: &Call, plan: &mut [u8], lent: &mut [u8], lists: [&mut [usize]; 2]) -> u32 {
     let (plan, plan_len) = (plan.as_mut_ptr(), plan.len());
     let (lent, lent_len) = (lent.as_mut_ptr(), lent.len());
-    let [(list, list_len), (tasks, tasks_len)] = lists.map(|list| (list.as_mut_ptr(), list.len()));
+    let [(blocked, blocked_len), (tasks, tasks_len)] =
+        lists.map(|list| (list.as_mut_ptr(), list.len()));
     // SAFETY: each pointer and length are those of one slice, borrowed for the length of the call.
     unsafe {
         match *call {
             Call::Refusal => c::knowetop_refusal(plan, plan_len),
-            Call::Verdict => c::knowetop_verdict(plan, plan_len, list, list_len),
+            Call::Verdict => c::knowetop_verdict(plan, plan_len, blocked, blocked_len),
             Call::Summary(node) => {
-                c::knowetop_summary(plan, plan_len, list, list_len, node, lent, lent_len)
+                c::knowetop_summary(plan, plan_len, blocked, blocked_len, node, lent, lent_len)
             }
-            Call::Fresh => c::knowetop_fresh(plan, plan_len, list, list_len, lent, lent_len),
+            Call::Fresh => c::knowetop_fresh(plan, plan_len, blocked, blocked_len, lent, lent_len),
             Call::Event(Event::Start(task)) => {
-                c::knowetop_start(plan, plan_len, list, list_len, lent, lent_len, task)
+                c::knowetop_start(plan, plan_len, blocked, blocked_len, lent, lent_len, task)
             }
             Call::Event(Event::Finish(task)) => {
-                c::knowetop_finish(plan, plan_len, list, list_len, lent, lent_len, task)
+                c::knowetop_finish(plan, plan_len, blocked, blocked_len, lent, lent_len, task)
             }
             Call::Event(Event::Skip(group)) => {
-                c::knowetop_skip(plan, plan_len, list, list_len, lent, lent_len, group)
+                c::knowetop_skip(plan, plan_len, blocked, blocked_len, lent, lent_len, group)
             }
             Call::FinishTogether(_) => c::knowetop_finish_together(
-                plan, plan_len, list, list_len, lent, lent_len, tasks, tasks_len,
+                plan,
+                plan_len,
+                blocked,
+                blocked_len,
+                lent,
+                lent_len,
+                tasks,
+                tasks_len,
             ),
-            Call::Status => c::knowetop_status(plan, plan_len, list, list_len, lent, lent_len),
+            Call::Status => {
+                c::knowetop_status(plan, plan_len, blocked, blocked_len, lent, lent_len)
+            }
             Call::Listing => c::knowetop_listing(plan, plan_len, lent, lent_len),
         }
     }

@@ -42,19 +42,28 @@ const TOPICS: [Topic; 34] = [
         "lists of any kind on damaged plans",
         blocked::refusals::damaged,
     ),
-    ("summaries with blocks, by runs", blocked::summaries::small),
     (
-        "summaries of large plans with blocks",
+        "summaries with blocked nodes, by runs",
+        blocked::summaries::small,
+    ),
+    (
+        "summaries of large ones, by rules",
         blocked::summaries::large,
     ),
-    ("calls with blocks on small plans", blocked::runs::small),
-    ("calls with blocks on large plans", blocked::runs::large),
-    ("states with blocks, of every fault", blocked::runs::states),
     (
-        "every byte at every node with blocks",
-        blocked::runs::statuses,
+        "calls with blocked nodes, small plans",
+        blocked::runs::small,
     ),
-    ("CLEAR and DOOMED with blocks", blocked::runs::claims),
+    (
+        "calls with blocked nodes, large plans",
+        blocked::runs::large,
+    ),
+    (
+        "states with blocked nodes, every fault",
+        blocked::runs::states,
+    ),
+    ("every byte, with blocked nodes", blocked::runs::statuses),
+    ("CLEAR and DOOMED with blocked nodes", blocked::runs::claims),
     (
         "more blocked, CLEAR and DOOMED",
         blocked::promises::more_blocked,

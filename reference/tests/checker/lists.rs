@@ -7,7 +7,7 @@ use reference::model::calls::Call;
 use reference::model::format::{Plan, Sizes};
 use reference::tools::generate::{any_plan, dense_plan, LIMITS};
 use reference::tools::random::Random;
-use reference::tools::scenario::blocked::{calls as under_blocks, passing};
+use reference::tools::scenario::blocked::{calls as under_list, passing};
 use reference::tools::scenario::lists::{list, long_list, replay};
 
 use crate::past::Past;
@@ -88,7 +88,7 @@ fn returns_and_states() {
 
 /// The same with blocked nodes: the whole plan is asked, and whether a node is absent.
 #[test]
-fn returns_and_states_with_blocks() {
+fn returns_and_states_with_blocked_nodes() {
     let mut random = Random::new(42);
     let mut counts = Counts::new();
     let mut plans: Vec<Plan> = Vec::new();
@@ -104,7 +104,7 @@ fn returns_and_states_with_blocks() {
             0 => long_list(&mut random, &remaining.plan),
             _ => list(&mut random, &remaining.plan, calls),
         };
-        let drawn = under_blocks(&mut random, &remaining, drawn);
+        let drawn = under_list(&mut random, &remaining, drawn);
         check_blocking(&mut random, &plan, &blocked, &drawn, &mut counts);
     }
     println!("{counts:?}");

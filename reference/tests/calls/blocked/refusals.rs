@@ -2,7 +2,7 @@
 
 use reference::model::calls::{Answers, Call};
 use reference::model::events::Event;
-use reference::model::format::{Plan, Sizes};
+use reference::model::format::{Plan, Sizes, ALL_OF, ANY_OF, OPTIONAL};
 use reference::model::monitor::State;
 use reference::tools::edit::edit;
 use reference::tools::generate::{any_plan, LIMITS};
@@ -81,8 +81,12 @@ pub fn branches_left(tally: &mut Tally) {
 /// plans of all sizes.
 pub fn long(tally: &mut Tally) {
     let mut random = Random::new(153);
-    let mut plans = vec![Plan::one_task(1), Plan::flat(64, 128)];
-    plans.extend((0..4).map(|_| any_plan(&mut random, LIMITS)));
+    let mut plans = vec![Plan::one_task(1)];
+    for kind in [ALL_OF, ANY_OF, OPTIONAL] {
+        plans.push(Plan::flat(64, 128));
+        plans.last_mut().unwrap().nodes[0].kind = kind;
+    }
+    plans.extend((0..3).map(|_| any_plan(&mut random, LIMITS)));
     for plan in plans {
         let mut lists: Vec<Vec<usize>> = vec![branches(&plan)];
         for len in [127, 128, 129, 3_000] {

@@ -127,7 +127,7 @@ pub fn statuses(tally: &mut Tally) {
 pub fn claims(tally: &mut Tally) {
     let mut random = Random::new(175);
     let mut met = [0; 3];
-    for (nodes, plans) in (2..).zip([200, 500, 900, 900, 500, 200, 40]) {
+    for (nodes, plans) in (2..).zip([200, 800, 2_000, 2_500, 1_500, 600, 150]) {
         for _ in 0..plans {
             let plan = with_branches(&mut random, nodes);
             let Some(blocked) = some_blocked(&mut random, &plan) else {
@@ -151,5 +151,5 @@ pub fn claims(tally: &mut Tally) {
         }
     }
     println!("CLEAR, DOOMED, OPEN with nodes blocked: {met:?}");
-    assert!(met.iter().all(|&count| count > 150));
+    assert!(met.iter().all(|&count| count > 500));
 }
