@@ -13,13 +13,15 @@ use reference::tools::scenario::tally::Tally;
 use reference::tools::scenario::together::some_of;
 use reference::tools::scenario::Case;
 
-use super::{lists_of_branches, with_branches};
+use super::{lists_of_branches, plans};
 
-const CLEAR: u32 = 128;
+/// What the verdict call returns.
+pub const CLEAR: u32 = 128;
+pub const DOOMED: u32 = 129;
 const OPEN: u32 = 130;
 
 /// The verdict with this list, which the reference returns too.
-fn verdict(tally: &mut Tally, plan: &Plan, blocked: &[usize]) -> u32 {
+pub fn verdict(tally: &mut Tally, plan: &Plan, blocked: &[usize]) -> u32 {
     let case = Case {
         call: Call::Verdict,
         plan: plan.bytes(),
@@ -54,19 +56,16 @@ impl Became {
 pub fn more_blocked(tally: &mut Tally) {
     let mut random = Random::new(181);
     let mut became = Became::default();
-    for nodes in 3..=9 {
-        for _ in 0..150 {
-            let plan = with_branches(&mut random, nodes);
-            let lists = lists_of_branches(&plan).take(64);
-            let answered = lists.map(|list| (verdict(tally, &plan, &list), list));
-            let accepted: Vec<_> = answered.filter(|(verdict, _)| *verdict >= CLEAR).collect();
-            for (before, few) in &accepted {
-                let more = |(_, many): &&(u32, Vec<usize>)| {
-                    many.len() > few.len() && few.iter().all(|node| many.contains(node))
-                };
-                for (after, many) in accepted.iter().filter(more) {
-                    became.kept(*before, *after, || format!("{few:?}, {many:?}: {plan:?}"));
-                }
+    for plan in plans(&mut random, 3..=9, 150) {
+        let lists = lists_of_branches(&plan).take(64);
+        let answered = lists.map(|list| (verdict(tally, &plan, &list), list));
+        let accepted: Vec<_> = answered.filter(|(verdict, _)| *verdict >= CLEAR).collect();
+        for (before, few) in &accepted {
+            let more = |(_, many): &&(u32, Vec<usize>)| {
+                many.len() > few.len() && few.iter().all(|node| many.contains(node))
+            };
+            for (after, many) in accepted.iter().filter(more) {
+                became.kept(*before, *after, || format!("{few:?}, {many:?}: {plan:?}"));
             }
         }
     }
@@ -77,17 +76,14 @@ pub fn more_blocked(tally: &mut Tally) {
 pub fn more_orders(tally: &mut Tally) {
     let mut random = Random::new(182);
     let mut became = Became::default();
-    for nodes in 4..=9 {
-        for _ in 0..400 {
-            let plan = with_branches(&mut random, nodes);
-            let ordered = with_orders(&mut random, &plan);
-            for blocked in [Vec::new(), passing(&mut random, &plan)] {
-                let before = verdict(tally, &plan, &blocked);
-                let after = verdict(tally, &ordered, &blocked);
-                became.kept(before, after, || {
-                    format!("{blocked:?}: {plan:?}, {ordered:?}")
-                });
-            }
+    for plan in plans(&mut random, 4..=9, 400) {
+        let ordered = with_orders(&mut random, &plan);
+        for blocked in [Vec::new(), passing(&mut random, &plan)] {
+            let before = verdict(tally, &plan, &blocked);
+            let after = verdict(tally, &ordered, &blocked);
+            became.kept(before, after, || {
+                format!("{blocked:?}: {plan:?}, {ordered:?}")
+            });
         }
     }
     became.at_least("more orders", 60);

@@ -13,7 +13,7 @@ use reference::tools::scenario::states::bytes;
 use reference::tools::scenario::tally::Tally;
 use reference::tools::scenario::{any_number, Case};
 
-use super::{lists_of_branches, with_branches};
+use super::{lists_of_branches, plans};
 use crate::together::up_to_three;
 
 /// The calls that take a list, with some number.
@@ -53,13 +53,10 @@ fn on_each_memory(tally: &mut Tally, random: &mut Random, plan: &Plan, blocked: 
 /// after the last, and the greatest; on small plans.
 pub fn numbers(tally: &mut Tally) {
     let mut random = Random::new(151);
-    for nodes in 2..=6 {
-        for _ in 0..12 {
-            let plan = with_branches(&mut random, nodes);
-            let numbers: Vec<usize> = (0..=nodes).chain([usize::MAX]).collect();
-            for blocked in up_to_three(&numbers) {
-                on_each_memory(tally, &mut random, &plan, &blocked);
-            }
+    for plan in plans(&mut random, 2..=6, 12) {
+        let numbers: Vec<usize> = (0..=plan.nodes.len()).chain([usize::MAX]).collect();
+        for blocked in up_to_three(&numbers) {
+            on_each_memory(tally, &mut random, &plan, &blocked);
         }
     }
 }
@@ -67,12 +64,9 @@ pub fn numbers(tally: &mut Tally) {
 /// Every list of branches in rising order, on plans with up to nine of them.
 pub fn branches_left(tally: &mut Tally) {
     let mut random = Random::new(152);
-    for nodes in 3..=10 {
-        for _ in 0..20 {
-            let plan = with_branches(&mut random, nodes);
-            for blocked in lists_of_branches(&plan) {
-                on_each_memory(tally, &mut random, &plan, &blocked);
-            }
+    for plan in plans(&mut random, 3..=10, 20) {
+        for blocked in lists_of_branches(&plan) {
+            on_each_memory(tally, &mut random, &plan, &blocked);
         }
     }
 }

@@ -12,10 +12,10 @@ use reference::tools::scenario::blocked::{calls, malformed, passing, spread};
 use reference::tools::scenario::lists::{list, long_list};
 use reference::tools::scenario::states::{any_state, bytes, reached_state};
 use reference::tools::scenario::tally::Tally;
-use reference::tools::scenario::Case;
 use reference::tools::search::search_by;
 
-use super::{lists_of_branches, some_blocked, with_branches};
+use super::promises::{verdict, CLEAR, DOOMED};
+use super::{lists_of_branches, plans, plans_of_sizes, with_lists};
 use crate::lists::{every_call, in_order};
 
 /// What remains, and the answers to calls with this list.
@@ -44,16 +44,13 @@ fn replay(
 /// Plans of up to 12 nodes.
 pub fn small(tally: &mut Tally) {
     let mut random = Random::new(171);
-    for nodes in 3..=12 {
-        for _ in 0..150 {
-            let plan = with_branches(&mut random, nodes);
-            let blocked = passing(&mut random, &plan);
-            let given = given(&plan, &blocked);
-            let drawn = list(&mut random, &given.0.plan, 3 * nodes);
-            replay(tally, &mut random, &given, drawn);
-            let drawn = long_list(&mut random, &given.0.plan);
-            replay(tally, &mut random, &given, drawn);
-        }
+    for plan in plans(&mut random, 3..=12, 150) {
+        let blocked = passing(&mut random, &plan);
+        let given = given(&plan, &blocked);
+        let drawn = list(&mut random, &given.0.plan, 3 * plan.nodes.len());
+        replay(tally, &mut random, &given, drawn);
+        let drawn = long_list(&mut random, &given.0.plan);
+        replay(tally, &mut random, &given, drawn);
     }
 }
 
@@ -82,21 +79,16 @@ pub fn large(tally: &mut Tally) {
 /// absent nodes any byte and any place.
 pub fn states(tally: &mut Tally) {
     let mut random = Random::new(173);
-    for nodes in 3..=10 {
-        for _ in 0..40 {
-            let plan = with_branches(&mut random, nodes);
-            let Some(blocked) = some_blocked(&mut random, &plan) else {
-                continue;
-            };
-            let (remaining, answers) = given(&plan, &blocked);
-            for draw in [any_state, reached_state] {
-                let state = draw(&mut random, &remaining.plan);
-                let good = spread(&remaining, &bytes(&mut random, &remaining.plan, &state, 1));
-                let mut states = malformed(&mut random, &remaining, &state);
-                states.extend([good.clone(), good[..good.len() - 2].to_vec(), good]);
-                for state in states {
-                    every_call(tally, &mut random, &plan, &answers, &state);
-                }
+    let plans = plans(&mut random, 3..=10, 40);
+    for (plan, blocked) in with_lists(&mut random, plans) {
+        let (remaining, answers) = given(&plan, &blocked);
+        for draw in [any_state, reached_state] {
+            let state = draw(&mut random, &remaining.plan);
+            let good = spread(&remaining, &bytes(&mut random, &remaining.plan, &state, 1));
+            let mut states = malformed(&mut random, &remaining, &state);
+            states.extend([good.clone(), good[..good.len() - 2].to_vec(), good]);
+            for state in states {
+                every_call(tally, &mut random, &plan, &answers, &state);
             }
         }
     }
@@ -106,17 +98,15 @@ pub fn states(tally: &mut Tally) {
 /// of the monitor with every accepted list.
 pub fn statuses(tally: &mut Tally) {
     let mut random = Random::new(174);
-    for nodes in 2..=5 {
-        for _ in 0..8 {
-            let plan = with_branches(&mut random, nodes);
-            for blocked in lists_of_branches(&plan) {
-                let answers = Answers::by_rules(&plan.bytes()).blocking(&blocked);
-                for at in 0..3_usize.pow(nodes as u32) {
-                    let byte = |node: u32| (at / 3_usize.pow(node) % 3) as u8;
-                    let state: Vec<u8> = (0..nodes as u32).map(byte).collect();
-                    let state = in_order(&plan, &state);
-                    every_call(tally, &mut random, &plan, &answers, &state);
-                }
+    for plan in plans(&mut random, 2..=5, 8) {
+        let nodes = plan.nodes.len() as u32;
+        for blocked in lists_of_branches(&plan) {
+            let answers = Answers::by_rules(&plan.bytes()).blocking(&blocked);
+            for at in 0..3_usize.pow(nodes) {
+                let byte = |node| (at / 3_usize.pow(node) % 3) as u8;
+                let state: Vec<u8> = (0..nodes).map(byte).collect();
+                let state = in_order(&plan, &state);
+                every_call(tally, &mut random, &plan, &answers, &state);
             }
         }
     }
@@ -127,28 +117,15 @@ pub fn statuses(tally: &mut Tally) {
 pub fn claims(tally: &mut Tally) {
     let mut random = Random::new(175);
     let mut met = [0; 3];
-    for (nodes, plans) in (2..).zip([200, 800, 2_000, 2_500, 1_500, 600, 150]) {
-        for _ in 0..plans {
-            let plan = with_branches(&mut random, nodes);
-            let Some(blocked) = some_blocked(&mut random, &plan) else {
-                continue;
-            };
-            let case = Case {
-                call: Call::Verdict,
-                plan: plan.bytes(),
-                blocked: blocked.clone(),
-                lent: Vec::new(),
-            };
-            let answers = Answers::by_rules(&case.plan).blocking(&blocked);
-            let verdict = tally.compare(&answers, &case).returned;
-            let found = search_by(&plan, &blocked, archive::make);
-            assert_eq!(verdict == 128, found.is_clear(), "{blocked:?} of {plan:?}");
-            assert!(
-                verdict != 129 || !found.completable,
-                "{blocked:?} of {plan:?}"
-            );
-            met[verdict as usize - 128] += 1;
-        }
+    let sizes = (2..).zip([200, 800, 2_000, 2_500, 1_500, 600, 150]);
+    let plans = plans_of_sizes(&mut random, sizes);
+    for (plan, blocked) in with_lists(&mut random, plans) {
+        let verdict = verdict(tally, &plan, &blocked);
+        let found = search_by(&plan, &blocked, archive::make);
+        let place = || format!("{blocked:?} of {plan:?}");
+        assert_eq!(verdict == CLEAR, found.is_clear(), "{}", place());
+        assert!(verdict != DOOMED || !found.completable, "{}", place());
+        met[verdict as usize - 128] += 1;
     }
     println!("CLEAR, DOOMED, OPEN with nodes blocked: {met:?}");
     assert!(met.iter().all(|&count| count > 500));

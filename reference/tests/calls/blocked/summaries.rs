@@ -8,7 +8,7 @@ use reference::tools::random::Random;
 use reference::tools::scenario::blocked::passing;
 use reference::tools::scenario::tally::Tally;
 
-use super::{lists_of_branches, with_branches};
+use super::{lists_of_branches, plans_of_sizes};
 use crate::summaries::{every_node, Marked};
 
 /// Small plans with every list of their branches, or with some where there are many: marks 0 to 6
@@ -16,16 +16,13 @@ use crate::summaries::{every_node, Marked};
 pub fn small(tally: &mut Tally) {
     let mut random = Random::new(161);
     let mut marked = Marked::default();
-    let plans = [200, 600, 1_200, 1_500, 900, 300, 60];
-    for (nodes, plans) in (2..).zip(plans) {
-        for _ in 0..plans {
-            let plan = with_branches(&mut random, nodes);
-            for blocked in lists_of_branches(&plan).skip(1).take(8) {
-                let answers = Answers::by_runs(&plan.bytes()).blocking(&blocked);
-                every_node(tally, &mut random, &plan, &answers);
-                if answers.marks().is_ok() {
-                    marked.add(&answers);
-                }
+    let sizes = (2..).zip([200, 600, 1_200, 1_500, 900, 300, 60]);
+    for plan in plans_of_sizes(&mut random, sizes) {
+        for blocked in lists_of_branches(&plan).skip(1).take(8) {
+            let answers = Answers::by_runs(&plan.bytes()).blocking(&blocked);
+            every_node(tally, &mut random, &plan, &answers);
+            if answers.marks().is_ok() {
+                marked.add(&answers);
             }
         }
     }

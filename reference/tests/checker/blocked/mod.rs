@@ -1,6 +1,7 @@
 //! Blocked branches (02, 108).
 
 mod calls;
+mod executions;
 mod marks;
 mod refusals;
 mod rows;
