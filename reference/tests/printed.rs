@@ -43,6 +43,7 @@ fn prints_each_sample() {
         ("b", "CLEAR 17"),
         ("b-without-order", "OPEN 12"),
         ("b-flag-set", "DOOMED 17"),
+        ("branch-blocked", "OPEN 30"),
         ("calibration-optional", "CLEAR 63"),
         ("equal-waits", "CLEAR 18"),
         ("finish-together", "OPEN 10"),

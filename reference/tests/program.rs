@@ -6,6 +6,9 @@ use std::process::{Command, Stdio};
 const TEXT: &[u8] = include_bytes!("../../samples/b.txt");
 const PLAN: &[u8] = include_bytes!("../../samples/b.plan");
 const STATE: &[u8] = include_bytes!("../../samples/b.state");
+const NOISY: &[u8] = include_bytes!("../../samples/branch-blocked.plan");
+const OPPOSED: &[u8] = include_bytes!("../../samples/finish-together.plan");
+const DOOMED: &[u8] = include_bytes!("../../samples/b-flag-set.plan");
 const SKIPPED: &[u8] = include_bytes!("../../samples/calibration-optional.state");
 
 /// Whether it succeeds, what it prints, and what it says on standard error.
@@ -43,6 +46,37 @@ fn lists_as_the_checker_prints() {
     assert_eq!(run(&["list"], PLAN), printed(b));
     assert_eq!(run(&["list"], &PLAN[..81]), printed("REFUSED 3\n"));
     assert_eq!(run(&["list"], b""), printed("REFUSED 1\n"));
+}
+
+#[test]
+fn says_what_to_block() {
+    let said = |text: &str| (true, text.as_bytes().to_vec(), String::new());
+    let open = "OPEN: it is CLEAR with one of these blocked\n";
+    assert_eq!(run(&["block"], NOISY), said(&format!("{open}4 FULL\n")));
+    let made = |text: &str| run(&["make"], text.as_bytes()).1;
+    // Two branches of which either will do, one of them under the other's sibling.
+    let two = made(
+        "flags 1\n0 ROOT all-of\n1 A--- task 0 under 0 leaves 0-set\n2 DROP optional under 0\n\
+         3 PICK any-of under 2\n4 C--- task 0 under 3 leaves 0-clear\n5 D--- task 0 under 3\n",
+    );
+    let both = format!("{open}3 PICK\n4 C---\n");
+    assert_eq!(run(&["block"], &two), said(&both));
+    let neither = made(
+        "flags 1\n0 ROOT any-of\n1 A--- task 0 under 0 needs 0-set\n\
+         2 B--- task 0 under 0 needs 0-set\n3 C--- task 0 under 0\n",
+    );
+    let none = "OPEN: no single branch, blocked, makes it CLEAR\n";
+    assert_eq!(run(&["block"], &neither), said(none));
+    let alone = "OPEN: no branch can be blocked alone\n";
+    assert_eq!(run(&["block"], OPPOSED), said(alone));
+    assert_eq!(
+        run(&["block"], PLAN),
+        said("CLEAR: nothing has to be blocked\n")
+    );
+    let doomed = "DOOMED: it stays so, whatever is blocked\n";
+    assert_eq!(run(&["block"], DOOMED), said(doomed));
+    let refused = (false, Vec::new(), "REFUSED 3\n".to_string());
+    assert_eq!(run(&["block"], &PLAN[..81]), refused);
 }
 
 #[test]

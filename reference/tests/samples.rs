@@ -12,10 +12,11 @@ use reference::tools::archive;
 use reference::tools::text::{make, show, Error, Source};
 
 /// Each sample with its length and its refusal.
-const SAMPLES: [(&str, usize, u32); 21] = [
+const SAMPLES: [(&str, usize, u32); 22] = [
     ("b", 82, 0),
     ("b-flag-set", 82, 0),
     ("b-without-order", 80, 0),
+    ("branch-blocked", 105, 0),
     ("calibration-optional", 104, 0),
     ("equal-waits", 90, 0),
     ("fifteen-bytes", 15, 1),
@@ -69,7 +70,7 @@ fn lengths_and_refusals() {
         let mut plan = plan_of(name);
         assert_eq!(plan.len(), len, "{name}");
         assert_eq!(refusal(&plan), want, "{name}");
-        let found = archive::make(&Call::Refusal, &mut plan, &mut []);
+        let found = archive::make(&Call::Refusal, &mut plan, &[], &mut []);
         assert_eq!(found, want, "{name}");
     }
 }
@@ -88,7 +89,8 @@ fn states_of_calls() {
         let (mut plan, mut state) = (plan_of(name), vec![7; len]);
         let events = events.iter().map(|&event| Call::Event(event));
         for call in [Call::Fresh].into_iter().chain(events) {
-            assert_eq!(archive::make(&call, &mut plan, &mut state), 0, "{call:?}");
+            let returned = archive::make(&call, &mut plan, &[], &mut state);
+            assert_eq!(returned, 0, "{call:?}");
         }
         let path = folder().join(format!("{name}.state"));
         assert_eq!(fs::read(path).unwrap(), state, "{name}");

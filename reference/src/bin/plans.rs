@@ -1,5 +1,5 @@
 //! Makes a plan file from its text, shows the text of a plan file, lists it as the checker does,
-//! and shows a state of it as text.
+//! says which branch to block, and shows a state of it as text.
 
 use std::env::args;
 use std::fs;
@@ -9,12 +9,13 @@ use std::process::ExitCode;
 use reference::model::listing::printed;
 use reference::tools::generate::{plan, Shape, LIMITS};
 use reference::tools::random::Random;
-use reference::tools::text::{make, show, show_state};
+use reference::tools::text::{make, show, show_resolved, show_state};
 
 const USAGE: &str = "\
 plans make < TEXT > PLAN    the bytes of a text
 plans show < PLAN > TEXT    the text of an accepted plan
 plans list < PLAN           what the checker prints for any bytes
+plans block < PLAN          which single branches, blocked, make an OPEN plan CLEAR
 plans state PLAN < STATE    the text of a state of the accepted plan in the file PLAN
 plans draw SEED > PLAN      a random accepted plan of 128 nodes, as large as its tree permits";
 
@@ -25,6 +26,7 @@ fn main() -> ExitCode {
         ["make"] => made(),
         ["show"] => shown(),
         ["list"] => input().map(|plan| printed(&plan).into_bytes()),
+        ["block"] => resolved(),
         ["state", plan] => shown_state(plan),
         ["draw", seed] => drawn(seed),
         _ => Err(USAGE.to_string()),
@@ -46,6 +48,11 @@ fn made() -> Result<Vec<u8>, String> {
 
 fn shown() -> Result<Vec<u8>, String> {
     let text = show(&input()?).map_err(|e| e.to_string())?;
+    Ok(text.into_bytes())
+}
+
+fn resolved() -> Result<Vec<u8>, String> {
+    let text = show_resolved(&input()?).map_err(|e| e.to_string())?;
     Ok(text.into_bytes())
 }
 

@@ -2,6 +2,7 @@
 
 use std::cell::OnceCell;
 
+use crate::model::blocked::Remaining;
 use crate::model::events::Event;
 use crate::model::format::Plan;
 use crate::model::listing::listing;
@@ -12,7 +13,7 @@ use crate::model::runs;
 use crate::model::summary::summary;
 use crate::model::verdict::{from_marks, Verdict};
 
-/// A call, without the plan and the memory that it is lent.
+/// A call, without the plan, the list of blocked nodes and the memory that it is lent.
 #[derive(Clone, Debug, PartialEq, Eq)]
 pub enum Call {
     Refusal,
@@ -51,49 +52,68 @@ impl From<Event> for Call {
     }
 }
 
-/// The answers to calls on given bytes of a plan. The marks are worked out once for all calls.
+/// The answers to calls on given bytes of a plan with a list of blocked nodes. The marks are worked
+/// out once for all calls.
 pub struct Answers {
     plan: Result<Plan, u32>,
+    blocked: Vec<usize>,
+    /// Without the blocked subtrees, or the first refusal of the plan and the list.
+    remaining: Result<Remaining, u32>,
     work_out: fn(&Plan) -> Vec<Vec<Marks>>,
+    /// With the blocked subtrees absent.
     marks: OnceCell<Vec<Vec<Marks>>>,
+    /// Of the whole plan.
+    verdict: OnceCell<Verdict>,
 }
 
 impl Answers {
-    /// With marks by rules, for plans of any size.
+    /// With marks by rules, for plans of any size, and nothing blocked.
     pub fn by_rules(plan: &[u8]) -> Answers {
-        Answers::new(plan, marks)
+        Answers::new(accept(plan), Vec::new(), marks)
     }
 
-    /// With marks by runs, for small plans.
+    /// With marks by runs, for small plans, and nothing blocked.
     pub fn by_runs(plan: &[u8]) -> Answers {
-        Answers::new(plan, runs::marks)
+        Answers::new(accept(plan), Vec::new(), runs::marks)
     }
 
-    fn new(plan: &[u8], work_out: fn(&Plan) -> Vec<Vec<Marks>>) -> Answers {
+    /// With this list of blocked nodes, which may hold any numbers.
+    pub fn blocking(self, blocked: &[usize]) -> Answers {
+        Answers::new(self.plan, blocked.to_vec(), self.work_out)
+    }
+
+    fn new(
+        plan: Result<Plan, u32>,
+        blocked: Vec<usize>,
+        work_out: fn(&Plan) -> Vec<Vec<Marks>>,
+    ) -> Answers {
+        let remaining = match &plan {
+            Ok(plan) => Remaining::new(plan, &blocked),
+            Err(number) => Err(*number),
+        };
         Answers {
-            plan: accept(plan),
+            plan,
+            blocked,
+            remaining,
             work_out,
             marks: OnceCell::new(),
+            verdict: OnceCell::new(),
         }
+    }
+
+    /// The blocked nodes.
+    pub fn blocked(&self) -> &[usize] {
+        &self.blocked
     }
 
     /// Makes the call. It is lent an output or a state, which calls that use neither leave alone.
     pub fn make(&self, call: &Call, lent: &mut [u8]) -> u32 {
-        let plan = match &self.plan {
-            Ok(plan) => plan,
-            Err(number) => return *number,
-        };
-        let marks = || self.of_accepted(plan);
-        let verdict = || from_marks(plan, &marks()[0]);
-        let done = match call {
-            Call::Refusal => Ok(0),
-            Call::Verdict => Ok(code_of_verdict(verdict())),
-            Call::Summary(node) => summary(plan, marks, *node, lent).map(|()| 0),
-            Call::Fresh => fresh(plan, lent).map(|()| 0),
-            Call::Event(event) => happen(plan, lent, *event).map(|()| 0),
-            Call::FinishTogether(tasks) => finish_together(plan, lent, tasks).map(|()| 0),
-            Call::Status => status(plan, lent).map(code_of_progress),
-            Call::Listing => listing(plan, verdict, lent).map(|len| 256 + len as u32),
+        let done = match (call, &self.plan, &self.remaining) {
+            (_, Err(number), _) => Err(*number),
+            (Call::Refusal, Ok(_), _) => Ok(0),
+            (Call::Listing, Ok(plan), _) => self.listing(plan, lent),
+            (_, Ok(_), Err(number)) => Err(*number),
+            (_, Ok(_), Ok(remaining)) => self.on_remaining(remaining, call, lent),
         };
         match done {
             Ok(code) => code,
@@ -101,22 +121,47 @@ impl Answers {
         }
     }
 
-    /// The marks at every node, or the plan's refusal.
+    /// The calls that take a list of blocked nodes.
+    fn on_remaining(&self, plan: &Remaining, call: &Call, lent: &mut [u8]) -> Result<u32, u32> {
+        let marks = || self.of_remaining(plan);
+        match call {
+            Call::Refusal | Call::Listing => unreachable!("{call:?} takes no list"),
+            Call::Verdict => Ok(code_of_verdict(from_marks(&plan.whole, &marks()[0]))),
+            Call::Summary(node) => summary(&plan.whole, marks, *node, lent).map(|()| 0),
+            Call::Fresh => fresh(plan, lent).map(|()| 0),
+            Call::Event(event) => happen(plan, lent, *event).map(|()| 0),
+            Call::FinishTogether(tasks) => finish_together(plan, lent, tasks).map(|()| 0),
+            Call::Status => status(plan, lent).map(code_of_progress),
+        }
+    }
+
+    /// The listing is that of the whole plan.
+    fn listing(&self, plan: &Plan, lent: &mut [u8]) -> Result<u32, u32> {
+        let whole = || match &self.remaining {
+            Ok(same) if self.blocked.is_empty() => from_marks(plan, &self.of_remaining(same)[0]),
+            _ => from_marks(plan, &(self.work_out)(plan)[0]),
+        };
+        let len = listing(plan, || *self.verdict.get_or_init(whole), lent)?;
+        Ok(256 + len as u32)
+    }
+
+    /// The marks at every node, or the refusal of the plan or the list.
     pub fn marks(&self) -> Result<&[Vec<Marks>], u32> {
-        match &self.plan {
-            Ok(plan) => Ok(self.of_accepted(plan)),
+        match &self.remaining {
+            Ok(plan) => Ok(self.of_remaining(plan)),
             Err(number) => Err(*number),
         }
     }
 
-    fn of_accepted(&self, plan: &Plan) -> &[Vec<Marks>] {
-        self.marks.get_or_init(|| (self.work_out)(plan))
+    fn of_remaining(&self, plan: &Remaining) -> &[Vec<Marks>] {
+        let work_out = || plan.spread(&(self.work_out)(&plan.plan));
+        self.marks.get_or_init(work_out)
     }
 }
 
 /// Makes one call.
-pub fn make(call: &Call, plan: &[u8], lent: &mut [u8]) -> u32 {
-    Answers::by_rules(plan).make(call, lent)
+pub fn make(call: &Call, plan: &[u8], blocked: &[usize], lent: &mut [u8]) -> u32 {
+    Answers::by_rules(plan).blocking(blocked).make(call, lent)
 }
 
 pub fn code_of_verdict(verdict: Verdict) -> u32 {

@@ -48,6 +48,15 @@ impl Event {
         }
     }
 
+    /// The same event of another node.
+    pub fn at(self, node: usize) -> Event {
+        match self {
+            Event::Start(_) => Event::Start(node),
+            Event::Finish(_) => Event::Finish(node),
+            Event::Skip(_) => Event::Skip(node),
+        }
+    }
+
     /// The literals that the event makes true.
     pub fn asserts(self, plan: &Plan) -> impl Iterator<Item = Literal> + '_ {
         let place = match self {

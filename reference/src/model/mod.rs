@@ -14,6 +14,8 @@ pub mod places;
 pub mod runs;
 pub mod verdict;
 
+pub mod blocked;
+
 pub mod monitor;
 pub mod summary;
 pub mod waits;

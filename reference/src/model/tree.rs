@@ -19,9 +19,13 @@ impl Plan {
         self.has_kind(node, ALL_OF)
     }
 
+    pub fn is_any_of(&self, node: usize) -> bool {
+        self.has_kind(node, ANY_OF)
+    }
+
     /// Whether the node is a group of which one branch is taken.
     pub fn is_choice(&self, node: usize) -> bool {
-        self.has_kind(node, ANY_OF) || self.is_optional(node)
+        self.is_any_of(node) || self.is_optional(node)
     }
 
     fn has_kind(&self, number: usize, kind: u8) -> bool {

@@ -12,10 +12,17 @@ use crate::tools::memory::Lent;
 mod c {
     extern "C" {
         pub fn knowetop_refusal(plan: *const u8, plan_len: usize) -> u32;
-        pub fn knowetop_verdict(plan: *const u8, plan_len: usize) -> u32;
+        pub fn knowetop_verdict(
+            plan: *const u8,
+            plan_len: usize,
+            blocked: *const usize,
+            blocked_len: usize,
+        ) -> u32;
         pub fn knowetop_summary(
             plan: *const u8,
             plan_len: usize,
+            blocked: *const usize,
+            blocked_len: usize,
             node: usize,
             out: *mut u8,
             out_len: usize,
@@ -23,12 +30,16 @@ mod c {
         pub fn knowetop_fresh(
             plan: *const u8,
             plan_len: usize,
+            blocked: *const usize,
+            blocked_len: usize,
             state: *mut u8,
             state_len: usize,
         ) -> u32;
         pub fn knowetop_start(
             plan: *const u8,
             plan_len: usize,
+            blocked: *const usize,
+            blocked_len: usize,
             state: *mut u8,
             state_len: usize,
             task: usize,
@@ -36,6 +47,8 @@ mod c {
         pub fn knowetop_finish(
             plan: *const u8,
             plan_len: usize,
+            blocked: *const usize,
+            blocked_len: usize,
             state: *mut u8,
             state_len: usize,
             task: usize,
@@ -43,6 +56,8 @@ mod c {
         pub fn knowetop_finish_together(
             plan: *const u8,
             plan_len: usize,
+            blocked: *const usize,
+            blocked_len: usize,
             state: *mut u8,
             state_len: usize,
             tasks: *const usize,
@@ -51,6 +66,8 @@ mod c {
         pub fn knowetop_skip(
             plan: *const u8,
             plan_len: usize,
+            blocked: *const usize,
+            blocked_len: usize,
             state: *mut u8,
             state_len: usize,
             group: usize,
@@ -58,6 +75,8 @@ mod c {
         pub fn knowetop_status(
             plan: *const u8,
             plan_len: usize,
+            blocked: *const usize,
+            blocked_len: usize,
             state: *const u8,
             state_len: usize,
         ) -> u32;
@@ -70,43 +89,63 @@ mod c {
     }
 }
 
-/// Makes the call. What it is lent is an output or a state; some calls take neither. A list of
-/// tasks is lent too, and must stay as it is.
-pub fn make(call: &Call, plan: &mut [u8], lent: &mut [u8]) -> u32 {
-    let Call::FinishTogether(tasks) = call else {
-        return make_with(call, plan, lent, &mut []);
+/// Makes the call. What it is lent is an output or a state; some calls take neither. The lists of
+/// blocked nodes and of tasks are lent too, and must stay as they are.
+pub fn make(call: &Call, plan: &mut [u8], blocked: &[usize], lent: &mut [u8]) -> u32 {
+    let tasks: &[usize] = match call {
+        Call::FinishTogether(tasks) => tasks,
+        _ => &[],
     };
-    let mut list = Lent::new(tasks);
-    let returned = make_with(call, plan, lent, list.items());
-    assert_eq!(list.back(), *tasks, "the list of tasks was written");
+    let (mut lists, before) = ([blocked, tasks].map(Lent::new), [blocked, tasks]);
+    let returned = make_with(call, plan, lent, lists.each_mut().map(Lent::items));
+    let after = lists.map(Lent::back);
+    assert_eq!(after, before, "a list of nodes was written");
     returned
 }
 
-/// Makes the call with its list of tasks, if it is to have one, in this memory.
-pub fn make_with(call: &Call, plan: &mut [u8], lent: &mut [u8], tasks: &mut [usize]) -> u32 {
+/// The verdict as it is timed, with the blocked nodes in this memory.
+pub fn verdict(plan: &mut [u8], blocked: &mut [usize]) -> u32 {
+    make_with(&Call::Verdict, plan, &mut [], [blocked, &mut []])
+}
+
+/// Makes the call with the blocked nodes and with its list of tasks, as far as it is to have them,
+/// in this memory.
+pub fn make_with(call: &Call, plan: &mut [u8], lent: &mut [u8], lists: [&mut [usize]; 2]) -> u32 {
     let (plan, plan_len) = (plan.as_mut_ptr(), plan.len());
     let (lent, lent_len) = (lent.as_mut_ptr(), lent.len());
-    let (tasks, tasks_len) = (tasks.as_mut_ptr(), tasks.len());
+    let [(blocked, blocked_len), (tasks, tasks_len)] =
+        lists.map(|list| (list.as_mut_ptr(), list.len()));
     // SAFETY: each pointer and length are those of one slice, borrowed for the length of the call.
     unsafe {
         match *call {
             Call::Refusal => c::knowetop_refusal(plan, plan_len),
-            Call::Verdict => c::knowetop_verdict(plan, plan_len),
-            Call::Summary(node) => c::knowetop_summary(plan, plan_len, node, lent, lent_len),
-            Call::Fresh => c::knowetop_fresh(plan, plan_len, lent, lent_len),
+            Call::Verdict => c::knowetop_verdict(plan, plan_len, blocked, blocked_len),
+            Call::Summary(node) => {
+                c::knowetop_summary(plan, plan_len, blocked, blocked_len, node, lent, lent_len)
+            }
+            Call::Fresh => c::knowetop_fresh(plan, plan_len, blocked, blocked_len, lent, lent_len),
             Call::Event(Event::Start(task)) => {
-                c::knowetop_start(plan, plan_len, lent, lent_len, task)
+                c::knowetop_start(plan, plan_len, blocked, blocked_len, lent, lent_len, task)
             }
             Call::Event(Event::Finish(task)) => {
-                c::knowetop_finish(plan, plan_len, lent, lent_len, task)
+                c::knowetop_finish(plan, plan_len, blocked, blocked_len, lent, lent_len, task)
             }
             Call::Event(Event::Skip(group)) => {
-                c::knowetop_skip(plan, plan_len, lent, lent_len, group)
+                c::knowetop_skip(plan, plan_len, blocked, blocked_len, lent, lent_len, group)
             }
-            Call::FinishTogether(_) => {
-                c::knowetop_finish_together(plan, plan_len, lent, lent_len, tasks, tasks_len)
+            Call::FinishTogether(_) => c::knowetop_finish_together(
+                plan,
+                plan_len,
+                blocked,
+                blocked_len,
+                lent,
+                lent_len,
+                tasks,
+                tasks_len,
+            ),
+            Call::Status => {
+                c::knowetop_status(plan, plan_len, blocked, blocked_len, lent, lent_len)
             }
-            Call::Status => c::knowetop_status(plan, plan_len, lent, lent_len),
             Call::Listing => c::knowetop_listing(plan, plan_len, lent, lent_len),
         }
     }

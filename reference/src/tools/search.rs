@@ -10,8 +10,8 @@ use crate::model::monitor::{places_begin, state_len};
 /// What the status call returns then.
 const COMPLETE: u32 = 128;
 
-/// What some list of start, finish, skip and finish-together calls, from the fresh state, can bring
-/// about.
+/// What some list of start, finish, skip and finish-together calls, from the fresh state and all
+/// with the same nodes blocked, can bring about.
 #[derive(Clone, Copy, Debug, PartialEq, Eq)]
 pub struct Outcome {
     /// Some call returns 21 or 22.
@@ -29,23 +29,27 @@ impl Outcome {
     }
 }
 
-/// By the reference.
-pub fn search(plan: &Plan) -> Outcome {
-    let answers = Answers::by_rules(&plan.bytes());
-    search_by(plan, |call, _, lent| answers.make(call, lent))
+/// By the reference, with these nodes blocked.
+pub fn search(plan: &Plan, blocked: &[usize]) -> Outcome {
+    let answers = Answers::by_rules(&plan.bytes()).blocking(blocked);
+    search_by(plan, blocked, |call, _, _, lent| answers.make(call, lent))
 }
 
 /// Goes through every state that these calls reach, but for the order of starts: no return depends
 /// on it, and there are too many. Numbers beyond the nodes only ever return 17 or 27, and lists of
 /// tasks that do not rise or do not all run 25, 17 or 18.
-pub fn search_by(plan: &Plan, make: impl Fn(&Call, &mut [u8], &mut [u8]) -> u32) -> Outcome {
+pub fn search_by(
+    plan: &Plan,
+    blocked: &[usize],
+    make: impl Fn(&Call, &mut [u8], &[usize], &mut [u8]) -> u32,
+) -> Outcome {
     let mut outcome = Outcome {
         conflict: false,
         opposed: false,
         completable: false,
     };
     let mut bytes = plan.bytes();
-    let mut make = |call: &Call, state: &mut [u8]| make(call, &mut bytes, state);
+    let mut make = |call: &Call, state: &mut [u8]| make(call, &mut bytes, blocked, state);
     let mut fresh = vec![0; state_len(plan)];
     assert_eq!(make(&Call::Fresh, &mut fresh), 0);
     let without_places = |state: &[u8]| state[..places_begin(plan)].to_vec();

@@ -15,7 +15,7 @@ const LARGE: &[u8] = include_bytes!("../../../samples/large.plan");
 /// Every call on these bytes.
 fn every_call(tally: &mut Tally, random: &mut Random, plan: &[u8]) {
     let answers = Answers::by_rules(plan);
-    for case in cases(random, plan) {
+    for case in cases(random, plan, &[]) {
         tally.compare(&answers, &case);
     }
 }

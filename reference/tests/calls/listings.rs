@@ -14,6 +14,7 @@ fn listed(tally: &mut Tally, random: &mut Random, plan: &Plan, len: usize) -> u3
     let case = Case {
         call: Call::Listing,
         plan: plan.bytes(),
+        blocked: Vec::new(),
         lent: random.bytes(len),
     };
     let answers = Answers::by_rules(&case.plan);

@@ -72,6 +72,7 @@ pub fn on_state(
         let case = Case {
             call,
             plan: plan.bytes(),
+            blocked: answers.blocked().to_vec(),
             lent: state.to_vec(),
         };
         tally.compare(answers, &case);
@@ -79,7 +80,7 @@ pub fn on_state(
 }
 
 /// Every call of the monitor on the state, with some number or list of numbers.
-fn every_call(
+pub fn every_call(
     tally: &mut Tally,
     random: &mut Random,
     plan: &Plan,
@@ -187,7 +188,7 @@ pub fn statuses(tally: &mut Tally) {
 
 /// A state with the start flags and these bytes at the nodes; the tasks whose byte is not 0 were
 /// started in the order of their numbers.
-fn in_order(plan: &Plan, bytes: &[u8]) -> Vec<u8> {
+pub fn in_order(plan: &Plan, bytes: &[u8]) -> Vec<u8> {
     let mut places = Places::none(plan);
     let started = plan.tasks().filter(|&task| bytes[task] != 0);
     for (place, task) in (1..).zip(started) {
@@ -205,12 +206,13 @@ pub fn claims(tally: &mut Tally) {
             let case = Case {
                 call: Call::Verdict,
                 plan: plan.bytes(),
+                blocked: Vec::new(),
                 lent: Vec::new(),
             };
             let verdict = tally
                 .compare(&Answers::by_rules(&case.plan), &case)
                 .returned;
-            let found = search_by(&plan, archive::make);
+            let found = search_by(&plan, &[], archive::make);
             assert_eq!(verdict == 128, found.is_clear(), "{plan:?}");
             assert!(verdict != 129 || !found.completable, "{plan:?}");
         }

@@ -1,5 +1,6 @@
 //! Every call of the archive against the reference: what it returns and each byte that it was lent.
 
+mod blocked;
 mod damage;
 mod listings;
 mod lists;
@@ -13,7 +14,7 @@ use reference::tools::scenario::tally::Tally;
 
 type Topic = (&'static str, fn(&mut Tally));
 
-const TOPICS: [Topic; 20] = [
+const TOPICS: [Topic; 34] = [
     ("summaries of small plans, by runs", summaries::small),
     ("summaries of large plans, by rules", summaries::large),
     ("summaries of the samples", summaries::samples),
@@ -28,6 +29,50 @@ const TOPICS: [Topic; 20] = [
     ("lists of tasks in any order", together::orders),
     ("running tasks together", together::running),
     ("long lists of tasks", together::long),
+    (
+        "28 and 29, by up to three numbers",
+        blocked::refusals::numbers,
+    ),
+    (
+        "28 and 29, by lists of branches",
+        blocked::refusals::branches_left,
+    ),
+    ("long lists of blocked nodes", blocked::refusals::long),
+    (
+        "lists of any kind on damaged plans",
+        blocked::refusals::damaged,
+    ),
+    (
+        "summaries with blocked nodes, by runs",
+        blocked::summaries::small,
+    ),
+    (
+        "summaries of large ones, by rules",
+        blocked::summaries::large,
+    ),
+    (
+        "calls with blocked nodes, small plans",
+        blocked::runs::small,
+    ),
+    (
+        "calls with blocked nodes, large plans",
+        blocked::runs::large,
+    ),
+    (
+        "states with blocked nodes, every fault",
+        blocked::runs::states,
+    ),
+    ("every byte, with blocked nodes", blocked::runs::statuses),
+    ("CLEAR and DOOMED with blocked nodes", blocked::runs::claims),
+    (
+        "more blocked, CLEAR and DOOMED",
+        blocked::promises::more_blocked,
+    ),
+    (
+        "more orders, CLEAR and DOOMED",
+        blocked::promises::more_orders,
+    ),
+    ("the same on large plans", blocked::promises::large),
     ("listings of random plans", listings::random),
     ("listings of long, deep and equal waits", listings::extremes),
     ("listings of equal waits, by names", listings::ties),
@@ -38,14 +83,14 @@ const TOPICS: [Topic; 20] = [
 
 /// What each call returned at least so often.
 const MET: [(&str, usize, &[RangeInclusive<u32>]); 9] = [
-    ("verdict", 20, &[1..=14, 128..=130]),
-    ("summary", 20, &[0..=15, 17..=17]),
-    ("fresh", 20, &[0..=15]),
-    ("start", 20, &[0..=22]),
-    ("finish", 20, &[0..=18, 22..=22]),
-    ("skip", 20, &[0..=16, 18..=20, 27..=27]),
-    ("finish together", 20, &[0..=18, 22..=22, 25..=26]),
-    ("status", 20, &[1..=16, 128..=129]),
+    ("verdict", 20, &[1..=14, 28..=29, 128..=130]),
+    ("summary", 20, &[0..=15, 17..=17, 28..=29]),
+    ("fresh", 20, &[0..=15, 28..=29]),
+    ("start", 20, &[0..=22, 28..=29]),
+    ("finish", 20, &[0..=18, 22..=22, 28..=29]),
+    ("skip", 20, &[0..=16, 18..=20, 27..=29]),
+    ("finish together", 20, &[0..=18, 22..=22, 25..=26, 28..=29]),
+    ("status", 20, &[1..=16, 28..=29, 128..=129]),
     ("listing", 20, &[1..=15, 256..=256]),
 ];
 

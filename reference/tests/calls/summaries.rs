@@ -15,21 +15,21 @@ use reference::tools::scenario::Case;
 
 /// How many entries have each mark, and how many entries there are.
 #[derive(Default)]
-struct Marked {
+pub struct Marked {
     set: [usize; 8],
     entries: usize,
 }
 
 impl Marked {
     /// Both values of each mark were met so often.
-    fn at_least(&self, least: usize) {
+    pub fn at_least(&self, least: usize) {
         let Marked { set, entries } = self;
         println!("{entries} entries, of which so many have each mark: {set:?}");
         let both = |&count: &usize| count >= least && entries - count >= least;
         assert!(set.iter().all(both));
     }
 
-    fn add(&mut self, answers: &Answers) {
+    pub fn add(&mut self, answers: &Answers) {
         for entry in answers.marks().unwrap().concat() {
             self.entries += 1;
             for (count, value) in self.set.iter_mut().zip(entry.in_order()) {
@@ -40,7 +40,7 @@ impl Marked {
 }
 
 /// The verdict and the summary of every node, with output of 16V bytes and up to 9 more.
-fn every_node(tally: &mut Tally, random: &mut Random, plan: &Plan, answers: &Answers) {
+pub fn every_node(tally: &mut Tally, random: &mut Random, plan: &Plan, answers: &Answers) {
     let bytes = plan.bytes();
     for call in (0..plan.nodes.len())
         .map(Call::Summary)
@@ -50,6 +50,7 @@ fn every_node(tally: &mut Tally, random: &mut Random, plan: &Plan, answers: &Ans
         let case = Case {
             call,
             plan: bytes.clone(),
+            blocked: answers.blocked().to_vec(),
             lent: random.bytes(len),
         };
         tally.compare(answers, &case);
@@ -113,6 +114,7 @@ pub fn samples(tally: &mut Tally) {
             let case = Case {
                 call,
                 plan: plan.clone(),
+                blocked: Vec::new(),
                 lent: vec![7; 1_030],
             };
             tally.compare(&answers, &case);
@@ -141,6 +143,7 @@ pub fn lengths(tally: &mut Tally) {
                 let case = Case {
                     call: Call::Summary(node),
                     plan: plan.bytes(),
+                    blocked: Vec::new(),
                     lent: random.bytes(len),
                 };
                 tally.compare(&answers, &case);

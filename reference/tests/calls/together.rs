@@ -32,7 +32,7 @@ pub fn orders(tally: &mut Tally) {
     }
 }
 
-fn up_to_three(numbers: &[usize]) -> impl Iterator<Item = Vec<usize>> + '_ {
+pub fn up_to_three(numbers: &[usize]) -> impl Iterator<Item = Vec<usize>> + '_ {
     let count = numbers.len() + 1;
     // The last number of all stands for none.
     let digits = move |at: usize| [at / count / count, at / count % count, at % count];

@@ -65,7 +65,7 @@ fn verdicts_and_lists() {
     let mut only_opposed = 0;
     for_each_plan(32, |plan| {
         let verdict = verdict(plan);
-        let found = search(plan);
+        let found = search(plan, &[]);
         assert_eq!(
             verdict == Verdict::Clear,
             found.is_clear(),
@@ -99,7 +99,7 @@ fn postconditions_alone() {
                 true => Verdict::Open,
                 false => Verdict::Clear,
             };
-            let found = search(&plan);
+            let found = search(&plan, &[]);
             assert_eq!(verdict(&plan), want, "{}", shown(&plan));
             assert_eq!(found.opposed, want == Verdict::Open, "{}", shown(&plan));
             assert!(!found.conflict && found.completable, "{}", shown(&plan));

@@ -2,27 +2,40 @@
 
 use std::collections::BTreeMap;
 
+use reference::model::blocked::Remaining;
 use reference::model::calls::Call;
 use reference::model::format::{Plan, Sizes};
 use reference::tools::generate::{any_plan, dense_plan, LIMITS};
 use reference::tools::random::Random;
+use reference::tools::scenario::blocked::{calls as under_list, passing};
 use reference::tools::scenario::lists::{list, long_list, replay};
 
-use crate::make;
 use crate::past::Past;
+use crate::{by_both, make_blocking};
 
 /// How often each call returned what.
 type Counts = BTreeMap<(&'static str, u32), usize>;
 
-/// Replays a list and counts its returns. The bytes after the state must stay.
+/// Replays a list with nothing blocked and counts its returns.
 fn check(random: &mut Random, plan: &Plan, list: &[Call], counts: &mut Counts) {
+    check_blocking(random, plan, &[], list, counts);
+}
+
+/// Replays a list with these nodes blocked and counts its returns. The bytes after the state must
+/// stay.
+fn check_blocking(
+    random: &mut Random,
+    plan: &Plan,
+    blocked: &[usize],
+    list: &[Call],
+    counts: &mut Counts,
+) {
     let state_len = 8 + 3 * plan.nodes.len();
     let extra = random.below(4);
     let lent = random.bytes(state_len + extra);
     let bytes = plan.bytes();
-    let by_both = |call: &Call, plan: &mut [u8], lent: &mut [u8]| make(call, plan, lent);
-    let afters = replay(&bytes, list, lent.clone(), by_both);
-    let mut past = Past::new(plan);
+    let afters = replay(&bytes, blocked, list, lent.clone(), by_both);
+    let mut past = Past::new(plan, blocked);
     assert_eq!(afters[0].returned, 0);
     assert_eq!(afters[0].lent, [&past.state(), &lent[state_len..]].concat());
     for (call, after) in list.iter().zip(&afters[1..]) {
@@ -33,7 +46,7 @@ fn check(random: &mut Random, plan: &Plan, list: &[Call], counts: &mut Counts) {
         let left = [&state, &lent[state_len..]].concat();
         assert_eq!(after.lent, left, "{}", past.at(call));
         let status = if past.complete()[0] { 128 } else { 129 };
-        let found = make(&Call::Status, &bytes, &mut after.lent.clone());
+        let found = make_blocking(&Call::Status, &bytes, blocked, &mut after.lent.clone());
         assert_eq!(found, status, "{}", past.at(call));
     }
 }
@@ -69,6 +82,31 @@ fn returns_and_states() {
     let flat = Plan::flat(1, 128);
     let long = long_list(&mut random, &flat);
     check(&mut random, &flat, &long, &mut counts);
+    println!("{counts:?}");
+    met(counts);
+}
+
+/// The same with blocked nodes: the whole plan is asked, and whether a node is absent.
+#[test]
+fn returns_and_states_with_blocked_nodes() {
+    let mut random = Random::new(42);
+    let mut counts = Counts::new();
+    let mut plans: Vec<Plan> = Vec::new();
+    for nodes in 3..=10 {
+        plans.extend((0..1_000).map(|_| dense_plan(&mut random, nodes)));
+    }
+    plans.extend((0..3).map(|_| any_plan(&mut random, LIMITS)));
+    for plan in plans {
+        let blocked = passing(&mut random, &plan);
+        let remaining = Remaining::new(&plan, &blocked).unwrap();
+        let calls = random.pick(&[20, 30]);
+        let drawn = match random.below(3) {
+            0 => long_list(&mut random, &remaining.plan),
+            _ => list(&mut random, &remaining.plan, calls),
+        };
+        let drawn = under_list(&mut random, &remaining, drawn);
+        check_blocking(&mut random, &plan, &blocked, &drawn, &mut counts);
+    }
     println!("{counts:?}");
     met(counts);
 }

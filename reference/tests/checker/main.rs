@@ -2,6 +2,7 @@
 //! the reference against each other.
 
 mod agreement;
+mod blocked;
 mod clobbering;
 mod lists;
 mod memory;
@@ -44,17 +45,29 @@ fn plan(text: &str) -> Vec<u8> {
     text::make(text).unwrap()
 }
 
-/// Makes the call of the reference and of the archive: both must return and leave the same.
+/// Makes the call with nothing blocked.
 #[track_caller]
 fn make(call: &Call, plan: &[u8], lent: &mut [u8]) -> u32 {
+    make_blocking(call, plan, &[], lent)
+}
+
+/// Makes the call of the reference and of the archive: both must return and leave the same.
+#[track_caller]
+fn make_blocking(call: &Call, plan: &[u8], blocked: &[usize], lent: &mut [u8]) -> u32 {
     let case = Case {
         call: call.clone(),
         plan: plan.to_vec(),
+        blocked: blocked.to_vec(),
         lent: lent.to_vec(),
     };
     let after = case.make(reference);
     lent.copy_from_slice(&after.lent);
     case.compare(archive::make)
+}
+
+/// `make_blocking` on memory that is lent.
+fn by_both(call: &Call, plan: &mut [u8], blocked: &[usize], lent: &mut [u8]) -> u32 {
+    make_blocking(call, plan, blocked, lent)
 }
 
 /// A state with this flag byte, these bytes at the nodes and these places.
@@ -63,24 +76,41 @@ fn state<const N: usize>(flags: u8, statuses: [u8; N], places: [u8; N]) -> Vec<u
     [&[flags, 0, 0, 0, 0, 0, 0, 0][..], &statuses, &places].concat()
 }
 
+#[track_caller]
 fn verdict(plan: &[u8]) -> u32 {
-    make(&Call::Verdict, plan, &mut [])
+    verdict_blocking(plan, &[])
+}
+
+#[track_caller]
+fn verdict_blocking(plan: &[u8], blocked: &[usize]) -> u32 {
+    make_blocking(&Call::Verdict, plan, blocked, &mut [])
 }
 
 /// The entries of a node's summary.
 #[track_caller]
 fn entries(plan: &[u8], node: usize) -> Vec<[u8; 8]> {
+    entries_blocking(plan, &[], node)
+}
+
+/// The entries of a node's summary with these nodes blocked.
+#[track_caller]
+fn entries_blocking(plan: &[u8], blocked: &[usize], node: usize) -> Vec<[u8; 8]> {
     let mut out = vec![7; summary_len(&fields(plan))];
-    assert_eq!(make(&Call::Summary(node), plan, &mut out), 0);
+    let returned = make_blocking(&Call::Summary(node), plan, blocked, &mut out);
+    assert_eq!(returned, 0);
     let entry = |bytes: &[u8]| bytes.try_into().unwrap();
     out.chunks(8).map(entry).collect()
 }
 
 /// What each call of a list returns.
 fn returns<C: Clone + Into<Call>>(plan: &[u8], list: &[C]) -> Vec<u32> {
-    let by_both = |call: &Call, plan: &mut [u8], lent: &mut [u8]| make(call, plan, lent);
+    returns_blocking(plan, &[], list)
+}
+
+/// What each call of a list returns with these nodes blocked.
+fn returns_blocking<C: Clone + Into<Call>>(plan: &[u8], blocked: &[usize], list: &[C]) -> Vec<u32> {
     let calls: Vec<Call> = list.iter().cloned().map(C::into).collect();
-    let afters = replay(plan, &calls, vec![7; 400], by_both);
+    let afters = replay(plan, blocked, &calls, vec![7; 400], by_both);
     let mut returned = afters.iter().map(|after| after.returned);
     assert_eq!(returned.next(), Some(0), "fresh");
     returned.collect()

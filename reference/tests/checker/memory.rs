@@ -111,7 +111,7 @@ fn changed_bytes() {
     }
     plans.extend((0..2).map(|_| any_plan(&mut random, LIMITS)));
     for plan in plans {
-        for case in cases(&mut random, &plan.bytes()) {
+        for case in cases(&mut random, &plan.bytes(), &[]) {
             counts[check(&case).min(256) as usize] += 1;
         }
     }
@@ -143,6 +143,7 @@ fn refused() -> Case {
     Case {
         call: Call::Event(Event::Start(2)),
         plan: sample("b"),
+        blocked: Vec::new(),
         lent: vec![0; 23],
     }
 }
@@ -155,14 +156,14 @@ fn equal_calls() {
 #[test]
 #[should_panic(expected = "returns 18, not 17")]
 fn another_return() {
-    refused().compare(|call, plan, lent| reference(call, plan, lent) + 1);
+    refused().compare(|call, plan, blocked, lent| reference(call, plan, blocked, lent) + 1);
 }
 
 #[test]
 #[should_panic(expected = "leaves 23 bytes 0000000000000000000001000000000000000000000000, not")]
 fn a_byte_written() {
-    refused().compare(|call, plan, lent| {
-        let returned = reference(call, plan, lent);
+    refused().compare(|call, plan, blocked, lent| {
+        let returned = reference(call, plan, blocked, lent);
         lent[10] = 1;
         returned
     });
@@ -171,8 +172,8 @@ fn a_byte_written() {
 #[test]
 #[should_panic(expected = "leaves the plan")]
 fn a_byte_of_the_plan_written() {
-    refused().compare(|call, plan, lent| {
-        let returned = reference(call, plan, lent);
+    refused().compare(|call, plan, blocked, lent| {
+        let returned = reference(call, plan, blocked, lent);
         plan[16] = b'N';
         returned
     });

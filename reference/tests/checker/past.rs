@@ -13,21 +13,25 @@ use crate::shown;
 /// each is one; their order makes no difference.
 pub struct Past<'a> {
     plan: &'a Plan,
+    blocked: &'a [usize],
     accepted: Vec<Event>,
 }
 
 impl<'a> Past<'a> {
-    /// Before any call.
-    pub fn new(plan: &'a Plan) -> Past<'a> {
+    /// Before any call, all of which are to have these nodes blocked.
+    pub fn new(plan: &'a Plan, blocked: &'a [usize]) -> Past<'a> {
         Past {
             plan,
+            blocked,
             accepted: Vec::new(),
         }
     }
 
     /// Where a comparison failed.
     pub fn at(&self, call: &Call) -> String {
-        format!("{call:?} with {:?} on\n{}", self.accepted, shown(self.plan))
+        let (accepted, blocked) = (&self.accepted, self.blocked);
+        let plan = shown(self.plan);
+        format!("{call:?} with {accepted:?} and {blocked:?} blocked on\n{plan}")
     }
 
     /// 0, and the call is taken in; or the refusal that applies first.
@@ -55,7 +59,7 @@ impl<'a> Past<'a> {
             Start(_) if self.has(Start(node)) => 18,
             Finish(_) if !self.running(node) => 18,
             Skip(_) if self.happened_in(node) => 18,
-            Start(_) | Skip(_) if self.chosen_otherwise(node) => 19,
+            Start(_) | Skip(_) if self.absent(node) || self.chosen_otherwise(node) => 19,
             Start(_) | Skip(_) if self.too_early(node) => 20,
             Start(_) if !self.all_true(node) => 21,
             _ if self.breaks(&self.written(event), &[node]) => 22,
@@ -141,6 +145,13 @@ impl<'a> Past<'a> {
             let parting = path.iter().find(|node| other.contains(node)).unwrap();
             [ANY_OF, OPTIONAL].contains(&self.plan.nodes[*parting].kind)
         })
+    }
+
+    /// Whether the node is blocked or below a blocked one. Apart from this the whole plan is asked:
+    /// nothing ever happens at absent nodes.
+    fn absent(&self, node: usize) -> bool {
+        let path = self.path(node);
+        path.iter().any(|above| self.blocked.contains(above))
     }
 
     /// The node and all nodes above it.

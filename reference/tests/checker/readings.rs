@@ -118,7 +118,7 @@ fn open_and_never_complete() {
          2 Z--- task 0 under 0 needs 0-clear\n",
     );
     assert_eq!(verdict(&plan), OPEN);
-    let found = search(&fields(&plan));
+    let found = search(&fields(&plan), &[]);
     assert!(found.conflict && !found.completable);
 }
 

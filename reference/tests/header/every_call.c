@@ -13,6 +13,9 @@ enum { MOOR, CAST, COMS, RADI, SATL, NODES };
 /* B has two flags, so a summary has four entries of eight marks. */
 enum { FLAGS = 2, SUMMARY = 16 * FLAGS, STATE = 8 + 3 * NODES, LISTING = 2048 };
 
+/* Nothing blocked: a list of which no number is read. */
+static const size_t none[] = {99};
+
 static int same(const uint8_t *found, const uint8_t *wanted, size_t len)
 {
     return memcmp(found, wanted, len) == 0;
@@ -34,8 +37,8 @@ static void refusal_and_verdict(const uint8_t *plan, size_t len)
     assert(knowetop_refusal(plan, len) == 0);
     assert(knowetop_refusal(plan, 15) == 1);
     assert(knowetop_refusal(plan, len - 1) == 3);
-    assert(knowetop_verdict(plan, len) == KNOWETOP_CLEAR);
-    assert(knowetop_verdict(plan, len - 1) == 3);
+    assert(knowetop_verdict(plan, len, none, 0) == KNOWETOP_CLEAR);
+    assert(knowetop_verdict(plan, len - 1, none, 0) == 3);
 }
 
 static void summary(const uint8_t *plan, size_t len)
@@ -48,10 +51,10 @@ static void summary(const uint8_t *plan, size_t len)
     };
     uint8_t out[SUMMARY + 8];
     memset(out, 7, sizeof out);
-    assert(knowetop_summary(plan, len, MOOR, out, SUMMARY - 1) == 15);
-    assert(knowetop_summary(plan, len, NODES, out, sizeof out) == 17);
+    assert(knowetop_summary(plan, len, none, 0, MOOR, out, SUMMARY - 1) == 15);
+    assert(knowetop_summary(plan, len, none, 0, NODES, out, sizeof out) == 17);
     assert(kept(out, sizeof out));
-    assert(knowetop_summary(plan, len, MOOR, out, sizeof out) == 0);
+    assert(knowetop_summary(plan, len, none, 0, MOOR, out, sizeof out) == 0);
     assert(same(out, of_root, SUMMARY) && kept(out + SUMMARY, sizeof out - SUMMARY));
 }
 
@@ -83,26 +86,26 @@ static void run(const uint8_t *plan, size_t len)
 {
     uint8_t state[STATE];
 
-    assert(knowetop_fresh(plan, len, state, sizeof state) == 0);
+    assert(knowetop_fresh(plan, len, none, 0, state, sizeof state) == 0);
     assert(same(state, at_first, STATE));
-    assert(knowetop_start(plan, len, state, sizeof state, COMS) == 17); /* no task */
-    assert(knowetop_start(plan, len, state, sizeof state, RADI) == 20); /* CAST comes first */
-    assert(knowetop_finish(plan, len, state, sizeof state, CAST) == 18); /* it does not run */
+    assert(knowetop_start(plan, len, none, 0, state, sizeof state, COMS) == 17); /* no task */
+    assert(knowetop_start(plan, len, none, 0, state, sizeof state, RADI) == 20); /* CAST comes first */
+    assert(knowetop_finish(plan, len, none, 0, state, sizeof state, CAST) == 18); /* it does not run */
     assert(same(state, at_first, STATE));
 
-    assert(knowetop_start(plan, len, state, sizeof state, CAST) == 0);
+    assert(knowetop_start(plan, len, none, 0, state, sizeof state, CAST) == 0);
     assert(same(state, casting, STATE));
-    assert(knowetop_start(plan, len, state, sizeof state, CAST) == 18); /* it does not wait */
-    assert(knowetop_finish(plan, len, state, sizeof state, CAST) == 0);
+    assert(knowetop_start(plan, len, none, 0, state, sizeof state, CAST) == 18); /* it does not wait */
+    assert(knowetop_finish(plan, len, none, 0, state, sizeof state, CAST) == 0);
     assert(same(state, cast, STATE));
-    assert(knowetop_status(plan, len, state, sizeof state) == KNOWETOP_UNFINISHED);
+    assert(knowetop_status(plan, len, none, 0, state, sizeof state) == KNOWETOP_UNFINISHED);
 
-    assert(knowetop_start(plan, len, state, sizeof state, SATL) == 0);
+    assert(knowetop_start(plan, len, none, 0, state, sizeof state, SATL) == 0);
     assert(same(state, calling, STATE));
-    assert(knowetop_start(plan, len, state, sizeof state, RADI) == 19); /* SATL was chosen */
-    assert(knowetop_finish(plan, len, state, sizeof state, SATL) == 0);
+    assert(knowetop_start(plan, len, none, 0, state, sizeof state, RADI) == 19); /* SATL was chosen */
+    assert(knowetop_finish(plan, len, none, 0, state, sizeof state, SATL) == 0);
     assert(same(state, at_last, STATE));
-    assert(knowetop_status(plan, len, state, sizeof state) == KNOWETOP_COMPLETE);
+    assert(knowetop_status(plan, len, none, 0, state, sizeof state) == KNOWETOP_COMPLETE);
 }
 
 /* The same with COMS optional, of kind 3: with it skipped the run is complete after CAST. */
@@ -116,22 +119,22 @@ static void optional(const uint8_t *plan, size_t len)
     memcpy(skipped, cast, STATE);
     skipped[8 + COMS] = 2;
 
-    assert(knowetop_verdict(plan, len) == KNOWETOP_CLEAR);
-    assert(knowetop_fresh(plan, len, state, sizeof state) == 0);
-    assert(knowetop_skip(plan, len, state, STATE - 1, COMS) == 15);
-    assert(knowetop_skip(plan, len, state, sizeof state, CAST) == 27); /* a task */
-    assert(knowetop_skip(plan, len, state, sizeof state, NODES) == 27); /* no node */
-    assert(knowetop_skip(plan, len, state, sizeof state, COMS) == 20); /* CAST comes first */
+    assert(knowetop_verdict(plan, len, none, 0) == KNOWETOP_CLEAR);
+    assert(knowetop_fresh(plan, len, none, 0, state, sizeof state) == 0);
+    assert(knowetop_skip(plan, len, none, 0, state, STATE - 1, COMS) == 15);
+    assert(knowetop_skip(plan, len, none, 0, state, sizeof state, CAST) == 27); /* a task */
+    assert(knowetop_skip(plan, len, none, 0, state, sizeof state, NODES) == 27); /* no node */
+    assert(knowetop_skip(plan, len, none, 0, state, sizeof state, COMS) == 20); /* CAST comes first */
     assert(same(state, at_first, STATE));
 
-    assert(knowetop_start(plan, len, state, sizeof state, CAST) == 0);
-    assert(knowetop_finish(plan, len, state, sizeof state, CAST) == 0);
-    assert(knowetop_status(plan, len, state, sizeof state) == KNOWETOP_UNFINISHED);
-    assert(knowetop_skip(plan, len, state, sizeof state, COMS) == 0);
+    assert(knowetop_start(plan, len, none, 0, state, sizeof state, CAST) == 0);
+    assert(knowetop_finish(plan, len, none, 0, state, sizeof state, CAST) == 0);
+    assert(knowetop_status(plan, len, none, 0, state, sizeof state) == KNOWETOP_UNFINISHED);
+    assert(knowetop_skip(plan, len, none, 0, state, sizeof state, COMS) == 0);
     assert(same(state, skipped, STATE));
-    assert(knowetop_status(plan, len, state, sizeof state) == KNOWETOP_COMPLETE);
-    assert(knowetop_skip(plan, len, state, sizeof state, COMS) == 18); /* skipped already */
-    assert(knowetop_start(plan, len, state, sizeof state, RADI) == 19); /* in a skipped group */
+    assert(knowetop_status(plan, len, none, 0, state, sizeof state) == KNOWETOP_COMPLETE);
+    assert(knowetop_skip(plan, len, none, 0, state, sizeof state, COMS) == 18); /* skipped already */
+    assert(knowetop_start(plan, len, none, 0, state, sizeof state, RADI) == 19); /* in a skipped group */
     assert(same(state, skipped, STATE));
 }
 
@@ -151,26 +154,62 @@ static void finish_together(const uint8_t *plan, size_t len)
     changed[16 + 4 * NODES + 4 * COMS + 1] = 1;
     plan = changed;
 
-    assert(knowetop_verdict(plan, len) == KNOWETOP_OPEN);
+    assert(knowetop_verdict(plan, len, none, 0) == KNOWETOP_OPEN);
     memcpy(state, cast, STATE);
-    assert(knowetop_finish_together(plan, len, state, STATE - 1, both, 2) == 15);
-    assert(knowetop_finish_together(plan, len, state, sizeof state, both, 2) == 18); /* they wait */
-    assert(knowetop_start(plan, len, state, sizeof state, RADI) == 0);
-    assert(knowetop_start(plan, len, state, sizeof state, SATL) == 0);
+    assert(knowetop_finish_together(plan, len, none, 0, state, STATE - 1, both, 2) == 15);
+    assert(knowetop_finish_together(plan, len, none, 0, state, sizeof state, both, 2) == 18); /* they wait */
+    assert(knowetop_start(plan, len, none, 0, state, sizeof state, RADI) == 0);
+    assert(knowetop_start(plan, len, none, 0, state, sizeof state, SATL) == 0);
     memcpy(before, state, STATE);
-    assert(knowetop_finish(plan, len, state, sizeof state, RADI) == 22);
-    assert(knowetop_finish_together(plan, len, state, sizeof state, both, 0) == 25); /* none */
-    assert(knowetop_finish_together(plan, len, state, sizeof state, falling, 2) == 25);
-    assert(knowetop_finish_together(plan, len, state, sizeof state, with_group, 2) == 17);
-    assert(knowetop_finish_together(plan, len, state, sizeof state, both, 1) == 22);
+    assert(knowetop_finish(plan, len, none, 0, state, sizeof state, RADI) == 22);
+    assert(knowetop_finish_together(plan, len, none, 0, state, sizeof state, both, 0) == 25); /* none */
+    assert(knowetop_finish_together(plan, len, none, 0, state, sizeof state, falling, 2) == 25);
+    assert(knowetop_finish_together(plan, len, none, 0, state, sizeof state, with_group, 2) == 17);
+    assert(knowetop_finish_together(plan, len, none, 0, state, sizeof state, both, 1) == 22);
 
     changed[len - 2 - 2] += 64; /* the last condition: SATL leaves flag 1 set */
-    assert(knowetop_finish_together(plan, len, state, sizeof state, both, 2) == 26);
+    assert(knowetop_finish_together(plan, len, none, 0, state, sizeof state, both, 2) == 26);
     changed[len - 2 - 2] -= 64;
     assert(same(state, before, STATE));
-    assert(knowetop_finish_together(plan, len, state, sizeof state, both, 2) == 0);
+    assert(knowetop_finish_together(plan, len, none, 0, state, sizeof state, both, 2) == 0);
     assert(same(state, ended, STATE));
-    assert(knowetop_status(plan, len, state, sizeof state) == KNOWETOP_COMPLETE);
+    assert(knowetop_status(plan, len, none, 0, state, sizeof state) == KNOWETOP_COMPLETE);
+}
+
+/* With RADI blocked there is only SATL: RADI stays a task, but cannot be started. */
+static void blocked(const uint8_t *plan, size_t len)
+{
+    static const size_t radi[] = {RADI}, both[] = {RADI, SATL}, not_rising[] = {SATL, RADI}, cast_alone[] = {CAST},
+                        root[] = {MOOR}, no_node[] = {RADI, NODES};
+    static const uint8_t zeros[SUMMARY] = {0};
+    uint8_t state[STATE], out[SUMMARY];
+
+    assert(knowetop_verdict(plan, len, radi, 1) == KNOWETOP_CLEAR);
+    assert(knowetop_verdict(plan, len - 1, root, 1) == 3);
+    assert(knowetop_verdict(plan, len, not_rising, 2) == 28);
+    assert(knowetop_verdict(plan, len, cast_alone, 1) == 28); /* its parent is all of */
+    assert(knowetop_verdict(plan, len, root, 1) == 28);
+    assert(knowetop_verdict(plan, len, both, 2) == 29); /* COMS has no branch left */
+    assert(knowetop_summary(plan, len, no_node, 2, RADI, out, SUMMARY - 1) == 28);
+    assert(knowetop_summary(plan, len, both, 2, RADI, out, SUMMARY - 1) == 29);
+    assert(knowetop_summary(plan, len, radi, 1, RADI, out, SUMMARY - 1) == 15);
+    assert(knowetop_summary(plan, len, radi, 1, RADI, out, sizeof out) == 0);
+    assert(same(out, zeros, SUMMARY));
+
+    assert(knowetop_fresh(plan, len, both, 2, state, sizeof state) == 29);
+    assert(knowetop_fresh(plan, len, radi, 1, state, sizeof state) == 0);
+    assert(knowetop_start(plan, len, radi, 1, state, sizeof state, COMS) == 17);
+    assert(knowetop_start(plan, len, radi, 1, state, sizeof state, RADI) == 19);
+    assert(knowetop_finish(plan, len, radi, 1, state, sizeof state, RADI) == 18);
+    assert(knowetop_finish_together(plan, len, radi, 1, state, sizeof state, radi, 1) == 18);
+    assert(knowetop_skip(plan, len, radi, 1, state, sizeof state, RADI) == 27);
+    assert(same(state, at_first, STATE));
+    memcpy(state, calling, STATE);
+    assert(knowetop_finish(plan, len, both + 1, 1, state, sizeof state, SATL) == 16); /* SATL runs */
+    assert(knowetop_finish(plan, len, radi, 1, state, sizeof state, SATL) == 0);
+    assert(same(state, at_last, STATE));
+    assert(knowetop_status(plan, len, radi, 1, state, sizeof state) == KNOWETOP_COMPLETE);
+    assert(knowetop_status(plan, len, both + 1, 1, state, sizeof state) == 16);
 }
 
 /* States that are too short or malformed, and bytes after the state. */
@@ -179,22 +218,22 @@ static void lent_states(const uint8_t *plan, size_t len)
     static const size_t cast_alone = CAST;
     uint8_t state[STATE + 3];
     memset(state, 7, sizeof state);
-    assert(knowetop_fresh(plan, len, state, STATE - 1) == 15);
-    assert(knowetop_status(plan, len, state, sizeof state) == 16);
-    assert(knowetop_start(plan, len, state, sizeof state, CAST) == 16);
-    assert(knowetop_finish(plan, len, state, sizeof state, CAST) == 16);
-    assert(knowetop_skip(plan, len, state, sizeof state, COMS) == 16);
-    assert(knowetop_finish_together(plan, len, state, sizeof state, &cast_alone, 1) == 16);
+    assert(knowetop_fresh(plan, len, none, 0, state, STATE - 1) == 15);
+    assert(knowetop_status(plan, len, none, 0, state, sizeof state) == 16);
+    assert(knowetop_start(plan, len, none, 0, state, sizeof state, CAST) == 16);
+    assert(knowetop_finish(plan, len, none, 0, state, sizeof state, CAST) == 16);
+    assert(knowetop_skip(plan, len, none, 0, state, sizeof state, COMS) == 16);
+    assert(knowetop_finish_together(plan, len, none, 0, state, sizeof state, &cast_alone, 1) == 16);
     assert(kept(state, sizeof state));
-    assert(knowetop_fresh(plan, len, state, sizeof state) == 0);
+    assert(knowetop_fresh(plan, len, none, 0, state, sizeof state) == 0);
     assert(kept(state + STATE, sizeof state - STATE));
 
     /* without a byte, and without places */
-    assert(knowetop_status(plan, len, state, STATE - 1) == 15);
-    assert(knowetop_start(plan, len, state, 8 + NODES, CAST) == 15);
-    assert(knowetop_skip(plan, len, state, sizeof state, COMS) == 27); /* any of, not optional */
+    assert(knowetop_status(plan, len, none, 0, state, STATE - 1) == 15);
+    assert(knowetop_start(plan, len, none, 0, state, 8 + NODES, CAST) == 15);
+    assert(knowetop_skip(plan, len, none, 0, state, sizeof state, COMS) == 27); /* any of, not optional */
     state[8 + NODES + 2 * CAST] = 1; /* a place, but CAST waits */
-    assert(knowetop_start(plan, len, state, sizeof state, CAST) == 16);
+    assert(knowetop_start(plan, len, none, 0, state, sizeof state, CAST) == 16);
 }
 
 static void listing(const uint8_t *plan, size_t len)
@@ -222,6 +261,7 @@ int main(int argc, char **argv)
     run(lent, sizeof lent);
     optional(lent, sizeof lent);
     finish_together(lent, sizeof lent);
+    blocked(lent, sizeof lent);
     lent_states(lent, sizeof lent);
     listing(lent, sizeof lent);
     assert(same(lent, plan, sizeof lent));

@@ -34,6 +34,7 @@ impl Tally {
         let case = Case {
             call: Call::Refusal,
             plan: bytes.to_vec(),
+            blocked: Vec::new(),
             lent: Vec::new(),
         };
         let after = self.comparisons.compare(&Answers::by_rules(bytes), &case);

@@ -85,6 +85,7 @@ fn cases(plan: &Plan) -> Vec<Case> {
     let case = |(call, lent)| Case {
         call,
         plan: plan.bytes(),
+        blocked: Vec::new(),
         lent,
     };
     lending.into_iter().map(case).collect()
@@ -146,7 +147,7 @@ fn times(cases: &[Case]) -> Vec<f64> {
         let mut call = || {
             lent.copy_from_slice(&case.lent);
             let (plan, lent) = (black_box(&mut plan), black_box(&mut lent));
-            archive::make_with(&case.call, plan, lent, black_box(&mut tasks))
+            archive::make_with(&case.call, plan, lent, [&mut [], black_box(&mut tasks)])
         };
         let [time] = medians([&mut call]);
         time

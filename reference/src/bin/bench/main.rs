@@ -1,8 +1,9 @@
 //! Times calls of the archive on plans of 128 nodes and 64 flags, and prints the tables of docs/.
 //! No test depends on a time.
 //!
-//! Its modules in their order: timing; shapes, costs; plans, plain, verdicts, names.
+//! Its modules in their order: timing; shapes, costs; plans, plain, verdicts, blocked, names.
 
+mod blocked;
 mod costs;
 mod names;
 mod plain;
@@ -17,6 +18,7 @@ use std::process::ExitCode;
 const USAGE: &str = "\
 bench         the verdict by the archive and by plain Rust, the table of docs/benchmark.md
 bench once    each of these verdicts once by both, for a program that counts instructions
+bench blocked the verdict with nothing, few and many branches blocked, and by plain Rust
 bench names   rule 5 on a plan of the greatest size by both
 bench cost    every call on plans of many shapes, the table of docs/costs.md";
 
@@ -26,6 +28,7 @@ fn main() -> ExitCode {
     match words[..] {
         [] => verdicts::print(),
         ["once"] => verdicts::once(),
+        ["blocked"] => blocked::print(),
         ["names"] => names::print(),
         ["cost"] => costs::print(),
         _ => {

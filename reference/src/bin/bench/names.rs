@@ -3,7 +3,6 @@
 
 use std::hint::black_box;
 
-use reference::model::calls::Call;
 use reference::model::format::Plan;
 use reference::tools::archive;
 use reference::tools::generate::{plan, Shape, LIMITS};
@@ -71,7 +70,7 @@ fn rule_5(plans: &[Plan]) -> [f64; 2] {
 
 /// The times of both refusals by the archive, then by the plain program.
 fn verdicts(first: &[Vec<u8>], last: &[Vec<u8>]) -> [f64; 4] {
-    let by_archive = |plan: &mut [u8]| archive::make(&Call::Verdict, black_box(plan), &mut []);
+    let by_archive = |plan: &mut [u8]| archive::verdict(black_box(plan), black_box(&mut []));
     let by_plain = |plan: &mut [u8]| plain::verdict(black_box(plan));
     medians([
         &mut in_turn(first, by_archive),

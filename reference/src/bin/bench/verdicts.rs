@@ -68,13 +68,13 @@ fn middle(times: impl Iterator<Item = [f64; 2]>) -> f64 {
 fn by_both(bytes: &[u8]) -> [f64; 2] {
     let mut lent = bytes.to_vec();
     medians([
-        &mut || archive::make(&Call::Verdict, black_box(&mut lent), &mut []),
+        &mut || archive::verdict(black_box(&mut lent), black_box(&mut [])),
         &mut || plain::verdict(black_box(bytes)),
     ])
 }
 
 fn agree(bytes: &[u8]) {
-    let want = make(&Call::Verdict, bytes, &mut []);
-    let found = archive::make(&Call::Verdict, &mut bytes.to_vec(), &mut []);
+    let want = make(&Call::Verdict, bytes, &[], &mut []);
+    let found = archive::make(&Call::Verdict, &mut bytes.to_vec(), &[], &mut []);
     assert_eq!([found, plain::verdict(bytes)], [want; 2]);
 }

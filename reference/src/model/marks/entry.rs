@@ -22,6 +22,9 @@ pub struct Marks {
 }
 
 impl Marks {
+    /// No mark at all.
+    pub const NONE: Marks = Marks::from_order([false; 8]);
+
     /// The marks from a list in the order of their numbers.
     pub const fn from_order(marks: [bool; 8]) -> Marks {
         let [may_pre, must_pre, may_post, must_post, may_inc, must_inc, may_clobber, must_clobber] =

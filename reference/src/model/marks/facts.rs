@@ -105,5 +105,5 @@ const WITHOUT_TASKS: Facts = Facts {
     avoids: true,
     quiet: true,
     covered: false,
-    marks: Marks::from_order([false; 8]),
+    marks: Marks::NONE,
 };

@@ -19,8 +19,10 @@ pub struct Point {
 }
 
 impl Graph {
-    pub fn new(plan: &Plan, node: usize) -> Graph {
-        let events: Vec<Event> = Event::under(plan, node).collect();
+    /// The executions that have no event of these absent nodes.
+    pub fn new(plan: &Plan, node: usize, absent: &[usize]) -> Graph {
+        let stands = |event: &Event| !absent.contains(&event.node());
+        let events: Vec<Event> = Event::under(plan, node).filter(stands).collect();
         let mut points = vec![Point::new(plan, node, Statuses::all_waiting(plan))];
         let mut numbers = HashMap::from([(points[0].statuses.clone(), 0)]);
         let mut at = 0;

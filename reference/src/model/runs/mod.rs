@@ -43,7 +43,13 @@ pub fn marks(plan: &Plan) -> Vec<Vec<Marks>> {
 
 /// What is shown of every literal at the node, in the order of a summary's entries.
 pub fn shown(plan: &Plan, node: usize) -> Vec<Shown> {
-    let graph = Graph::new(plan, node);
+    shown_without(plan, node, &[])
+}
+
+/// The same, as far as the executions show it that have no event of these absent nodes. Opposed
+/// postconditions are still those of the whole plan.
+pub fn shown_without(plan: &Plan, node: usize, absent: &[usize]) -> Vec<Shown> {
+    let graph = Graph::new(plan, node, absent);
     let of_literal = |literal| {
         let all = histories(plan, &graph, literal);
         let completed: Vec<&History> = all.iter().filter(|h| h.completed).collect();

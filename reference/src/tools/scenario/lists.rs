@@ -101,18 +101,21 @@ pub fn any_event(random: &mut Random, plan: &Plan) -> Event {
     }
 }
 
-/// What fresh and then each call of the list returns and leaves, from these lent bytes.
+/// What fresh and then each call of the list returns and leaves, all with the same nodes blocked,
+/// from these lent bytes.
 pub fn replay(
     plan: &[u8],
+    blocked: &[usize],
     list: &[Call],
     mut lent: Vec<u8>,
-    make: impl Fn(&Call, &mut [u8], &mut [u8]) -> u32,
+    make: impl Fn(&Call, &mut [u8], &[usize], &mut [u8]) -> u32,
 ) -> Vec<After> {
     let calls = once(&Call::Fresh).chain(list);
     let after_each = calls.map(|call| {
         let case = Case {
             call: call.clone(),
             plan: plan.to_vec(),
+            blocked: blocked.to_vec(),
             lent: lent.clone(),
         };
         let after = case.make(&make);

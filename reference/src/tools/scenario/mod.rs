@@ -1,8 +1,10 @@
-//! What tests of the public calls are made of: cases, states, lists of calls and lists of tasks.
+//! What tests of the public calls are made of: cases, states, and lists of calls, of tasks and of
+//! blocked nodes.
 //!
 //! A case is made through a function of the form of `reference` here, so that the same case can be
 //! put to the reference and to the archive.
 
+pub mod blocked;
 pub mod cases;
 pub mod lists;
 pub mod states;
@@ -15,11 +17,12 @@ use crate::model::format::Plan;
 use crate::tools::memory::{hex, Lent};
 use crate::tools::random::Random;
 
-/// A call with the plan and the output or state that it is lent.
+/// A call with the plan, the blocked nodes, and the output or state that it is lent.
 #[derive(Clone, Debug, PartialEq, Eq)]
 pub struct Case {
     pub call: Call,
     pub plan: Vec<u8>,
+    pub blocked: Vec<usize>,
     pub lent: Vec<u8>,
 }
 
@@ -32,28 +35,30 @@ pub struct After {
 }
 
 /// Makes a call of the reference.
-pub fn reference(call: &Call, plan: &mut [u8], lent: &mut [u8]) -> u32 {
-    calls::make(call, plan, lent)
+pub fn reference(call: &Call, plan: &mut [u8], blocked: &[usize], lent: &mut [u8]) -> u32 {
+    calls::make(call, plan, blocked, lent)
 }
 
 impl Case {
     /// The reference's return. The other calls must return and leave the same.
     #[track_caller]
-    pub fn compare(&self, other: impl FnOnce(&Call, &mut [u8], &mut [u8]) -> u32) -> u32 {
-        match self.compared(&Answers::by_rules(&self.plan), other) {
+    pub fn compare(&self, other: impl FnOnce(&Call, &mut [u8], &[usize], &mut [u8]) -> u32) -> u32 {
+        let answers = Answers::by_rules(&self.plan).blocking(&self.blocked);
+        match self.compared(&answers, other) {
             Ok(after) => after.returned,
             Err(message) => panic!("{message}"),
         }
     }
 
-    /// What these answers to the plan return and leave, or how the other calls return or leave
-    /// something else.
+    /// What these answers to the plan and the list return and leave, or how the other calls return
+    /// or leave something else.
     pub fn compared(
         &self,
         answers: &Answers,
-        other: impl FnOnce(&Call, &mut [u8], &mut [u8]) -> u32,
+        other: impl FnOnce(&Call, &mut [u8], &[usize], &mut [u8]) -> u32,
     ) -> Result<After, String> {
-        let want = self.make(|call, _, lent| answers.make(call, lent));
+        assert_eq!(answers.blocked(), self.blocked, "answers to another list");
+        let want = self.make(|call, _, _, lent| answers.make(call, lent));
         let found = self.make(other);
         let wrong = if found.returned != want.returned {
             format!("returns {}, not {}", found.returned, want.returned)
@@ -64,20 +69,21 @@ impl Case {
         } else {
             return Ok(want);
         };
-        let (call, plan, lent) = (&self.call, hex(&self.plan), hex(&self.lent));
+        let Case { call, blocked, .. } = self;
+        let (plan, lent) = (hex(&self.plan), hex(&self.lent));
         Err(format!(
-            "{call:?} {wrong}; lent were plan {plan} and {lent}"
+            "{call:?} with {blocked:?} blocked {wrong}; lent were plan {plan} and {lent}"
         ))
     }
 
     /// Makes the call. The memory around the lent pieces must not change.
-    pub fn make(&self, make: impl FnOnce(&Call, &mut [u8], &mut [u8]) -> u32) -> After {
+    pub fn make(&self, make: impl FnOnce(&Call, &mut [u8], &[usize], &mut [u8]) -> u32) -> After {
         let mut plan = Lent::new(&self.plan);
         let mut lent = Lent::new(&self.lent);
         if let Call::Summary(_) | Call::Fresh | Call::Listing = self.call {
             lent = lent.forget();
         }
-        let returned = make(&self.call, plan.items(), lent.items());
+        let returned = make(&self.call, plan.items(), &self.blocked, lent.items());
         After {
             returned,
             plan: plan.back(),

@@ -1,9 +1,11 @@
 //! An endless stream of plans of all sizes, whole and damaged, and every call on each.
 
+use super::blocked::{any_blocked, calls};
 use super::cases::cases;
 use super::lists::{list, long_list};
 use super::tally::Tally;
 use super::Case;
+use crate::model::blocked::Remaining;
 use crate::model::calls::{Answers, Call};
 use crate::model::format::{Plan, Sizes};
 use crate::model::rules::accept;
@@ -74,19 +76,34 @@ fn any_size(random: &mut Random) -> Plan {
     }
 }
 
-/// Every call on these bytes; on an accepted plan every node's summary and a list of calls too.
+/// Every call on these bytes with nothing blocked, and with a list of blocked nodes of any kind.
 pub fn every_call(tally: &mut Tally, random: &mut Random, bytes: &[u8]) {
+    with_list(tally, random, bytes, &[]);
+    let blocked = match accept(bytes) {
+        Ok(plan) => any_blocked(random, &plan),
+        Err(_) => vec![random.below(129)],
+    };
+    if !blocked.is_empty() {
+        with_list(tally, random, bytes, &blocked);
+    }
+}
+
+/// Every call with this list; on an accepted plan every node's summary and, if the list is accepted
+/// too, a list of calls.
+fn with_list(tally: &mut Tally, random: &mut Random, bytes: &[u8], blocked: &[usize]) {
     let accepted = accept(bytes);
     let answers = match &accepted {
         Ok(plan) if plan.nodes.len() <= 8 && plan.flags <= 2 => Answers::by_runs(bytes),
         _ => Answers::by_rules(bytes),
     };
-    for case in cases(random, bytes) {
+    let answers = answers.blocking(blocked);
+    for case in cases(random, bytes, blocked) {
         tally.compare(&answers, &case);
     }
-    if let Ok(plan) = accepted {
-        every_summary(tally, random, &plan, &answers);
-        replay(tally, random, &plan, &answers);
+    let Ok(plan) = accepted else { return };
+    every_summary(tally, random, &plan, &answers);
+    if let Ok(remaining) = Remaining::new(&plan, blocked) {
+        replay(tally, random, &remaining, &answers);
     }
 }
 
@@ -95,6 +112,7 @@ fn every_summary(tally: &mut Tally, random: &mut Random, plan: &Plan, answers: &
         let case = Case {
             call: Call::Summary(node),
             plan: plan.bytes(),
+            blocked: answers.blocked().to_vec(),
             lent: random.bytes(1_024),
         };
         tally.compare(answers, &case);
@@ -102,12 +120,12 @@ fn every_summary(tally: &mut Tally, random: &mut Random, plan: &Plan, answers: &
 }
 
 /// Fresh and then a list of calls, each with the state as the last one left it.
-fn replay(tally: &mut Tally, random: &mut Random, plan: &Plan, answers: &Answers) {
+fn replay(tally: &mut Tally, random: &mut Random, plan: &Remaining, answers: &Answers) {
     let drawn = match random.below(2) {
-        0 => long_list(random, plan),
-        _ => list(random, plan, 60),
+        0 => long_list(random, &plan.plan),
+        _ => list(random, &plan.plan, 60),
     };
-    let mut calls = vec![Call::Fresh];
-    calls.extend(drawn);
-    tally.replay(answers, &plan.bytes(), &calls, random.bytes(400));
+    let mut list = vec![Call::Fresh];
+    list.extend(calls(random, plan, drawn));
+    tally.replay(answers, &plan.whole.bytes(), &list, random.bytes(400));
 }

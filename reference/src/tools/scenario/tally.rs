@@ -34,6 +34,7 @@ impl Tally {
             let case = Case {
                 call,
                 plan: plan.to_vec(),
+                blocked: answers.blocked().to_vec(),
                 lent,
             };
             lent = self.compare(answers, &case).lent;

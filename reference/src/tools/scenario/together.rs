@@ -28,7 +28,7 @@ pub fn some_of(random: &mut Random, numbers: &[usize]) -> Vec<usize> {
 }
 
 /// Up to five numbers, in their order or not.
-fn any_numbers(random: &mut Random, plan: &Plan) -> Vec<usize> {
+pub fn any_numbers(random: &mut Random, plan: &Plan) -> Vec<usize> {
     let len = random.below(6);
     let mut numbers: Vec<usize> = (0..len).map(|_| any_number(random, plan)).collect();
     if random.below(2) == 0 {
@@ -38,7 +38,7 @@ fn any_numbers(random: &mut Random, plan: &Plan) -> Vec<usize> {
 }
 
 /// Many more numbers than a plan has nodes: rising, from a task's on, or all the same.
-fn long(random: &mut Random, plan: &Plan) -> Vec<usize> {
+pub fn long(random: &mut Random, plan: &Plan) -> Vec<usize> {
     let first = any_number(random, plan);
     let len = random.pick(&[129, 256, 1_000, 3_000]);
     match random.below(4) {
@@ -51,7 +51,7 @@ fn long(random: &mut Random, plan: &Plan) -> Vec<usize> {
 
 /// Makes one thing wrong: a number more, at its place or at the end, or one again, or two that have
 /// changed places.
-fn spoil(random: &mut Random, plan: &Plan, tasks: &mut Vec<usize>) {
+pub fn spoil(random: &mut Random, plan: &Plan, tasks: &mut Vec<usize>) {
     let number = match random.below(2) {
         0 => random.below(plan.nodes.len()),
         _ => any_number(random, plan),

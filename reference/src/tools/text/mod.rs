@@ -1,7 +1,8 @@
-//! A plan, and a state of it, as lines of text; `samples/README.md` describes them.
+//! A plan, a state of it, and what resolves it, as lines of text; `samples/README.md` describes them.
 
 mod parse;
 mod print;
+mod resolve;
 mod source;
 mod state;
 #[cfg(test)]
@@ -10,6 +11,7 @@ mod tests;
 use crate::model::format::Plan;
 use crate::model::monitor::State;
 use crate::model::rules::{accept, refusal};
+use resolve::Resolved;
 pub use source::{Error, Source};
 use state::Shown;
 
@@ -35,6 +37,12 @@ pub fn show(bytes: &[u8]) -> Result<String, Error> {
         .to_string()),
         number => Err(Error::Refused(number)),
     }
+}
+
+/// Which single branches, blocked, make an accepted plan CLEAR, by the archive's verdicts.
+pub fn show_resolved(plan: &[u8]) -> Result<String, Error> {
+    let plan = accept(plan).map_err(Error::Refused)?;
+    Ok(Resolved::new(plan).to_string())
 }
 
 /// The text of a well-formed state of an accepted plan.

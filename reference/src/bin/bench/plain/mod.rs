@@ -75,7 +75,7 @@ mod tests {
         for mut plan in plans {
             for _ in 0..2 {
                 let bytes = plan.bytes();
-                let want = make(&Call::Verdict, &bytes, &mut []);
+                let want = make(&Call::Verdict, &bytes, &[], &mut []);
                 assert_eq!(verdict(&bytes), want, "{plan:?}");
                 counts[want as usize] += 1;
                 edit(&mut plan, &mut random);
@@ -83,7 +83,7 @@ mod tests {
         }
         let bytes = plan(&mut random, LIMITS, SHAPES[4]).bytes();
         for len in 0..bytes.len() {
-            let want = make(&Call::Verdict, &bytes[..len], &mut []);
+            let want = make(&Call::Verdict, &bytes[..len], &[], &mut []);
             assert_eq!(verdict(&bytes[..len]), want);
             counts[want as usize] += 1;
         }

@@ -1,7 +1,9 @@
-//! The monitor (01: keeper): the calls on a state (01: record) and refusals 15 to 22 and 25 to 27.
+//! What the bytes of a state (01: record) say, and the steps from one to the next, with refusals 15 to
+//! 22 and 25 to 27.
 
 use std::collections::HashSet;
 
+use crate::model::blocked::strictly_rise;
 use crate::model::events::{Event, Status, Statuses};
 use crate::model::format::{Plan, CLEAR, INCONDITION, POSTCONDITION, PRECONDITION, SET};
 use crate::model::literal::Literal;
@@ -32,36 +34,8 @@ pub fn places_begin(plan: &Plan) -> usize {
     8 + plan.nodes.len()
 }
 
-/// The call on an accepted plan: writes the first state, or meets refusal 15.
-pub fn fresh(plan: &Plan, state: &mut [u8]) -> Result<(), u32> {
-    long_enough(plan, state)?;
-    State::fresh(plan).write(state);
-    Ok(())
-}
-
-/// The call on an accepted plan: takes in the start or finish of a task or the skip of an optional
-/// group, or meets the first of refusals 15 to 22, for a skip 27 in the place of 17.
-pub fn happen(plan: &Plan, state: &mut [u8], event: Event) -> Result<(), u32> {
-    let before = State::read(plan, state)?;
-    before.step(plan, event)?.write(state);
-    Ok(())
-}
-
-/// The call on an accepted plan: takes in the finishes of the listed tasks in one step, or meets
-/// the first of refusals 15, 16, 25, 17, 18, 26 and 22.
-pub fn finish_together(plan: &Plan, state: &mut [u8], tasks: &[usize]) -> Result<(), u32> {
-    let before = State::read(plan, state)?;
-    before.step_together(plan, tasks)?.write(state);
-    Ok(())
-}
-
-/// The call on an accepted plan: how far the root is, or refusal 15 or 16.
-pub fn status(plan: &Plan, state: &[u8]) -> Result<Progress, u32> {
-    Ok(State::read(plan, state)?.progress(plan))
-}
-
 /// 15: lent state too short.
-fn long_enough(plan: &Plan, state: &[u8]) -> Result<(), u32> {
+pub fn long_enough(plan: &Plan, state: &[u8]) -> Result<(), u32> {
     if state.len() < state_len(plan) {
         return Err(15);
     }
@@ -148,9 +122,7 @@ impl State {
     /// The state after the finishes of the listed tasks in one step, or the first of refusals 25,
     /// 17, 18, 26 and 22, each checked over the whole list.
     pub fn step_together(&self, plan: &Plan, tasks: &[usize]) -> Result<State, u32> {
-        if tasks.is_empty() || tasks.windows(2).any(|pair| pair[0] >= pair[1]) {
-            return Err(25);
-        }
+        some_rising(tasks)?;
         let finishes = || tasks.iter().map(|&task| Event::Finish(task));
         for number in [17, 18] {
             let meets = |event| self.statuses.check(plan, 0, event) == Err(number);
@@ -212,6 +184,14 @@ impl State {
             held.any(|literal| asserted.contains(&literal.opposite()))
         })
     }
+}
+
+/// 25: the list is empty, or its numbers do not strictly rise.
+pub fn some_rising(tasks: &[usize]) -> Result<(), u32> {
+    if tasks.is_empty() || !strictly_rise(tasks) {
+        return Err(25);
+    }
+    Ok(())
 }
 
 /// 26, of all postconditions of the listed tasks: two are opposites. By rule 11 these are not of
