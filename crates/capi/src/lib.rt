@@ -27,7 +27,12 @@ pub extern "C" fn knowetop_verdict(plan: &[u8], blocked: &[usize]) -> u32
 }
 
 #[no_mangle]
-pub extern "C" fn knowetop_summary(plan: &[u8], blocked: &[usize], node: usize, out: &mut [u8]) -> u32
+pub extern "C" fn knowetop_summary(
+    plan: &[u8],
+    blocked: &[usize],
+    node: usize,
+    out: &mut [u8],
+) -> u32
     ensures { λ r. ⌜ Summarised (now (plan .entry)) (now (blocked .entry)) node (now (out .entry)) r
         (now (out .exit)) ⌝ }
 {
@@ -43,7 +48,12 @@ pub extern "C" fn knowetop_fresh(plan: &[u8], blocked: &[usize], state: &mut [u8
 }
 
 #[no_mangle]
-pub extern "C" fn knowetop_start(plan: &[u8], blocked: &[usize], state: &mut [u8], task: usize) -> u32
+pub extern "C" fn knowetop_start(
+    plan: &[u8],
+    blocked: &[usize],
+    state: &mut [u8],
+    task: usize,
+) -> u32
     ensures { λ r. ⌜ Called (now (plan .entry)) (now (blocked .entry)) (now (state .entry)) (one (execution.start task)) r
         (now (state .exit)) ⌝ }
 {
@@ -51,7 +61,12 @@ pub extern "C" fn knowetop_start(plan: &[u8], blocked: &[usize], state: &mut [u8
 }
 
 #[no_mangle]
-pub extern "C" fn knowetop_finish(plan: &[u8], blocked: &[usize], state: &mut [u8], task: usize) -> u32
+pub extern "C" fn knowetop_finish(
+    plan: &[u8],
+    blocked: &[usize],
+    state: &mut [u8],
+    task: usize,
+) -> u32
     ensures { λ r. ⌜ Called (now (plan .entry)) (now (blocked .entry)) (now (state .entry)) (one (execution.finish task)) r
         (now (state .exit)) ⌝ }
 {
@@ -59,7 +74,12 @@ pub extern "C" fn knowetop_finish(plan: &[u8], blocked: &[usize], state: &mut [u
 }
 
 #[no_mangle]
-pub extern "C" fn knowetop_finish_together(plan: &[u8], blocked: &[usize], state: &mut [u8], tasks: &[usize]) -> u32
+pub extern "C" fn knowetop_finish_together(
+    plan: &[u8],
+    blocked: &[usize],
+    state: &mut [u8],
+    tasks: &[usize],
+) -> u32
     ensures { λ r. ⌜ Called (now (plan .entry)) (now (blocked .entry)) (now (state .entry)) (together (now (tasks .entry))) r
         (now (state .exit)) ⌝ }
 {
@@ -67,7 +87,12 @@ pub extern "C" fn knowetop_finish_together(plan: &[u8], blocked: &[usize], state
 }
 
 #[no_mangle]
-pub extern "C" fn knowetop_skip(plan: &[u8], blocked: &[usize], state: &mut [u8], group: usize) -> u32
+pub extern "C" fn knowetop_skip(
+    plan: &[u8],
+    blocked: &[usize],
+    state: &mut [u8],
+    group: usize,
+) -> u32
     ensures { λ r. ⌜ Called (now (plan .entry)) (now (blocked .entry)) (now (state .entry)) (one (execution.skip group)) r
         (now (state .exit)) ⌝ }
 {

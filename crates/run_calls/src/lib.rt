@@ -19,7 +19,14 @@ fn least(a: usize, b: usize) -> usize
 }
 
 // Finishes together the tasks from one position up to another, as far as there are such.
-fn finish_part(plan: &[u8], blocked: &[usize], state: &mut [u8], tasks: &[usize], from: usize, to: usize) -> u32
+fn finish_part(
+    plan: &[u8],
+    blocked: &[usize],
+    state: &mut [u8],
+    tasks: &[usize],
+    from: usize,
+    to: usize,
+) -> u32
     ensures { λ r. ⌜ Called (now (plan .entry)) (now (blocked .entry)) (now (state .entry))
         (together (take (to - from) (drop from (now (tasks .entry))))) r (now (state .exit)) ⌝ }
 {

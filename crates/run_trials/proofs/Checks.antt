@@ -1,74 +1,79 @@
 -- Whether a state is refused, as one test that computes. Assumes nothing.
 use mathlib.Core.Path.{_≡_, refl, sym, ap, _∙_}
-use mathlib.Core.Logic.{_≢_, inl, inr, by-cases, ⊎-elim}
-use mathlib.Core.Bool.{Bool, true, false, true≢false}
+use mathlib.Core.Logic.{_≢_, inl, inr, by-cases}
+use mathlib.Core.Bool.{Bool, true, false, cond, true≢false}
 use mathlib.Core.List.{List, [], _∷_}
 use Prim.Native.Nat.{ℕ, zero, suc}
 use native.Mathlib.Decide.{ℕ-discrete}
 use native.Mathlib.Omega.{arith}
 use lib.Dec.{T, eqb}
-use Rattle.base.proofs.First.{answer-some}
-use Rattle.plan_rules.proofs.Laws.{either}
-use Rattle.plan_check.specs.Meaning.{planOf}
-use Rattle.runs.specs.Tests.{both, sameB}
+use borrow.Author.Tests.{ne-eqb}
+use Rattle.base.proofs.First.{first-none, first-some, answer-some}
+use Rattle.runs.specs.Tests.{both, negate, sameB}
 use Rattle.runs.specs.Model.Monitor.{completeB}
-use Rattle.runs.proofs.Reflect.{Reflects, r-both, r-T, r-eq, r-same}
-use Rattle.run_state.specs.State.{malformed, roomRefusal, stateRefusal, statusIn}
-use Rattle.run_state.proofs.Refused.{state-room, state-bad, state-good}
+use Rattle.runs.proofs.Reflect.{Reflects, r-both, r-negate, r-T, r-eq, r-same}
+use Rattle.run_state.specs.State.{statusIn}
+use Rattle.run_state.specs.Under.{malformedUnder, roomRefusalUnder, stateRefusalUnder}
+use Rattle.plan_blocked.specs.Blocked.{planUnder, refusalUnder}
+use Rattle.verdict.specs.Verdict.{answerOf}
+use Rattle.summary.specs.Summary.{summaryRefusal, summaryLeft}
 use Rattle.run_state.proofs.Left.{fresh-refused}
 use Rattle.run_monitor.specs.Status.{Word, COMPLETE, UNFINISHED, wordFor, statusAnswer}
 use Rattle.run_monitor.proofs.Equations.{refused-16}
 use Rattle.run_trials.specs.Written.{bytesOf}
 use Rattle.run_trials.specs.Checked.{Checked, Refuses, Passes, CheckOf, AllChecked, Worded, AllWorded}
+use Rattle.run_trials.specs.Checked.{Listing, RefusesAll, AllRefused}
 
 -- 15 comes from the check of the room
-no-room : (b s : List ℕ) → stateRefusal b s ≡ 15 → roomRefusal b s ≡ 15
-no-room b s e =
-    by-cases (ℕ-discrete (roomRefusal b s) 0)
-    (λ (z : roomRefusal b s ≡ 0).
-    ⊎-elim
-    (λ (y : malformed b s ≡ true). absurd (omega (arith, state-bad b s z y, e)))
-    (λ (y : malformed b s ≡ false). absurd (omega (arith, state-good b s z y, e)))
-    (either (malformed b s)))
-    (λ z. state-room b s z ∙ e)
+no-room : (b xs s : List ℕ) → stateRefusalUnder b xs s ≡ 15 → roomRefusalUnder b xs s ≡ 15
+unfolding stateRefusalUnder
+no-room b xs s e =
+    by-cases (ℕ-discrete (roomRefusalUnder b xs s) 0)
+    (λ (z : roomRefusalUnder b xs s ≡ 0). absurd (only-16 (malformedUnder b xs s)
+    (first-none (roomRefusalUnder b xs s) _ z ∙ e)))
+    (λ z. first-some (roomRefusalUnder b xs s) _ z ∙ e)
+  where
+    only-16 : (v : Bool) → _≡_ {A = ℕ} (cond v 16 0) 15 → ⊥
+    only-16 true q = omega (arith, q)
+    only-16 false q = omega (arith, q)
 
-refuses : (b s : List ℕ) (r : ℕ) → stateRefusal b s ≡ r → r ≢ 0 → Refuses b s r
+refuses : (b xs s : List ℕ) (r : ℕ) → stateRefusalUnder b xs s ≡ r → r ≢ 0 → Refuses b xs s r
 unfolding statusAnswer
-refuses b s r e n =
-    let k : stateRefusal b s ≡ 0 → ⊥ = λ z. n (sym e ∙ z) in
+refuses b xs s r e n =
+    let k : stateRefusalUnder b xs s ≡ 0 → ⊥ = λ z. n (sym e ∙ z) in
     record {
-      status = λ p t. t .returns ∙ sym (answer-some (stateRefusal b s) _ k) ∙ ap inl e;
-      call = λ v m z c. let w = refused-16 b s v k in (c .returns ∙ sym (w .0) ∙ e, c .leaves ∙ sym (w .1));
+      status = λ p t. t .returns ∙ sym (answer-some (stateRefusalUnder b xs s) _ k) ∙ ap inl e;
+      call = λ v m z c. let w = refused-16 b xs s v k in (c .returns ∙ sym (w .0) ∙ e, c .leaves ∙ sym (w .1));
       room = λ q m z f. (
-        f .returns ∙ no-room b s (e ∙ q),
-        f .leaves ∙ sym (fresh-refused b s (λ y.
-            omega (arith, no-room b s (e ∙ q)))),
+        f .returns ∙ no-room b xs s (e ∙ q),
+        f .leaves ∙ sym (fresh-refused b xs s (λ y.
+            omega (arith, no-room b xs s (e ∙ q)))),
       );
     }
 
-passes : (b s : List ℕ) → stateRefusal b s ≡ 0 → Passes b s
+passes : (b xs s : List ℕ) → stateRefusalUnder b xs s ≡ 0 → Passes b xs s
 unfolding statusAnswer
-passes b s e = record {
-  status = λ p t. (wordFor (completeB (planOf b) (statusIn b s) 0), t .returns ∙ rw e);
+passes b xs s e = record {
+  status = λ p t. (wordFor (completeB (planUnder b xs) (statusIn b s) 0), t .returns ∙ rw e);
   call = λ v n z c. c .answered e;
 }
 
-check-of : (b s : List ℕ) (r : ℕ) → stateRefusal b s ≡ r → CheckOf b s r
-check-of b s zero e = passes b s e
-check-of b s (suc r) e = refuses b s (suc r) e (λ q. omega arith)
+check-of : (b xs s : List ℕ) (r : ℕ) → stateRefusalUnder b xs s ≡ r → CheckOf b xs s r
+check-of b xs s zero e = passes b xs s e
+check-of b xs s (suc r) e = refuses b xs s (suc r) e (λ q. omega arith)
 
 unfoldable pub allCheckedB : List Checked → Bool
 allCheckedB [] = true
-allCheckedB (c ∷ l) = both (eqb (stateRefusal (bytesOf (c .plan)) (c .state)) (c .refusal)) (λ u. allCheckedB l)
+allCheckedB (c ∷ l) = both (eqb (stateRefusalUnder (bytesOf (c .plan)) (c .blocked) (c .state)) (c .refusal)) (λ u. allCheckedB l)
 
 pub all-checked : (l : List Checked) → T (allCheckedB l) → AllChecked l
 unfolding allCheckedB
 all-checked [] x = tt
 all-checked (c ∷ l) x =
-    let r : Reflects (both (eqb (stateRefusal (bytesOf (c .plan)) (c .state)) (c .refusal)) (λ u. allCheckedB l))
-    ((stateRefusal (bytesOf (c .plan)) (c .state) ≡ c .refusal) × T (allCheckedB l)) = r-both _ _ (r-eq _ _) (r-T _) in
+    let r : Reflects (both (eqb (stateRefusalUnder (bytesOf (c .plan)) (c .blocked) (c .state)) (c .refusal)) (λ u. allCheckedB l))
+    ((stateRefusalUnder (bytesOf (c .plan)) (c .blocked) (c .state) ≡ c .refusal) × T (allCheckedB l)) = r-both _ _ (r-eq _ _) (r-T _) in
     let (a, y) = r .to x in
-    (check-of (bytesOf (c .plan)) (c .state) (c .refusal) a, all-checked l y)
+    (check-of (bytesOf (c .plan)) (c .blocked) (c .state) (c .refusal) a, all-checked l y)
 
 -- what `status` says, as one test that computes
 unfoldable pub completeIs : Word → Bool
@@ -84,9 +89,9 @@ word-of UNFINISHED false e = refl
 
 unfoldable pub allWordedB : List Worded → Bool
 allWordedB [] = true
-allWordedB (c ∷ l) = both (eqb (stateRefusal (bytesOf (c .plan)) (c .state)) 0)
+allWordedB (c ∷ l) = both (eqb (stateRefusalUnder (bytesOf (c .plan)) (c .blocked) (c .state)) 0)
     (λ u. both (sameB (completeIs (c .word))
-    (completeB (planOf (bytesOf (c .plan))) (statusIn (bytesOf (c .plan)) (c .state)) 0))
+    (completeB (planUnder (bytesOf (c .plan)) (c .blocked)) (statusIn (bytesOf (c .plan)) (c .state)) 0))
     (λ u. allWordedB l))
 
 pub all-worded : (l : List Worded) → T (allWordedB l) → AllWorded l
@@ -94,9 +99,57 @@ unfolding allWordedB statusAnswer
 all-worded [] x = tt
 all-worded (c ∷ l) x =
     let b = bytesOf (c .plan) in
-    let r : Reflects (both (eqb (stateRefusal b (c .state)) 0)
-    (λ u. both (sameB (completeIs (c .word)) (completeB (planOf b) (statusIn b (c .state)) 0)) (λ u. allWordedB l)))
-    ((stateRefusal b (c .state) ≡ 0) × ((completeIs (c .word) ≡ completeB (planOf b) (statusIn b (c .state)) 0)
+    let r : Reflects (both (eqb (stateRefusalUnder b (c .blocked) (c .state)) 0)
+    (λ u. both (sameB (completeIs (c .word)) (completeB (planUnder b (c .blocked)) (statusIn b (c .state)) 0)) (λ u. allWordedB l)))
+    ((stateRefusalUnder b (c .blocked) (c .state) ≡ 0) × ((completeIs (c .word) ≡ completeB (planUnder b (c .blocked)) (statusIn b (c .state)) 0)
     × T (allWordedB l))) = r-both _ _ (r-eq _ _) (r-both _ _ (r-same _ _) (r-T _)) in
     let (a, (w, y)) = r .to x in
     (λ p t. t .returns ∙ rw a (ap inr (word-of (c .word) _ (sym w))), all-worded l y)
+
+-- ---- a list that is refused
+module _ (b xs : List ℕ) (r : ℕ) (e : refusalUnder b xs ≡ r) (n : r ≢ 0) where
+  met : refusalUnder b xs ≡ 0 → ⊥
+  met z = n (sym e ∙ z)
+
+  room-is : (s : List ℕ) → roomRefusalUnder b xs s ≡ r
+  unfolding roomRefusalUnder
+  room-is s = sym (first-some (refusalUnder b xs) _ met) ∙ e
+
+  state-is : (s : List ℕ) → stateRefusalUnder b xs s ≡ r
+  unfolding stateRefusalUnder
+  state-is s = sym (first-some (roomRefusalUnder b xs s) _ (λ z. n (sym (room-is s) ∙ z))) ∙ room-is s
+
+  summary-is : (m : ℕ) (out : List ℕ) → summaryRefusal b xs m out ≡ r
+  unfolding summaryRefusal
+  summary-is m out = sym (first-some (refusalUnder b xs) _ met) ∙ e
+
+  refuses-all : RefusesAll b xs r
+  unfolding answerOf summaryLeft
+  refuses-all = record {
+    assess = λ a x. x .returns ∙ sym (answer-some (refusalUnder b xs) _ met) ∙ ap inl e;
+    summary = λ m out out′ k x. (
+      x .returns ∙ summary-is m out,
+      x .leaves ∙ rw (ne-eqb (summaryRefusal b xs m out) 0 (λ z. n (sym (summary-is m out) ∙ z))),
+    );
+    fresh = λ s z k x. (
+      x .returns ∙ room-is s,
+      x .leaves ∙ sym (fresh-refused b xs s (λ y. n (sym (room-is s) ∙ y))),
+    );
+    status = λ s. refuses b xs s r (state-is s) n .status;
+    call = λ s. refuses b xs s r (state-is s) n .call;
+  }
+
+unfoldable pub allRefusedB : List Listing → Bool
+allRefusedB [] = true
+allRefusedB (c ∷ l) = both (both (negate (eqb (c .refusal) 0)) (λ u. eqb (refusalUnder (bytesOf (c .plan)) (c .blocked)) (c .refusal)))
+    (λ u. allRefusedB l)
+
+pub all-refused : (l : List Listing) → T (allRefusedB l) → AllRefused l
+unfolding allRefusedB
+all-refused [] x = tt
+all-refused (c ∷ l) x =
+    let r : Reflects (both (both (negate (eqb (c .refusal) 0)) (λ u. eqb (refusalUnder (bytesOf (c .plan)) (c .blocked)) (c .refusal)))
+    (λ u. allRefusedB l)) (((c .refusal ≢ 0) × (refusalUnder (bytesOf (c .plan)) (c .blocked) ≡ c .refusal))
+    × T (allRefusedB l)) = r-both _ _ (r-both _ _ (r-negate _ (r-eq _ _)) (r-eq _ _)) (r-T _) in
+    let ((n, e), y) = r .to x in
+    (refuses-all (bytesOf (c .plan)) (c .blocked) (c .refusal) e n, all-refused l y)

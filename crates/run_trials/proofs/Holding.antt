@@ -16,32 +16,36 @@ use Rattle.base.specs.Count.{countBelow}
 use Rattle.run_flags.specs.Flags.{flagIn}
 use Rattle.run_starts.specs.Starts.{nodeByte, ordinalAt, ordinalIn, startedIn, startedCount, holders, strayOrdinal}
 use Rattle.run_starts.specs.Starts.{misnumbered}
-use Rattle.run_state.specs.State.{tooShort, badFlag, badByte, badNode, malformed, roomRefusal, stateRefusal, statusAt}
-use Rattle.run_state.specs.State.{moves, statusIn}
+use Rattle.run_state.specs.State.{tooShort, badFlag, badByte, badNode, statusAt, moves, statusIn}
+use Rattle.run_state.specs.Under.{badAbsent, malformedUnder, roomRefusalUnder, stateRefusalUnder}
+use Rattle.plan_blocked.specs.Blocked.{refusalUnder}
+use Rattle.runs.specs.Blocked.{stands, standingOrder, markedUnderB, unblockableB, refused28B, refused29B, blockedRefusal}
 use Rattle.run_calls.specs.Shown.{flagByte, numberByte, shownByte}
 use Rattle.run_trials.specs.Written.{two, twos, eight, names, nodes, conditionNodes, conditionValues}
 use Rattle.run_trials.specs.Written.{earlierNodes, laterNodes, bytesOf}
 use Rattle.run_trials.specs.Trial.{statusBytes, stateBytes, AllHold}
 use Rattle.run_trials.specs.Starred.{starred}
 use Rattle.run_trials.specs.Requested.{of-starts, of-places, of-skips, of-groups, of-words, of-finishes}
-use Rattle.run_trials.specs.Checked.{AllChecked, AllWorded}
+use Rattle.run_trials.specs.Blocked.{of-branches, of-lists, of-absent, of-roots}
+use Rattle.run_trials.specs.Checked.{AllChecked, AllWorded, AllRefused}
 use Rattle.run_trials.proofs.Tests.{showsB, leftB, holdsB, allHoldB, all-hold}
 use Rattle.run_trials.proofs.Checks.{allCheckedB, all-checked, completeIs, allWordedB, all-worded}
+use Rattle.run_trials.proofs.Checks.{allRefusedB, all-refused}
 
--- the plans and their bytes, and the bytes of states, under one name
+-- the plans, their bytes and their meaning, and the bytes of states, under one name
 unfoldable pub bytes : Unit {0}
 unfolding computing nameAllowed flagOf signOf placeOf valueBad u16At nodeCount condCount orderCount flagCount
     wholeLength startFlag nameChar entryAt parentOf kindOf minutesOf condNode condValue earlierOf laterOf isKind isGroup
     cause1 cause2 cause3 badStart cause4 badChar cause5 badEntry cause6 badParent cause7 childless cause8 badCondition
     cause9 notBelow notRising cause10 bothSigns cause11 postOf noPost cause12 isChild badPair badOrder cause13 cause14
-    refusal flagByte two twos eight names nodes conditionNodes conditionValues earlierNodes laterNodes bytesOf
+    refusal refusalUnder blockedRefusal refused28B refused29B unblockableB stands standingOrder planOf kindAt
+    conditionIs hasCondition signIn orderIs hasOrder flagByte two twos eight names nodes conditionNodes conditionValues earlierNodes laterNodes bytesOf
     statusBytes stateBytes
 bytes = tt
 
--- the meaning of a plan, and a row as one test
+-- a row as one test
 unfoldable pub rows : Unit {0}
-unfolding bytes planOf startOf kindAt conditionIs hasCondition signIn orderIs hasOrder numberByte shownByte showsB leftB
-    holdsB allHoldB
+unfolding bytes startOf markedUnderB numberByte shownByte showsB leftB holdsB allHoldB
 rows = tt
 
 -- every starred row of 01 holds
@@ -57,7 +61,7 @@ starts-hold = all-hold of-starts tt
 -- 16 and 15 of a state
 unfoldable pub checks : Unit {0}
 unfolding bytes nodeByte ordinalAt ordinalIn tooShort badFlag badByte startedIn startedCount holders strayOrdinal
-    misnumbered badNode malformed roomRefusal stateRefusal flagIn bit countBelow allCheckedB
+    misnumbered badNode badAbsent malformedUnder roomRefusalUnder stateRefusalUnder flagIn bit countBelow allCheckedB
 checks = tt
 
 pub places-checked : AllChecked of-places
@@ -81,3 +85,20 @@ words-told = all-worded of-words tt
 pub finishes-hold : AllHold of-finishes
 unfolding rows
 finishes-hold = all-hold of-finishes tt
+
+-- every row for 02's blocked branches
+pub branches-hold : AllHold of-branches
+unfolding rows
+branches-hold = all-hold of-branches tt
+
+pub lists-refused : AllRefused of-lists
+unfolding bytes allRefusedB
+lists-refused = all-refused of-lists tt
+
+pub absent-checked : AllChecked of-absent
+unfolding checks
+absent-checked = all-checked of-absent tt
+
+pub roots-told : AllWorded of-roots
+unfolding rows checks moves statusAt statusIn completeIs allWordedB
+roots-told = all-worded of-roots tt

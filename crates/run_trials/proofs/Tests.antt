@@ -11,20 +11,20 @@ use lib.Pow.{areBytes}
 use borrow.Author.Tests.{ltb-true}
 use Rattle.base.specs.Answers.{overlay}
 use Rattle.plan_format.specs.Format.{nodeCount, flagCount}
-use Rattle.plan_rules.specs.Rules.{refusal}
+use Rattle.plan_blocked.specs.Blocked.{planUnder, refusalUnder}
+use Rattle.plan_blocked.proofs.Refused.{plan-accepted, blocks, under-well-formed}
+use Rattle.runs.specs.Blocked.{MarkedUnder, markedUnderB}
+use Rattle.runs.proofs.Blocked.Branches.{blocked-marks}
 use Rattle.plan_rules.proofs.Laws.{and-both}
 use Rattle.plan_check.specs.Meaning.{planOf, startOf}
 use Rattle.plan_check.proofs.Meaning.{means-well-formed}
-use Rattle.plan_check.proofs.Nodes.{is-node}
 use Rattle.runs.specs.Calls.{World, fresh}
-use Rattle.runs.specs.Summary.{Mark, Marked}
-use Rattle.runs.specs.Tests.{both, allBelow, sameList}
+use Rattle.runs.specs.Summary.{Mark}
+use Rattle.runs.specs.Tests.{both, allBelow, listed, sameList}
 use Rattle.runs.specs.Verdict.{Verdict-discrete}
-use Rattle.runs.specs.Model.Marks.{markedB}
 use Rattle.runs.specs.Model.Monitor.{returns, states}
 use Rattle.runs.specs.Model.Verdicts.{verdict}
 use Rattle.runs.proofs.Reflect.{T-true, Reflects, r-both, r-T, r-eq, r-list, r-lt, r-decide, r-all}
-use Rattle.runs.proofs.Summary.Exact.{marks-exact}
 use Rattle.runs.proofs.Calls.First.{worked-only}
 use Rattle.run_calls.specs.Shown.{shownByte}
 use Rattle.verdict.specs.Verdict.{answerOf}
@@ -46,59 +46,62 @@ overlay-same f g zero xs h = refl
 overlay-same f g (suc n) xs h = rw (overlay-same f g n xs (λ k l. h k (omega arith)), h n (omega arith))
 
 -- ---- the test
-unfoldable pub showsB : List ℕ → List Shown → Bool
-showsB b [] = true
-showsB b (shown n f v m ∷ l) = both (both (ltb n (nodeCount b)) (λ u. ltb f (flagCount b)))
-    (λ u. both (markedB (planOf b) n f v m) (λ u. showsB b l))
+unfoldable pub showsB : List ℕ → List ℕ → List Shown → Bool
+showsB b xs [] = true
+showsB b xs (shown n f v m ∷ l) = both (ltb f (flagCount b))
+    (λ u. both (markedUnderB (planOf b) (listed xs) n f v m) (λ u. showsB b xs l))
 
 unfoldable pub leftB : List ℕ → Trial → Bool
 leftB b t = allBelow (8 + 3 * nodeCount b)
-    (λ k. eqb (shownByte (nodeCount b) (states (planOf b) (fresh (startOf b)) (t .calls)) k) (getD (t .left) k 0))
+    (λ k. eqb (shownByte (nodeCount b) (states (planOf b) (planUnder b (t .blocked)) (fresh (startOf b)) (t .calls)) k)
+    (getD (t .left) k 0))
 
 unfoldable pub holdsB : List ℕ → Trial → Bool
-holdsB b t = both (both (areBytes b) (λ u. eqb (refusal b) 0))
-    (λ u. both (decide (Verdict-discrete (verdict (planOf b) (startOf b)) (t .verdict)))
-    (λ u. both (showsB b (t .marks))
-    (λ u. both (sameList (returns (planOf b) (fresh (startOf b)) (t .calls)) (t .returned)) (λ u. leftB b t))))
+holdsB b t = both (both (areBytes b) (λ u. eqb (refusalUnder b (t .blocked)) 0))
+    (λ u. both (decide (Verdict-discrete (verdict (planUnder b (t .blocked)) (startOf b)) (t .verdict)))
+    (λ u. both (showsB b (t .blocked) (t .marks))
+    (λ u. both (sameList (returns (planOf b) (planUnder b (t .blocked)) (fresh (startOf b)) (t .calls)) (t .returned))
+    (λ u. leftB b t))))
 
-shown-by : (b : List ℕ) (n f : ℕ) (v : Bool) (m : Mark) → f < flagCount b → Marked (planOf b) n f v m
-    → ShownBy b n f v m
-shown-by b n f v m l x = record
+shown-by : (b xs : List ℕ) (n f : ℕ) (v : Bool) (m : Mark) → f < flagCount b
+    → MarkedUnder (planOf b) (listed xs) n f v m → ShownBy b xs n f v m
+shown-by b xs n f v m l x = record
     { marked = x; told = λ out out′ s. ⊎-elim (λ y. y .0) (λ y. absurd (y .1 x)) (s .marks refl f l v m) }
 
-shows-of : (b : List ℕ) → refusal b ≡ 0 → (l : List Shown) → T (showsB b l) → AllShown b l
+shows-of : (b xs : List ℕ) → refusalUnder b xs ≡ 0 → (l : List Shown) → T (showsB b xs l) → AllShown b xs l
 unfolding showsB
-shows-of b acc [] t = tt
-shows-of b acc (shown n f v m ∷ l) t =
-    let r : Reflects (both (both (ltb n (nodeCount b)) (λ u. ltb f (flagCount b)))
-    (λ u. both (markedB (planOf b) n f v m) (λ u. showsB b l)))
-    (((n < nodeCount b) × (f < flagCount b)) × (T (markedB (planOf b) n f v m) × T (showsB b l)))
-    = r-both _ _ (r-both _ _ (r-lt _ _) (r-lt _ _)) (r-both _ _ (r-T _) (r-T _)) in
-    let ((k, j), (x, y)) = r .to t in (
-      shown-by b n f v m j (marks-exact (planOf b) (means-well-formed b acc) n f (is-node b n k) v m .to x),
-      shows-of b acc l y,
+shows-of b xs acc [] t = tt
+shows-of b xs acc (shown n f v m ∷ l) t =
+    let r : Reflects (both (ltb f (flagCount b))
+    (λ u. both (markedUnderB (planOf b) (listed xs) n f v m) (λ u. showsB b xs l)))
+    ((f < flagCount b) × (T (markedUnderB (planOf b) (listed xs) n f v m) × T (showsB b xs l)))
+    = r-both _ _ (r-lt _ _) (r-both _ _ (r-T _) (r-T _)) in
+    let (j, (x, y)) = r .to t in (
+      shown-by b xs n f v m j (blocked-marks (planOf b) (means-well-formed b (plan-accepted b xs acc)) (listed xs)
+          (blocks b xs acc) n f v m .to x),
+      shows-of b xs acc l y,
     )
 
 module _ (b : List ℕ) (t : Trial) (x : T (holdsB b t)) where
   abbrev p-returns : List ℕ
-  p-returns = returns (planOf b) (fresh (startOf b)) (t .calls)
+  p-returns = returns (planOf b) (planUnder b (t .blocked)) (fresh (startOf b)) (t .calls)
 
   abbrev p-after : World
-  p-after = states (planOf b) (fresh (startOf b)) (t .calls)
+  p-after = states (planOf b) (planUnder b (t .blocked)) (fresh (startOf b)) (t .calls)
 
   record Passed : Type 0 where
     small : T (areBytes b)
-    accepted : refusal b ≡ 0
-    judged : verdict (planOf b) (startOf b) ≡ t .verdict
-    shows : T (showsB b (t .marks))
+    accepted : refusalUnder b (t .blocked) ≡ 0
+    judged : verdict (planUnder b (t .blocked)) (startOf b) ≡ t .verdict
+    shows : T (showsB b (t .blocked) (t .marks))
     returned : p-returns ≡ t .returned
     left : (k : ℕ) → k < 8 + 3 * nodeCount b → shownByte (nodeCount b) p-after k ≡ getD (t .left) k 0
 
   passed : Passed
   unfolding holdsB leftB
   passed =
-      let r : Reflects (holdsB b t) ((T (areBytes b) × (refusal b ≡ 0)) × ((verdict (planOf b) (startOf b) ≡ t .verdict)
-      × (T (showsB b (t .marks)) × ((p-returns ≡ t .returned)
+      let r : Reflects (holdsB b t) ((T (areBytes b) × (refusalUnder b (t .blocked) ≡ 0))
+      × ((verdict (planUnder b (t .blocked)) (startOf b) ≡ t .verdict) × (T (showsB b (t .blocked) (t .marks)) × ((p-returns ≡ t .returned)
       × ((k : ℕ) → k < 8 + 3 * nodeCount b → shownByte (nodeCount b) p-after k ≡ getD (t .left) k 0)))))
       = r-both _ _ (r-both _ _ (r-T _) (r-eq _ _))
       (r-both _ _ (r-decide _) (r-both _ _ (r-T _) (r-both _ _ (r-list _ _) (r-all _ _ _ (λ k. r-eq _ _))))) in
@@ -112,10 +115,11 @@ module _ (b : List ℕ) (t : Trial) (x : T (holdsB b t)) where
       record {
         accepted = w .accepted;
         judged = λ r a. a .returns ∙ rw (w .accepted, w .judged);
-        shows = shows-of b (w .accepted) (t .marks) (w .shows);
+        shows = shows-of b (t .blocked) (w .accepted) (t .marks) (w .shows);
         called = λ s rs z l.
-            let g = list-follows b (bytes-of b (T-true (areBytes b) (w .small))) s (t .calls) rs z l in
-            let (e, q) = worked-only (planOf b) (means-well-formed b (w .accepted)) (g .worked) in
+            let g = list-follows b (t .blocked) (bytes-of b (T-true (areBytes b) (w .small))) s (t .calls) rs z l in
+            let (e, q) = worked-only (planOf b) (planUnder b (t .blocked))
+            (under-well-formed b (t .blocked) (w .accepted)) (g .worked) in
             let m = nodeCount b in (
               e ∙ w .returned,
               g .shown .bytes ∙ ap (λ (a : World). overlay (shownByte m a) (8 + 3 * m) s) q

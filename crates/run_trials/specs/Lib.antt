@@ -4,3 +4,4 @@ pub mod Checked
 pub mod Terms
 pub mod Starred
 pub mod Requested
+pub mod Blocked

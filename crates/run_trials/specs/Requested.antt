@@ -34,7 +34,7 @@ abbrev begun : List ℕ → List ℕ
 begun os = stateBytes (only 1) (waiting ∷ done ∷ waiting ∷ waiting ∷ running ∷ []) os
 
 abbrev row : List ℕ → ℕ → Checked
-row s r = record { plan = B none-set in-order; state = s; refusal = r }
+row s r = record { plan = B none-set in-order; blocked = []; state = s; refusal = r }
 
 abbrev pub of-places : List Checked
 of-places =
@@ -61,16 +61,16 @@ of-places =
 
 -- ---- 02's optional groups
 -- a dive: LOWR lowers the gear; the calibration CALI, by TONE or QUIK, which a busy day drops; PING
-abbrev lowr : ℕ
+abbrev pub lowr : ℕ
 lowr = 1
 
-abbrev cali : ℕ
+abbrev pub cali : ℕ
 cali = 2
 
-abbrev tone : ℕ
+abbrev pub tone : ℕ
 tone = 3
 
-abbrev ping : ℕ
+abbrev pub ping : ℕ
 ping = 5
 
 abbrev pub dive : Written
@@ -88,7 +88,7 @@ dive = record {
 }
 
 -- a group of kind k with a task A and, of kind j, a group of a task C
-abbrev nested : Kind → Kind → Written
+abbrev pub nested : Kind → Kind → Written
 nested k j = record {
   flags = 1;
   start = none-set;
@@ -146,6 +146,7 @@ of-skips =
 abbrev dived : ℕ → ℕ → ℕ → ℕ → Checked
 dived x y k r = record {
   plan = dive;
+  blocked = [];
   state = eight (only 0) ++ (y ∷ 2 ∷ x ∷ 0 ∷ 0 ∷ 0 ∷ []) ++ twos (0 ∷ 1 ∷ k ∷ 0 ∷ 0 ∷ 0 ∷ []);
   refusal = r;
 }
@@ -155,7 +156,7 @@ of-groups = dived 0 0 0 0 ∷ dived 2 0 0 0 ∷ dived 1 0 0 16 ∷ dived 3 0 0 1
 
 -- whether the root is complete
 abbrev root-says : Written → List Status → List ℕ → Word → Worded
-root-says w l os v = record { plan = w; state = stateBytes none-set l os; word = v }
+root-says w l os v = record { plan = w; blocked = []; state = stateBytes none-set l os; word = v }
 
 abbrev pub of-words : List Worded
 of-words =

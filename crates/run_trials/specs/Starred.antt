@@ -56,7 +56,7 @@ three os = under-root (a-task (leaves 0 on ∷ []) ∷ work 0 (short C) 3 (leave
     (needs 0 off ∷ []) ∷ []) os
 
 -- A before a choice before Z, C one of its two branches, the other without conditions
-abbrev picked : Written
+abbrev pub picked : Written
 picked = under-root
     (a-task (leaves 0 on ∷ []) ∷ choice (name P I C K) ∷ work 2 (short C) 3 (leaves 0 off ∷ []) ∷ work 2
     (name N O N E) 7 [] ∷ z-task (needs 0 off ∷ []) ∷ [])

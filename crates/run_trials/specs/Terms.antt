@@ -110,9 +110,14 @@ a-task l = work 0 (short A) 2 l
 abbrev pub z-task : List ℕ → Entry
 z-task l = work 0 (short Z) 5 l
 
--- ---- rows: plan, verdict, marks, calls, what they return, the state after them
+-- ---- rows: plan, list of blocked nodes, verdict, marks, calls, what they return, the state after them
+abbrev pub trial-without : Written → List ℕ → Verdict → List Shown → List Call → List ℕ → List ℕ → Trial
+trial-without w xs v ms cs rs l =
+    record { plan = w; blocked = xs; verdict = v; marks = ms; calls = cs; returned = rs; left = l }
+
+-- with nothing blocked
 abbrev pub trial : Written → Verdict → List Shown → List Call → List ℕ → List ℕ → Trial
-trial w v ms cs rs l = record { plan = w; verdict = v; marks = ms; calls = cs; returned = rs; left = l }
+trial w v ms cs rs l = trial-without w [] v ms cs rs l
 
 -- all tasks wait; none has been started
 abbrev pub waits : ℕ → List Status

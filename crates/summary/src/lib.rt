@@ -18,7 +18,13 @@ use table_all::fill_tables;
 use table_orders::no_order;
 
 // Refusals 1 to 14, 28, 29, 15 and 17, or 0, and then of the marks those of the nodes that stand.
-fn summary_refused(plan: &[u8], blocked: &[usize], node: usize, out: &[u8], standing: &mut [u8; 128]) -> u32
+fn summary_refused(
+    plan: &[u8],
+    blocked: &[usize],
+    node: usize,
+    out: &[u8],
+    standing: &mut [u8; 128],
+) -> u32
     requires { ⌜ AllMarked (now standing) ⌝ }
     ensures { λ r. ⌜ Refused (now (plan .entry)) (now (blocked .entry)) node (now (out .entry)) r
         (now (standing .exit)) ⌝ }

@@ -1,3 +1,4 @@
 -- Laws of the verdict.
 pub mod Start
 pub mod Judging
+pub mod Promises

@@ -1,2 +1,3 @@
--- What the call for a verdict answers.
+-- What the call for a verdict answers, and what its answers keep.
 pub mod Verdict
+pub mod Promises

@@ -25,10 +25,12 @@ judge-requires c κs = passed (c .before .before .before)
 write-text-requires : tie.Need-write-text-requires
 write-text-requires c κs =
     let i = c .before .before .before .before in
-    let p = passed (i .before) in
-    (p, whole-verdict _ p _ (c .before .before .before .all-nodes .ensures)
-    (c .before .judge .result) (c .before .judge .ensures),
-    omega (arith, i .if2 .left))
+    let p = passed (i .before) in (
+      p,
+      whole-verdict _ p _ (c .before .before .before .all-nodes .ensures)
+          (c .before .judge .result) (c .before .judge .ensures),
+      omega (arith, i .if2 .left),
+    )
 
 returns-3 : tie.Need-returns-3
 returns-3 c =

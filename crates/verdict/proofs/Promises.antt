@@ -1,0 +1,81 @@
+-- The two promises hold. Assumes nothing.
+use mathlib.Core.Path.{_≡_, refl, sym, ap, _∙_, fun-ext}
+use mathlib.Core.Logic.{by-cases}
+use mathlib.Core.Bool.{Bool, true, false, cond, _&&_}
+use mathlib.Core.Option.{Option, some, none}
+use mathlib.Core.List.{List, List·Memᴰ as Among}
+use Prim.Native.Nat.{ℕ, _<_}
+use native.Mathlib.Decide.{decLt}
+use native.Mathlib.Omega.{arith}
+use lib.Dec.{T, eqb}
+use borrow.Author.Tests.{le-ltb}
+use Rattle.plan_codes.specs.Values.{flagOf, signOf, placeOf}
+use Rattle.plan_format.specs.Format.{nodeCount, condCount, flagCount, condNode, condValue}
+use Rattle.plan_rules.specs.Rules.{refusal}
+use Rattle.plan_rules.proofs.Laws.{some-same}
+use Rattle.plan_check.specs.Meaning.{planOf, startOf, kindAt, conditionIs, hasCondition, signIn, hasOrder}
+use Rattle.plan_check.proofs.Accepted.{clean}
+use Rattle.plan_check.proofs.Meaning.{means-well-formed, order-is, has-order}
+use Rattle.plan_check.proofs.Nodes.{node-is}
+use Rattle.plan_blocked.specs.Blocked.{planUnder, refusalUnder}
+use Rattle.plan_blocked.proofs.Refused.{plan-accepted, blocks}
+use Rattle.runs.specs.Tests.{anyBelow, listed}
+use Rattle.runs.specs.Plan.{Place, placeNumber}
+use Rattle.runs.specs.Verdict.{CLEAR, DOOMED}
+use Rattle.runs.specs.Blocked as plans
+use Rattle.runs.proofs.Calls.Listed.{r-listed}
+use Rattle.runs.proofs.Blocked.Branches.{promises, blocking-keeps}
+use Rattle.verdict.specs.declared.Answer.{Answer}
+use Rattle.verdict.specs.Verdict.{Assessed}
+use Rattle.verdict.specs.Promises.{Keeps, BlockingKeeps, OrdersAdded, OrdersKeep}
+
+-- what holds of the plans holds of the answers
+answers-keep : (b c xs ys : List ℕ) → refusalUnder b xs ≡ 0 → refusalUnder c ys ≡ 0 → startOf b ≡ startOf c
+    → plans.Keeps (planUnder b xs) (planUnder c ys) → (a d : Answer) → Assessed b xs a → Assessed c ys d → Keeps a d
+answers-keep b c xs ys okb okc s k a d x y = record {
+  clear = λ q. y .judged okc CLEAR .1 (rw s at (k .clear (startOf b) (x .judged okb CLEAR .0 q)));
+  doomed = λ q. y .judged okc DOOMED .1 (rw s at (k .doomed (startOf b) (x .judged okb DOOMED .0 q)));
+}
+
+pub blocking-promise : BlockingKeeps
+blocking-promise b xs ys okx oky h a c x y = answers-keep b b xs ys okx oky refl
+    (blocking-keeps (planOf b) (means-well-formed b (plan-accepted b xs okx)) (listed xs) (listed ys) (blocks b xs okx)
+    (blocks b ys oky) (λ s t. (r-listed ys s) .from (h s ((r-listed xs s) .to t)))) a c x y
+
+-- ---- orders added
+module _ (b c : List ℕ) (okb : refusal b ≡ 0) (h : OrdersAdded b c) where
+  same-condition : (q t f s : ℕ) → hasCondition b q t f s ≡ hasCondition c q t f s
+  unfolding hasCondition conditionIs
+  same-condition q t f s = some-same (condCount b) (conditionIs b q t f s) (conditionIs c q t f s)
+      (λ i l. rw (h .tasks i l, h .values i l))
+      ∙ ap (λ (n : ℕ). anyBelow n (conditionIs c q t f s)) (h .conditions)
+
+  same-sign : signIn b ≡ signIn c
+  unfolding signIn
+  same-sign = fun-ext (λ k. fun-ext (λ t. fun-ext (λ f.
+      rw (same-condition (placeNumber k) t f 1, same-condition (placeNumber k) t f 0))))
+
+  same-start : startOf b ≡ startOf c
+  unfolding startOf
+  same-start = fun-ext (λ f. by-cases (decLt f 64)
+      (λ (l : f < 64). rw (h .flags, h .starts f l))
+      (λ n. let z : flagCount b < 65 = omega (arith, clean b okb .fits .limits .flags) in
+      rw (le-ltb f (flagCount b) (omega arith), le-ltb f (flagCount c) (omega (arith, h .flags)))))
+
+  added : plans.OrdersAdded (planOf b) (planOf c)
+  unfolding planOf
+  added = record {
+    same-nodes = λ i. rw (h .nodes);
+    same-kind = λ i l. ap kindAt (h .kinds i (node-is b i l));
+    same-parent = λ i z l. h .parents i (node-is b i l);
+    same-conditions = rw (h .flags, same-sign);
+    no-order-lost = λ x y o. has-order c x y (h .orders x y (order-is b x y o));
+  }
+
+pub orders-promise : OrdersKeep
+orders-promise b c xs h okb okc a d x y =
+    let pb = plan-accepted b xs okb in
+    let pc = plan-accepted c xs okc in
+    answers-keep b c xs xs okb okc (same-start b c pb h)
+    (promises (planOf b) (planOf c) (means-well-formed b pb) (means-well-formed c pc) (added b c pb h) (listed xs)
+    (listed xs) (blocks b xs okb) (blocks c xs okc) (λ s t. t)) a d x y

@@ -1,0 +1,39 @@
+-- 02's two promises about what `assess` answers: "for one book, striking more branches where 28 and 29 pass, or adding
+-- orders that the book rules accept, leaves CLEAR as CLEAR and DOOMED as DOOMED". Definitions only.
+use mathlib.Core.Path.{_≡_}
+use mathlib.Core.Logic.{inr}
+use mathlib.Core.List.{List, List·Memᴰ as Among}
+use Prim.Native.Nat.{ℕ, _<_}
+use Rattle.plan_format.specs.Format.{nodeCount, condCount, flagCount, parentOf, kindOf, condNode, condValue, startFlag}
+use Rattle.plan_check.specs.Meaning.{OrderPair}
+use Rattle.plan_blocked.specs.Blocked.{refusalUnder}
+use Rattle.runs.specs.Verdict.{CLEAR, DOOMED}
+use Rattle.verdict.specs.declared.Answer.{Answer}
+use Rattle.verdict.specs.Verdict.{said, Assessed}
+
+-- CLEAR stays CLEAR and DOOMED stays DOOMED
+pub record Keeps (a c : Answer) : Type 0 where
+  pub clear : said a ≡ inr CLEAR → said c ≡ inr CLEAR
+  pub doomed : said a ≡ inr DOOMED → said c ≡ inr DOOMED
+
+-- more branches are blocked: every number of xs is in ys
+abbrev pub BlockingKeeps : Type 0
+BlockingKeeps = (b xs ys : List ℕ) → refusalUnder b xs ≡ 0 → refusalUnder b ys ≡ 0
+    → ((s : ℕ) → Among s xs → Among s ys) → (a c : Answer) → Assessed b xs a → Assessed b ys c → Keeps a c
+
+-- the bytes c say what the bytes b say, and more orders. (Names and minutes are no matter here.)
+pub record OrdersAdded (b c : List ℕ) : Type 0 where
+  pub nodes : nodeCount b ≡ nodeCount c
+  pub kinds : (n : ℕ) → n < nodeCount b → kindOf b n ≡ kindOf c n
+  pub parents : (n : ℕ) → n < nodeCount b → parentOf b n ≡ parentOf c n
+  pub flags : flagCount b ≡ flagCount c
+  pub starts : (f : ℕ) → f < 64 → startFlag b f ≡ startFlag c f
+  pub conditions : condCount b ≡ condCount c
+  pub tasks : (i : ℕ) → i < condCount b → condNode b i ≡ condNode c i
+  pub values : (i : ℕ) → i < condCount b → condValue b i ≡ condValue c i
+  pub orders : (x y : ℕ) → OrderPair b x y → OrderPair c x y
+
+-- orders are added, under any list of blocked nodes that passes, the empty one among them
+abbrev pub OrdersKeep : Type 0
+OrdersKeep = (b c xs : List ℕ) → OrdersAdded b c → refusalUnder b xs ≡ 0 → refusalUnder c xs ≡ 0
+    → (a d : Answer) → Assessed b xs a → Assessed c xs d → Keeps a d
