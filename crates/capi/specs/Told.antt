@@ -28,8 +28,8 @@ pub record VerdictNumber (b xs : List ℕ) (r : ℕ) : Type 0 where
   pub judged : refusalUnder b xs ≡ 0 → (v : Verdict)
       → (r ≡ verdictNumber (inr v)) ↔ Judged (planUnder b xs) (startOf b) v
 
--- r is the number of the answer for the state, with the list xs; accepted, it is the number of COMPLETE exactly if the state shows the
--- root complete
+-- r is the number of the answer for the state, with the list xs; accepted, it is the number of COMPLETE exactly if the
+-- state shows the root complete
 pub record StatusNumber (b xs s : List ℕ) (r : ℕ) : Type 0 where
   pub returns : r ≡ statusNumber (statusAnswer b xs s)
   pub complete : stateRefusalUnder b xs s ≡ 0

@@ -17,6 +17,7 @@ use Rattle.plan_check.proofs.Meaning.{means-well-formed}
 use Rattle.plan_check.proofs.Nodes.{node-is}
 use Rattle.runs.specs.Tests.{listed}
 use Rattle.runs.specs.Plan.{WellFormed, Node}
+use Rattle.runs.specs.Calls.{Rising}
 use Rattle.runs.specs.Blocked.{stands, without, Blocks, Refused28, names-root, no-node, refused28B, refused29B, blockedRefusal}
 use Rattle.runs.proofs.Reflect.{force, decided, r-T, true-T, T-true}
 use Rattle.runs.proofs.Calls.Listed.{r-listed}
@@ -71,15 +72,25 @@ module _ (b xs : List ℕ) where
       small s i = let n : s < nodeCount b = node-is b s (force (decided (r-T (planOf b .tree .here s))) (λ n. no-28 (no-node s i n))) in
           omega (arith, n, clean b ok .fits .limits .nodes)
 
+    -- a list that strictly rises, of nodes that may be blocked, is not refused
+    pub list-passes : Rising xs → Blocks (planOf b) (listed xs) → refusalUnder b xs ≡ 0
+    list-passes y k = sym (then 0 (sym ((refusal-none (planOf b) (means-well-formed b ok) xs) .1 (y, k))))
+
   -- what a list that is not refused leaves
   module _ (ok : refusalUnder b xs ≡ 0) where
     pub plan-accepted : refusal b ≡ 0
     unfolding refusalUnder
     plan-accepted = both-none (refusal b) _ ok .0
 
-    pub blocks : Blocks (planOf b) (listed xs)
+    passed : Rising xs × Blocks (planOf b) (listed xs)
     unfolding refusalUnder
-    blocks = (refusal-none (planOf b) (means-well-formed b plan-accepted) xs) .0 (both-none (refusal b) _ ok .1) .1
+    passed = (refusal-none (planOf b) (means-well-formed b plan-accepted) xs) .0 (both-none (refusal b) _ ok .1)
+
+    pub strictly-rises : Rising xs
+    strictly-rises = passed .0
+
+    pub blocks : Blocks (planOf b) (listed xs)
+    blocks = passed .1
 
     pub under-well-formed : WellFormed (planUnder b xs)
     under-well-formed = blocked-well-formed (planOf b) (means-well-formed b plan-accepted) (listed xs) blocks

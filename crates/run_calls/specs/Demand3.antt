@@ -95,7 +95,8 @@ pub record Demand3Of (b xs : List ℕ) : Type 0 where
   -- if it is DOOMED, the root is complete after no list: not in the states worked out, and `status` never says so
   pub doomed : (r : Answer) → Assessed b xs r → said r ≡ inr DOOMED
       → (s : List ℕ) (cs : List Call) (rs z : List ℕ) → Listed b xs s cs rs z
-      → ((a : World) → Worked (planOf b) (planUnder b xs) (fresh (startOf b)) cs rs a → ¬ Complete (planUnder b xs) (a .status) 0)
+      → ((a : World) → Worked (planOf b) (planUnder b xs) (fresh (startOf b)) cs rs a
+      → ¬ Complete (planUnder b xs) (a .status) 0)
       × ((t : Progress) → Told b xs z t → status.said t ≢ inr COMPLETE)
 
 -- the whole claim: it holds of every accepted plan with every list of blocked nodes that passes 28 and 29, the empty one

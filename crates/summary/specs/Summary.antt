@@ -1,5 +1,5 @@
--- The summary call (01: sheet) with a list of blocked nodes: what it returns, every byte that it leaves, and what each byte of a mark tells.
--- Definitions only.
+-- The summary call (01: sheet) with a list of blocked nodes: what it returns, every byte that it leaves, and what each
+-- byte of a mark tells. Definitions only.
 use mathlib.Core.Path.{_≡_}
 use mathlib.Core.Logic.{_⊎_}
 use mathlib.Core.Bool.{Bool, cond, not}

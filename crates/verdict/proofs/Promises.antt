@@ -18,13 +18,13 @@ use Rattle.plan_check.proofs.Accepted.{clean}
 use Rattle.plan_check.proofs.Meaning.{means-well-formed, order-is, has-order}
 use Rattle.plan_check.proofs.Nodes.{node-is}
 use Rattle.plan_blocked.specs.Blocked.{planUnder, refusalUnder}
-use Rattle.plan_blocked.proofs.Refused.{plan-accepted, blocks}
+use Rattle.plan_blocked.proofs.Refused.{plan-accepted, strictly-rises, blocks, list-passes}
 use Rattle.runs.specs.Tests.{anyBelow, listed}
 use Rattle.runs.specs.Plan.{Place, placeNumber}
 use Rattle.runs.specs.Verdict.{CLEAR, DOOMED}
 use Rattle.runs.specs.Blocked as plans
 use Rattle.runs.proofs.Calls.Listed.{r-listed}
-use Rattle.runs.proofs.Blocked.Branches.{promises, blocking-keeps}
+use Rattle.runs.proofs.Blocked.Branches.{blocks-out, blocking-keeps, orders-keep}
 use Rattle.verdict.specs.declared.Answer.{Answer}
 use Rattle.verdict.specs.Verdict.{Assessed}
 use Rattle.verdict.specs.Promises.{Keeps, BlockingKeeps, OrdersAdded, OrdersKeep}
@@ -73,9 +73,12 @@ module _ (b c : List ℕ) (okb : refusal b ≡ 0) (h : OrdersAdded b c) where
   }
 
 pub orders-promise : OrdersKeep
-orders-promise b c xs h okb okc a d x y =
+orders-promise b c xs h okb pc a d x y =
     let pb = plan-accepted b xs okb in
-    let pc = plan-accepted c xs okc in
+    let more = added b c pb h in
+    let wb = means-well-formed b pb in
+    let wc = means-well-formed c pc in
+    let k = blocks b xs okb in
+    let okc = list-passes c xs pc (strictly-rises b xs okb) (blocks-out (planOf b) (planOf c) wb wc more (listed xs) k) in
     answers-keep b c xs xs okb okc (same-start b c pb h)
-    (promises (planOf b) (planOf c) (means-well-formed b pb) (means-well-formed c pc) (added b c pb h) (listed xs)
-    (listed xs) (blocks b xs okb) (blocks c xs okc) (λ s t. t)) a d x y
+    (orders-keep (planOf b) (planOf c) wb wc more (listed xs) k) a d x y

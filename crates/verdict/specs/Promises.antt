@@ -5,6 +5,7 @@ use mathlib.Core.Logic.{inr}
 use mathlib.Core.List.{List, List·Memᴰ as Among}
 use Prim.Native.Nat.{ℕ, _<_}
 use Rattle.plan_format.specs.Format.{nodeCount, condCount, flagCount, parentOf, kindOf, condNode, condValue, startFlag}
+use Rattle.plan_rules.specs.Rules.{refusal}
 use Rattle.plan_check.specs.Meaning.{OrderPair}
 use Rattle.plan_blocked.specs.Blocked.{refusalUnder}
 use Rattle.runs.specs.Verdict.{CLEAR, DOOMED}
@@ -33,7 +34,7 @@ pub record OrdersAdded (b c : List ℕ) : Type 0 where
   pub values : (i : ℕ) → i < condCount b → condValue b i ≡ condValue c i
   pub orders : (x y : ℕ) → OrderPair b x y → OrderPair c x y
 
--- orders are added, under any list of blocked nodes that passes, the empty one among them
+-- orders are added that the rules accept, under any list of blocked nodes that passes, the empty one among them
 abbrev pub OrdersKeep : Type 0
-OrdersKeep = (b c xs : List ℕ) → OrdersAdded b c → refusalUnder b xs ≡ 0 → refusalUnder c xs ≡ 0
+OrdersKeep = (b c xs : List ℕ) → OrdersAdded b c → refusalUnder b xs ≡ 0 → refusal c ≡ 0
     → (a d : Answer) → Assessed b xs a → Assessed c xs d → Keeps a d

@@ -211,6 +211,27 @@ module _ (p r : Plan) (w : WellFormed p) (wr : WellFormed r) (added : OrdersAdde
   under-out {a} (below {n = i} z k u) l = let e : p .tree .parent i ≡ r .tree .parent i = added .same-parent i z k in
       below z l (rw (← e) (under-out u (rw e (wr .parent-node i z l))))
 
+  -- what stands in r where the nodes in R are blocked stands in p where some of them are
+  stood : (S R : ℕ → Bool) → ((s : ℕ) → T (S s) → T (R s)) → {i : ℕ} → Stands r R i → Stands p S i
+  stood S R more {i} x =
+      record { node = node-in i (x .node); outside = λ s y u. x .outside s (more s y) (under-out u (x .node)) }
+
+  -- what may be blocked in p may be in r
+  pub blocks-out : (S : ℕ → Bool) → Blocks p S → Blocks r S
+  blocks-out S ok = record {
+    node = λ s x. rw (added .same-nodes s) at (ok .node s x);
+    not-root = ok .not-root;
+    of-choice = λ s x. let z = ok .not-root s x in let l = ok .node s x in
+        let k : p .tree .kind (p .tree .parent s) ≡ r .tree .kind (p .tree .parent s) = added .same-kind _ (w .parent-node s z l) in
+        rw (added .same-parent s z l) at (rw k at (ok .of-choice s x));
+    branch-left = λ g x e.
+        let xr = (r-stands r wr S g) .to x in
+        let xp = stood S S (λ s y. y) xr in
+        let (c, hc) = ok .branch-left g ((r-stands p w S g) .from xp) (added .same-kind g (xp .node) ∙ e) in
+        let (h, y) = child-stands p w S hc in
+        (c, standing-child r wr S (child-out h) (stands-down r wr S (child-out h) (λ b. y .outside c b itself) xr));
+  }
+
   -- the nodes in R are blocked where those in S were
   module _ (S R : ℕ → Bool) (okS : Blocks p S) (okR : Blocks r R) (more : (s : ℕ) → T (S s) → T (R s)) where
     wq : WellFormed (without r R)
@@ -219,16 +240,13 @@ module _ (p r : Plan) (w : WellFormed p) (wr : WellFormed r) (added : OrdersAdde
     standing : (i : ℕ) → Node (without r R) i → Stands r R i
     standing i l = (r-stands r wr R i) .to l
 
-    stood : {i : ℕ} → Stands r R i → Stands p S i
-    stood {i} x = record { node = node-in i (x .node); outside = λ s y u. x .outside s (more s y) (under-out u (x .node)) }
-
     -- the plan without R, but for its conditions, which are the same
     blocked-thinner : Thinner (without p S) (without r R .tree) (without r R .order) 0
     blocked-thinner = record {
       present = wq .root-node;
       same-kind = λ i l. added .same-kind i (node-in i (standing i l .node));
       same-parent = λ i z l. added .same-parent i z (node-in i (standing i l .node));
-      no-other = λ g c ug hc. let (h, x) = child-stands r wr R hc in standing-child p w S (child-in h) (stood x);
+      no-other = λ g c ug hc. let (h, x) = child-stands r wr R hc in standing-child p w S (child-in h) (stood S R more x);
       all-parts = λ g c ug k hc. let h : Child r g c = child-out (child-stands p w S hc .0) in
           standing-child r wr R h (parts-stand r wr R okR k h (standing g (under-node (without r R) (wq .root-node) ug)));
       all-orders = λ g a b ug ha hb x. (r-standing-order r wr R a b) .from
@@ -253,5 +271,5 @@ blocking-keeps p w = promises p p w w (record {
   no-order-lost = λ a b x. x;
 })
 
-pub orders-keep : (p r : Plan) → WellFormed p → WellFormed r → OrdersAdded p r → (S : ℕ → Bool) → Blocks p S → Blocks r S → Keeps (without p S) (without r S)
-orders-keep p r w wr added S okp okr = promises p r w wr added S S okp okr (λ s x. x)
+pub orders-keep : (p r : Plan) → WellFormed p → WellFormed r → OrdersAdded p r → (S : ℕ → Bool) → Blocks p S → Keeps (without p S) (without r S)
+orders-keep p r w wr added S ok = promises p r w wr added S S ok (blocks-out p r w wr added S ok) (λ s x. x)
