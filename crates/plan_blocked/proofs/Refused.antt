@@ -19,7 +19,7 @@ use Rattle.runs.specs.Tests.{listed}
 use Rattle.runs.specs.Plan.{WellFormed, Node}
 use Rattle.runs.specs.Calls.{Rising}
 use Rattle.runs.specs.Blocked.{stands, without, Blocks, Refused28, names-root, no-node, refused28B, refused29B, blockedRefusal}
-use Rattle.runs.proofs.Reflect.{force, decided, r-T, true-T, T-true}
+use Rattle.runs.proofs.Reflect.{force, decided, r-T, r-lt, true-T, T-true}
 use Rattle.runs.proofs.Calls.Listed.{r-listed}
 use Rattle.runs.proofs.Blocked.Branches.{r-28, refusal-none, nothing-refused, blocked-well-formed, without-none}
 use Rattle.plan_blocked.specs.Blocked.{planUnder, refusalUnder, Standing, Checked}
@@ -68,9 +68,14 @@ module _ (b xs : List ℕ) where
       pub root-free : listed xs 0 ≡ false
       root-free = not-passed _ (λ y. no-28 (names-root ((r-listed xs 0) .to (true-T _ y))))
 
+      pub all-nodes : Each xs (λ s. (0 < s) × (s < nodeCount b))
+      all-nodes s i = (
+        force (decided (r-lt 0 s)) (λ n. let z : s ≡ 0 = omega arith in no-28 (names-root (rw z at i))),
+        node-is b s (force (decided (r-T (planOf b .tree .here s))) (λ n. no-28 (no-node s i n))),
+      )
+
       pub small : Each xs (λ s. s < 128)
-      small s i = let n : s < nodeCount b = node-is b s (force (decided (r-T (planOf b .tree .here s))) (λ n. no-28 (no-node s i n))) in
-          omega (arith, n, clean b ok .fits .limits .nodes)
+      small s i = omega (arith, all-nodes s i .1, clean b ok .fits .limits .nodes)
 
     -- a list that strictly rises, of nodes that may be blocked, is not refused
     pub list-passes : Rising xs → Blocks (planOf b) (listed xs) → refusalUnder b xs ≡ 0

@@ -85,11 +85,17 @@ module _ (b : List ℕ) (ok : refusal b ≡ 0) (S : ℕ → Bool) where
         ∙ ap (λ (v : Bool). both (negate (S c)) (λ u. v))
         (ap (stands (planOf b) S) (sym e) ∙ sym (h .below g (parent-lower b ok c g z l e)))
 
+    pub absent-here : (S c || not (marked table g)) ≡ true → stands (planOf b) S c ≡ false
+    absent-here t = here ∙ falls (S c) (marked table g) t
+
+    pub stands-here : (S c || not (marked table g)) ≡ false → stands (planOf b) S c ≡ true
+    stands-here t = here ∙ rises (S c) (marked table g) t
+
     pub stood-out : (S c || not (marked table g)) ≡ true → Stood b S (set table c 0) (c + 1)
     stood-out t = record {
       long = length-set table c 0 ∙ h .long;
       below = λ i m. by-cases (ℕ-discrete i c)
-          (λ (q : i ≡ c). rw q (cleared table c (omega (arith, small, h .long)) ∙ sym (here ∙ falls (S c) (marked table g) t)))
+          (λ (q : i ≡ c). rw q (cleared table c (omega (arith, small, h .long)) ∙ sym (absent-here t)))
           (λ q. uncleared table c i q ∙ h .below i (omega (arith, q)));
       others = λ i m k. getD-set-other table c i 0 0 (λ q. omega (arith, q)) ∙ h .others i (omega arith) k;
     }
@@ -98,7 +104,7 @@ module _ (b : List ℕ) (ok : refusal b ≡ 0) (S : ℕ → Bool) where
     stood-in t = record {
       long = h .long;
       below = λ i m. by-cases (ℕ-discrete i c)
-          (λ (q : i ≡ c). rw q (mark table c (h .others c (omega arith) small) ∙ sym (here ∙ rises (S c) (marked table g) t)))
+          (λ (q : i ≡ c). rw q (mark table c (h .others c (omega arith) small) ∙ sym (stands-here t)))
           (λ q. h .below i (omega (arith, q)));
       others = λ i m k. h .others i (omega arith) k;
     }

@@ -11,14 +11,15 @@ use plan_format::fields::nodes;
 use plan_format::fields::parent;
 ghost use mathlib.Core.Path.{_≡_};
 ghost use mathlib.Core.Bool.{false};
+ghost use Prim.Native.Nat.{_<_};
 ghost use Rattle.plan_format.specs.Format.{nodeCount};
 ghost use Rattle.plan_rules.specs.Rules.{refusal};
 ghost use Rattle.plan_check.specs.Meaning.{planOf};
-ghost use Rattle.runs.specs.Tests.{anyIn, anyBelow};
+ghost use Rattle.runs.specs.Tests.{anyIn};
 ghost use Rattle.runs.specs.Blocked.{unblockableB, refused28B};
-ghost use Rattle.node_sets.specs.Sets.{marked, AllMarked};
+ghost use Rattle.node_sets.specs.Sets.{marked, AllMarked, Each};
 ghost use Rattle.plan_blocked.specs.Blocked.{Standing, Checked};
-ghost use Rattle.plan_blocked.specs.Branches.{WithBranch, branchlessAt};
+ghost use Rattle.plan_blocked.specs.Branches.{WithBranch, emptiedAt};
 
 // The number is that of the root, of no node, or of one whose parent is neither any-of nor optional.
 fn unblockable(plan: &[u8], s: usize) -> bool
@@ -62,33 +63,21 @@ fn list_bad(plan: &[u8], list: &[usize]) -> bool
     true
 }
 
-// Leaves the marks of the nodes that stand: a child does if it is not blocked and its parent stands.
-fn mark_standing(plan: &[u8], blocked: &[u8; 128], standing: &mut [u8; 128])
+// Leaves the marks of the nodes that stand: a child does if it is not blocked and its parent stands. Hands over those of
+// the groups that have a child that stands.
+fn mark_standing(plan: &[u8], blocked: &[u8; 128], standing: &mut [u8; 128]) -> [u8; 128]
     requires { ⌜ (refusal (now plan) ≡ 0) × ((marked (now blocked) 0 ≡ false) × AllMarked (now standing)) ⌝ }
-    ensures { λ _. ⌜ Standing (now (plan .entry)) (marked (now (blocked .entry))) (now (standing .exit)) ⌝ }
-{
-    let n = nodes(plan);
-    let mut c = 1;
-    while c < n {
-        let g = wide(parent(plan, c));
-        if (blocked[c] == 1) | (standing[g] != 1) {
-            standing[c] = 0;
-        }
-        c += 1;
-    }
-}
-
-// Marks the groups that have a child that stands.
-fn with_branch(plan: &[u8], standing: &[u8; 128]) -> [u8; 128]
-    requires { ⌜ refusal (now plan) ≡ 0 ⌝ }
-    ensures { λ r. ⌜ WithBranch (now (plan .entry)) (now (standing .entry)) r ⌝ }
+    ensures { λ r. ⌜ Standing (now (plan .entry)) (marked (now (blocked .entry))) (now (standing .exit))
+        × WithBranch (now (plan .entry)) (marked (now (blocked .entry))) r ⌝ }
 {
     let n = nodes(plan);
     let mut marks = no_nodes();
     let mut c = 1;
     while c < n {
         let g = wide(parent(plan, c));
-        if standing[c] == 1 {
+        if (blocked[c] == 1) | (standing[g] != 1) {
+            standing[c] = 0;
+        } else {
             marks[g] = 1;
         }
         c += 1;
@@ -96,20 +85,28 @@ fn with_branch(plan: &[u8], standing: &[u8; 128]) -> [u8; 128]
     marks
 }
 
-// 29: an any-of group that stands has no branch left.
-fn branchless(plan: &[u8], standing: &[u8; 128]) -> bool
-    requires { ⌜ refusal (now plan) ≡ 0 ⌝ }
-    ensures { λ r. ⌜ r ≡ anyBelow (nodeCount (now (plan .entry)))
-        (branchlessAt (now (plan .entry)) (now (standing .entry))) ⌝ }
+// The parent of node s is an any-of group that stands and has no branch left.
+fn emptied(plan: &[u8], standing: &[u8; 128], marks: &[u8; 128], s: usize) -> bool
+    requires { ⌜ (refusal (now plan) ≡ 0) × ((0 < s) × (s < nodeCount (now plan))) ⌝ }
+    ensures { λ r. ⌜ r ≡ emptiedAt (now (plan .entry)) (now (standing .entry)) (now (marks .entry)) s ⌝ }
 {
-    let marks = with_branch(plan, standing);
-    let n = nodes(plan);
-    let mut g = 0;
-    while g < n {
-        if (standing[g] == 1) & is_kind(plan, g, ANY_OF) & (marks[g] != 1) {
+    let g = wide(parent(plan, s));
+    (standing[g] == 1) & is_kind(plan, g, ANY_OF) & (marks[g] != 1)
+}
+
+// 29: some group has lost all its branches. Only the parents of blocked nodes need be asked.
+fn branchless(plan: &[u8], list: &[usize], standing: &[u8; 128], marks: &[u8; 128]) -> bool
+    requires { ⌜ (refusal (now plan) ≡ 0) × Each (now list) (λ s. (0 < s) × (s < nodeCount (now plan))) ⌝ }
+    ensures { λ r. ⌜ r ≡ anyIn (now (list .entry))
+        (emptiedAt (now (plan .entry)) (now (standing .entry)) (now (marks .entry))) ⌝ }
+{
+    let n = list.len();
+    let mut i = 0;
+    while i < n {
+        if emptied(plan, standing, marks, list[i]) {
             return true;
         }
-        g += 1;
+        i += 1;
     }
     false
 }
@@ -126,8 +123,8 @@ fn check_list(plan: &[u8], list: &[usize], standing: &mut [u8; 128]) -> u32
         return 28;
     }
     let blocked = mark_all(list);
-    mark_standing(plan, &blocked, standing);
-    if branchless(plan, standing) {
+    let marks = mark_standing(plan, &blocked, standing);
+    if branchless(plan, list, standing, &marks) {
         return 29;
     }
     0

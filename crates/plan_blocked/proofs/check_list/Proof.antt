@@ -5,10 +5,11 @@ use Prim.Native.Nat.{ℕ}
 use denote.Ref.{now}
 use Rattle.plan_check.specs.Meaning.{planOf}
 use Rattle.runs.specs.Tests.{listed}
-use Rattle.runs.specs.Blocked.{refused28B}
+use Rattle.runs.specs.Blocked.{refused28B, refused29B}
 use Rattle.plan_blocked.specs.Blocked.{Standing}
-use Rattle.plan_blocked.proofs.Branches.{branchless-29}
-use Rattle.plan_blocked.proofs.Refused.{none-blocked, refused-28, refused-29, none-refused, root-free, small}
+use Rattle.plan_blocked.specs.Branches.{WithBranch}
+use Rattle.plan_blocked.proofs.Branches.{emptied-29}
+use Rattle.plan_blocked.proofs.Refused.{none-blocked, refused-28, refused-29, none-refused, root-free, all-nodes, small}
 use Rattle.plan_blocked.proofs.check_list.Statement.{statement}
 use Rattle.plan_blocked.proofs.check_list.Tie as tie
 
@@ -25,26 +26,47 @@ mark-standing-requires c κs =
     let s = e .before .before .before .before .before in
     (s .pre .0, (ap (λ (S : ℕ → Bool). S 0) (c .before .before .mark-all .ensures) ∙ root-free _ _ (s .pre .0) (passed e), s .pre .1))
 
--- the table after it
+-- the tables after it
 standing : (c : tie.After-mark-standing)
     → Standing (now (c .before .before .before .before .before .before .before .before .before .args .plan))
     (listed (now (c .before .before .before .before .before .before .before .before .before .args .list)))
     (c .mark-standing .last .1 .1 .0)
-standing c = rw (c .before .before .before .mark-all .ensures) at (c .mark-standing .ensures)
+standing c = rw (c .before .before .before .mark-all .ensures) at (c .mark-standing .ensures .0)
+
+branches : (c : tie.After-mark-standing)
+    → WithBranch (now (c .before .before .before .before .before .before .before .before .before .args .plan))
+    (listed (now (c .before .before .before .before .before .before .before .before .before .args .list)))
+    (c .mark-standing .result)
+branches c = rw (c .before .before .before .mark-all .ensures) at (c .mark-standing .ensures .1)
+
+-- whether 29 applies
+bare : (c : tie.After-branchless)
+    → c .branchless .result
+    ≡ refused29B (planOf (now (c .before .before .before .before .before .before .before .before .before .before .before .before .args .plan)))
+    (now (c .before .before .before .before .before .before .before .before .before .before .before .before .args .list))
+bare c =
+    let w = c .before .before .before in
+    let e = w .before .before .before .before in
+    let ok = e .before .before .before .before .before .pre .0 in
+    c .branchless .ensures ∙ emptied-29 _ _ _ _ ok (all-nodes _ _ ok (passed e)) (standing w) (branches w)
 
 returns-3 : tie.Need-returns-3
 returns-3 c =
-    let w = c .before .before .before in
-    let e = w .before .before .before .before in
-    refused-29 _ _ (e .before .before .before .before .before .pre .0) _ (passed e)
-    (sym (branchless-29 _ _ _ (standing w)) ∙ sym (c .before .branchless .ensures) ∙ c .if3 .taken)
+    let e = c .before .before .before .before .before .before .before .before in
+    refused-29 _ _ (e .before .before .before .before .before .pre .0) _ (passed e) (sym (bare (c .before)) ∙ c .if3 .taken)
 
 returns-4 : tie.Need-returns-4
 returns-4 c =
-    let w = c .before .before .before in
+    let w = c .before .before .before .before in
     let e = w .before .before .before .before in
-    none-refused _ _ (e .before .before .before .before .before .pre .0) _ (passed e)
-    (sym (branchless-29 _ _ _ (standing w)) ∙ sym (c .before .branchless .ensures) ∙ c .if3 .left) (standing w)
+    none-refused _ _ (e .before .before .before .before .before .pre .0) _ (passed e) (sym (bare (c .before)) ∙ c .if3 .left)
+    (standing w)
+
+branchless-requires : tie.Need-branchless-requires
+branchless-requires c κs =
+    let e = c .before .before .before .before .before .before in
+    let ok = e .before .before .before .before .before .pre .0 in
+    (ok, all-nodes _ _ ok (passed e))
 
 pub check-list-spec : {M : Type 1} → statement M
 check-list-spec = tie.close (tie.spec
@@ -54,6 +76,6 @@ check-list-spec = tie.close (tie.spec
     (sym (c .before .list-bad .ensures) ∙ c .if2 .taken))
     mark-all-requires
     mark-standing-requires
-    (λ c κs. c .before .before .before .before .before .before .before .before .before .before .pre .0)
+    branchless-requires
     returns-3
     returns-4)
