@@ -50,5 +50,6 @@ pub record Ran (b xs s out : List ℕ) (cs : List Call) (r : ℕ) (s′ out′ :
   pub listed : r ≡ 0 → Listed b xs s cs (listReturns b xs cs) s′
   pub follows : r ≡ 0 → Follows b xs s cs (listReturns b xs cs) s′
 
-abbrev pub Replayed : List ℕ → List ℕ → List ℕ → List ℕ → List ℕ → List ℕ → List ℕ → List ℕ → ℕ → List ℕ → List ℕ → Type 0
+abbrev pub Replayed : List ℕ → List ℕ → List ℕ → List ℕ → List ℕ → List ℕ → List ℕ → List ℕ → ℕ → List ℕ → List ℕ
+    → Type 0
 Replayed b xs ks ns es ts s out r s′ out′ = Ran b xs s out (callsOf ks ns es ts out) r s′ out′

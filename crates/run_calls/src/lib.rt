@@ -1,5 +1,5 @@
-// Lists of start, finish, skip and finish-together calls on one plan, with one list of blocked nodes: demand 3 over bytes, and a function that makes
-// such a list.
+// Lists of start, finish, skip and finish-together calls on one plan, with one list of blocked nodes: demand 3 over
+// bytes, and a function that makes such a list.
 use run_monitor::finish;
 use run_monitor::finish_together;
 use run_monitor::skip;
@@ -46,8 +46,8 @@ fn make(
     node: usize,
     end: usize,
 ) -> u32
-    ensures { λ r. ⌜ Called (now (plan .entry)) (now (blocked .entry)) (now (state .entry)) (callFor code node end (now (tasks .entry))) r
-        (now (state .exit)) ⌝ }
+    ensures { λ r. ⌜ Called (now (plan .entry)) (now (blocked .entry)) (now (state .entry))
+        (callFor code node end (now (tasks .entry))) r (now (state .exit)) ⌝ }
 {
     if code == 0 {
         return start(plan, blocked, state, node);
@@ -73,8 +73,9 @@ pub fn replay(
     state: &mut [u8],
     returns: &mut [u32],
 ) -> u32
-    ensures { λ r. ⌜ Replayed (now (plan .entry)) (now (blocked .entry)) (now (codes .entry)) (now (nodes .entry)) (now (ends .entry))
-        (now (tasks .entry)) (now (state .entry)) (now (returns .entry)) r (now (state .exit)) (now (returns .exit)) ⌝ }
+    ensures { λ r. ⌜ Replayed (now (plan .entry)) (now (blocked .entry)) (now (codes .entry)) (now (nodes .entry))
+        (now (ends .entry)) (now (tasks .entry)) (now (state .entry)) (now (returns .entry)) r (now (state .exit))
+        (now (returns .exit)) ⌝ }
 {
     let r = fresh(plan, blocked, state);
     if r != 0 {

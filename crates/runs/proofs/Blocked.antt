@@ -7,5 +7,3 @@ pub mod Standing
 pub mod Branches
 -- The monitor's table.
 pub mod Monitor
--- Small plans, computed.
-pub mod Tried
