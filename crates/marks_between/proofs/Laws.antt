@@ -10,11 +10,11 @@ use lib.ListN.{getD}
 use Rattle.base.specs.Bits.{bit, Says}
 use Rattle.base.proofs.Says.{says-map, says-self, says-none, no-flag}
 use Rattle.runs.specs.Plan.{Plan, Child}
-use Rattle.marks_row.specs.declared.Segment.{Segment}
-use Rattle.marks_row.specs.Segments.{Position, AtSegment}
+use Rattle.tables.specs.declared.Segment.{Segment}
+use Rattle.tables.specs.Segments.{Position, AtSegment}
 use Rattle.marks_row.specs.Columns.{avoid}
 use Rattle.marks_row.proofs.Rows.{cell}
-use Rattle.marks_row.proofs.Segments.{listed, every-next, every-child, joined}
+use Rattle.tables.proofs.Segments.{listed, every-next, every-child, joined}
 use Rattle.marks_siblings.specs.Siblings.{Narrows}
 use Rattle.marks_siblings.proofs.Sibling.{silent-cell}
 use Rattle.marks_between.specs.Passing.{Passes, InTheWay, LetsPass, PartWord, PassingPart, Pairing, PassingWord}

@@ -7,8 +7,8 @@ use Prim.Native.Nat.{ℕ}
 use lib.Bits.{bitAnd}
 use Rattle.base.proofs.Says.{says-map, says-self, says-and, says-none, says-among, no-flag, among-left}
 use Rattle.runs.specs.Plan.{Plan, Child, Before}
-use Rattle.marks_row.specs.declared.Segment.{Segment}
-use Rattle.marks_row.specs.Tables.{code}
+use Rattle.tables.specs.declared.Segment.{Segment}
+use Rattle.tables.specs.Represents.{code}
 use Rattle.marks_row.specs.Musts.{SaysOf}
 use Rattle.marks_between.specs.Passing.{Passes, OfGroups, PassingWord, PairWord}
 

@@ -8,11 +8,11 @@ use lib.Dec.{T}
 use Rattle.base.specs.Bits.{bit, Says}
 use Rattle.runs.specs.Plan.{Plan, Child, Before}
 use Rattle.runs.specs.Summary.{Silent}
-use Rattle.marks_row.specs.declared.Segment.{Segment}
-use Rattle.marks_row.specs.Tables.{beforeCode, afterCode, code, RepresentsOrder}
+use Rattle.tables.specs.declared.Segment.{Segment}
+use Rattle.tables.specs.Represents.{beforeCode, afterCode, code, RepresentsOrder}
 use Rattle.marks_row.specs.Columns.{avoid, asserts, Fact, wordIn}
 use Rattle.marks_row.specs.Musts.{SaysOf}
-use Rattle.marks_row.specs.Segments.{Every}
+use Rattle.tables.specs.Segments.{Every}
 use Rattle.marks_siblings.specs.Group.{Group}
 
 module _ (p : Plan) (n f : ℕ) where

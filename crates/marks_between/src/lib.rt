@@ -6,33 +6,38 @@ ghost use Prim.Native.Nat.{ℕ, _<_};
 ghost use lib.Dec.{T};
 ghost use lib.ListN.{getD};
 ghost use Rattle.base.specs.Bits.{bit};
-ghost use Rattle.marks_row.specs.Segments.{AtSegment, AtPair};
+ghost use Rattle.tables.specs.Segments.{AtSegment, AtPair};
+ghost use Rattle.tables.specs.Sizes.{NODES};
 ghost use Rattle.marks_between.specs.Passing.{StandsBetween, Disturbs, InTheWay, LetsPass, PassingPart};
 ghost use Rattle.marks_between.specs.Passing.{PassingWord};
 use base::wide;
-use marks_row::Segment;
-use marks_row::codes::AFTER;
-use marks_row::codes::BEFORE;
+use marks_row::Rows;
 use marks_row::columns::ASSERTS;
 use marks_row::columns::AVOID;
 use marks_row::neither;
 use marks_row::word_at;
 use marks_siblings::narrowed;
+use tables::NODES;
+use tables::Nodes;
+use tables::Orders;
+use tables::Segment;
+use tables::codes::AFTER;
+use tables::codes::BEFORE;
 
 // b stands after d and before c.
-fn stands_between(order: &[u8; 16384], b: usize, c: usize, d: usize) -> bool
-    requires { ⌜ (b < 128) × ((c < 128) × (d < 128)) ⌝ }
+fn stands_between(order: &Orders, b: usize, c: usize, d: usize) -> bool
+    requires { ⌜ (b < NODES) × ((c < NODES) × (d < NODES)) ⌝ }
     ensures { λ r. ⌜ T r ↔ StandsBetween (now (order .entry)) b c d ⌝ }
 {
-    if order[d * 128 + b] == BEFORE {
-        return order[b * 128 + c] == BEFORE;
+    if order[d * NODES + b] == BEFORE {
+        return order[b * NODES + c] == BEFORE;
     }
     false
 }
 
 // b is neither c nor d, and stands neither before d nor after c.
-fn disturbs(order: &[u8; 16384], b: usize, c: usize, d: usize) -> bool
-    requires { ⌜ (b < 128) × ((c < 128) × (d < 128)) ⌝ }
+fn disturbs(order: &Orders, b: usize, c: usize, d: usize) -> bool
+    requires { ⌜ (b < NODES) × ((c < NODES) × (d < NODES)) ⌝ }
     ensures { λ r. ⌜ T r ↔ Disturbs (now (order .entry)) b c d ⌝ }
 {
     if b == c {
@@ -41,15 +46,15 @@ fn disturbs(order: &[u8; 16384], b: usize, c: usize, d: usize) -> bool
     if b == d {
         return false;
     }
-    if order[b * 128 + d] == BEFORE {
+    if order[b * NODES + d] == BEFORE {
         return false;
     }
-    order[b * 128 + c] != AFTER
+    order[b * NODES + c] != AFTER
 }
 
 // The child b is one of those that the flags have to pass.
-fn in_the_way(order: &[u8; 16384], always: bool, b: usize, c: usize, d: usize) -> bool
-    requires { ⌜ (b < 128) × ((c < 128) × (d < 128)) ⌝ }
+fn in_the_way(order: &Orders, always: bool, b: usize, c: usize, d: usize) -> bool
+    requires { ⌜ (b < NODES) × ((c < NODES) × (d < NODES)) ⌝ }
     ensures { λ r. ⌜ T r ↔ InTheWay (now (order .entry)) always b c d ⌝ }
 {
     if always {
@@ -59,8 +64,8 @@ fn in_the_way(order: &[u8; 16384], always: bool, b: usize, c: usize, d: usize) -
 }
 
 // The flags that the child b lets pass.
-fn lets_pass(rows: &[u64; 2944], always: bool, b: usize) -> u64
-    requires { ⌜ b < 128 ⌝ }
+fn lets_pass(rows: &Rows, always: bool, b: usize) -> u64
+    requires { ⌜ b < NODES ⌝ }
     ensures { λ r. ⌜ ((f : ℕ) → f < 64 → T (bit r f) ↔ LetsPass (now (rows .entry)) always b f) ⌝ }
 {
     if always {
@@ -71,16 +76,16 @@ fn lets_pass(rows: &[u64; 2944], always: bool, b: usize) -> u64
 
 // Of the given flags, those that pass every child in the segment; it ends as soon as none is left.
 fn passing_part(
-    kids: &[u8; 128],
+    kids: &Nodes,
     segment: Segment,
-    order: &[u8; 16384],
-    rows: &[u64; 2944],
+    order: &Orders,
+    rows: &Rows,
     always: bool,
     flags: u64,
     c: usize,
     d: usize,
 ) -> u64
-    requires { ⌜ AtSegment (now kids) segment × ((c < 128) × (d < 128)) ⌝ }
+    requires { ⌜ AtSegment (now kids) segment × ((c < NODES) × (d < NODES)) ⌝ }
     ensures { λ r. ⌜ PassingPart (now (kids .entry)) (segment .start) (segment .end) (now (order .entry))
         (now (rows .entry)) always flags c d r ⌝ }
 {
@@ -104,10 +109,10 @@ fn passing_part(
 // Of the given flags, those that pass from the child at j to the child c. The children after the one at j in the table
 // come first: there the flags are soonest settled.
 pub fn passing(
-    kids: &[u8; 128],
+    kids: &Nodes,
     segment: Segment,
-    order: &[u8; 16384],
-    rows: &[u64; 2944],
+    order: &Orders,
+    rows: &Rows,
     always: bool,
     flags: u64,
     c: usize,

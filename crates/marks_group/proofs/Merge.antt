@@ -10,8 +10,8 @@ use lib.Seq.{getD-set-same, getD-set-other}
 use Rattle.base.specs.Bits.{ones, Says}
 use Rattle.base.proofs.Says.{says-map, says-eq, says-and, says-all, says-none}
 use Rattle.runs.specs.Plan.{all-of, any-of, optional, Plan}
-use Rattle.marks_row.specs.declared.Segment.{Segment}
-use Rattle.marks_row.specs.Segments.{Position}
+use Rattle.tables.specs.declared.Segment.{Segment}
+use Rattle.tables.specs.Segments.{Position}
 use Rattle.marks_row.specs.Columns.{Column, avoid, quiet, covered, may-pre, may-post, may-inc, requires, asserts}
 use Rattle.marks_row.specs.Columns.{posts, may-clobber, must-inc, must-clobber}
 use Rattle.marks_row.specs.Columns.{indexOf, firstOf, Fact, wordAt, Right, Row, RowIs}
@@ -23,7 +23,7 @@ use Rattle.marks_group.proofs.Any.{optional-musts}
 use Rattle.marks_group.proofs.All.{every-part, some-part}
 use Rattle.marks_row.proofs.Rows.{index-small}
 use Rattle.runs.proofs.Plan.Numbers.{sign-small}
-use Rattle.marks_row.proofs.Segments.{listed, every-more, some-more, every-none, some-none, every-child, some-child}
+use Rattle.tables.proofs.Segments.{listed, every-more, some-more, every-none, some-none, every-child, some-child}
 
 -- an array of zeros
 abbrev zeros : ℕ → List ℕ

@@ -8,12 +8,12 @@ use lib.ListN.{getD}
 use Rattle.base.specs.Bits.{ones, Says}
 use Rattle.runs.specs.Plan.{all-of, Picks, Plan, Child, Before, Unordered, kindNumber}
 use Rattle.runs.specs.Summary.{MayClobber, Silent, MustClobber}
-use Rattle.marks_row.specs.declared.Segment.{Segment}
-use Rattle.marks_row.specs.Tables.{RepresentsOrder}
+use Rattle.tables.specs.declared.Segment.{Segment}
+use Rattle.tables.specs.Represents.{RepresentsOrder}
 use Rattle.marks_row.specs.Columns.{Column, avoid, quiet, covered, may-pre, may-post, may-inc, requires, asserts}
 use Rattle.marks_row.specs.Columns.{posts, may-clobber, must-inc, must-clobber}
-use Rattle.marks_row.specs.Columns.{indexOf, Fact, wordAt, Row}
-use Rattle.marks_row.specs.Segments.{Every, Some}
+use Rattle.marks_row.specs.Columns.{indexOf, Fact, wordAt, Row, COLUMNS}
+use Rattle.tables.specs.Segments.{Every, Some}
 use Rattle.marks_siblings.specs.Group.{Group}
 
 module _ (p : Plan) (n c f : ℕ) where
@@ -47,7 +47,7 @@ Within p n f (may-clobber v) = (c : ℕ) × Child p n c × MayClobber p f v c
 Within p n f (must-inc v) = Fact p n f (must-inc v)
 Within p n f (must-clobber v) = (c : ℕ) × Child p n c × (MustClobber p f v c × Others p n c f (must-clobber v))
 
--- 23 words say what the all-of group n shows by its children one by one
+-- the words of a row say what the all-of group n shows by its children one by one
 pub record WithinRow (p : Plan) (n : ℕ) (w : List ℕ) : Type 0 where
   pub says : (k : Column) (f : ℕ) → f < 64 → Says (getD w (indexOf k) 0) f (Within p n f k)
 
@@ -69,12 +69,12 @@ pub record JoinedWord (first last k x y mask r : ℕ) : Type 0 where
 
 -- the words r are the words a and those of a child
 pub record Merged (first last : ℕ) (a rows : List ℕ) (child : ℕ) (mask r : List ℕ) : Type 0 where
-  pub words : (k : ℕ) → k < 23 → JoinedWord first last k (getD a k 0) (wordAt rows child k) (getD mask k 0) (getD r k 0)
+  pub words : (k : ℕ) → k < COLUMNS → JoinedWord first last k (getD a k 0) (wordAt rows child k) (getD mask k 0) (getD r k 0)
 
 -- the words before the first child
 pub record Unmerged (first last : ℕ) (r : List ℕ) : Type 0 where
-  pub every : (k : ℕ) → k < 23 → first ≤ k → k < last → getD r k 0 ≡ ones
-  pub some : (k : ℕ) → k < 23 → (k < first) ⊎ (last ≤ k) → getD r k 0 ≡ 0
+  pub every : (k : ℕ) → k < COLUMNS → first ≤ k → k < last → getD r k 0 ≡ ones
+  pub some : (k : ℕ) → k < COLUMNS → (k < first) ⊎ (last ≤ k) → getD r k 0 ≡ 0
 
 -- the words r say of the children at the positions from low to high: in the columns from first to last that every one
 -- has P, in the others that some one has P and M

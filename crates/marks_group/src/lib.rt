@@ -2,14 +2,18 @@
 // children that clobber.
 ghost use Prim.Native.Nat.{_≤_, _<_};
 ghost use Rattle.marks_row.specs.Columns.{RowIs};
-ghost use Rattle.marks_row.specs.Segments.{AtSegment};
+ghost use Rattle.tables.specs.Segments.{AtSegment};
+ghost use Rattle.marks_row.specs.Columns.{COLUMNS};
+ghost use Rattle.tables.specs.Sizes.{NODES};
 ghost use Rattle.marks_group.specs.Groups.{AnyRow, AllRow, JoinedWord, Merged, Unmerged};
 ghost use Rattle.marks_group.specs.Masks.{maskOf};
 ghost use Rattle.marks_group.specs.Empty.{withEmpty};
 use base::ALL;
 use base::kinds::OPTIONAL;
 use base::wide;
-use marks_row::Segment;
+use marks_row::COLUMNS;
+use marks_row::Rows;
+use marks_row::Words;
 use marks_row::columns::AVOID;
 use marks_row::columns::COVERED;
 use marks_row::columns::END;
@@ -17,9 +21,12 @@ use marks_row::columns::MUST_INC;
 use marks_row::word_at;
 use marks_siblings::Siblings;
 use marks_siblings::all_siblings;
+use tables::Nodes;
+use tables::Orders;
+use tables::Segment;
 
 // What each column of a child is masked by.
-fn mask_words(s: Siblings) -> [u64; 23]
+fn mask_words(s: Siblings) -> Words
     ensures { λ r. ⌜ RowIs (maskOf s) r ⌝ }
 {
     [
@@ -50,11 +57,11 @@ fn mask_words(s: Siblings) -> [u64; 23]
 }
 
 // The words before the first child: ones in the columns from first to last.
-fn start_words(first: usize, last: usize) -> [u64; 23]
-    requires { ⌜ (first ≤ last) × (last ≤ 23) ⌝ }
+fn start_words(first: usize, last: usize) -> Words
+    requires { ⌜ (first ≤ last) × (last ≤ COLUMNS) ⌝ }
     ensures { λ r. ⌜ Unmerged first last r ⌝ }
 {
-    let mut out = [0u64; 23];
+    let mut out = [0u64; COLUMNS];
     let mut k = first;
     while k < last {
         out[k] = ALL;
@@ -78,20 +85,13 @@ fn joined(first: usize, last: usize, k: usize, word: u64, child: u64, mask: u64)
 }
 
 // The words of one child more.
-fn merged(
-    first: usize,
-    last: usize,
-    words: [u64; 23],
-    rows: &[u64; 2944],
-    child: usize,
-    mask: [u64; 23],
-) -> [u64; 23]
-    requires { ⌜ child < 128 ⌝ }
+fn merged(first: usize, last: usize, words: Words, rows: &Rows, child: usize, mask: Words) -> Words
+    requires { ⌜ child < NODES ⌝ }
     ensures { λ r. ⌜ Merged first last words (now (rows .entry)) child mask r ⌝ }
 {
     let mut out = words;
     let mut k = 0;
-    while k < 23 {
+    while k < COLUMNS {
         out[k] = joined(first, last, k, words[k], word_at(rows, child, k), mask[k]);
         k += 1;
     }
@@ -99,7 +99,7 @@ fn merged(
 }
 
 // The words of one branch more, which has no tasks: it asserts nothing and asks for nothing, and has no must.
-fn with_empty(words: [u64; 23]) -> [u64; 23]
+fn with_empty(words: Words) -> Words
     ensures { λ r. ⌜ RowIs (withEmpty words) r ⌝ }
 {
     [
@@ -130,7 +130,7 @@ fn with_empty(words: [u64; 23]) -> [u64; 23]
 }
 
 // The row of an any-of or optional group, from the rows of its children.
-pub fn any_words(kind: u8, kids: &[u8; 128], segment: Segment, rows: &[u64; 2944]) -> [u64; 23]
+pub fn any_words(kind: u8, kids: &Nodes, segment: Segment, rows: &Rows) -> Words
     requires { ⌜ AtSegment (now kids) segment ⌝ }
     ensures { λ r. ⌜ AnyRow kind (now (kids .entry)) segment (now (rows .entry)) r ⌝ }
 {
@@ -149,12 +149,7 @@ pub fn any_words(kind: u8, kids: &[u8; 128], segment: Segment, rows: &[u64; 2944
 }
 
 // What an all-of group shows by its children one by one, from their rows.
-pub fn all_words(
-    kids: &[u8; 128],
-    segment: Segment,
-    order: &[u8; 16384],
-    rows: &[u64; 2944],
-) -> [u64; 23]
+pub fn all_words(kids: &Nodes, segment: Segment, order: &Orders, rows: &Rows) -> Words
     requires { ⌜ AtSegment (now kids) segment ⌝ }
     ensures { λ r. ⌜ AllRow (now (kids .entry)) segment (now (order .entry)) (now (rows .entry)) r ⌝ }
 {

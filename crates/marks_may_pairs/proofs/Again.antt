@@ -12,8 +12,8 @@ use Rattle.base.specs.Bits.{bit, Says}
 use Rattle.base.proofs.Says.{says-dec, says-self, says-and, says-or, says-less, no-flag}
 use Rattle.base.proofs.Words.{no-bits, less-add}
 use Rattle.runs.specs.Plan.{Plan, Child}
-use Rattle.marks_row.specs.declared.Segment.{Segment}
-use Rattle.marks_row.proofs.Segments.{every-child}
+use Rattle.tables.specs.declared.Segment.{Segment}
+use Rattle.tables.proofs.Segments.{every-child}
 use Rattle.marks_between.specs.Passing.{SomePair, Pairing}
 use Rattle.marks_may_pairs.specs.declared.Found.{Found}
 use Rattle.marks_pair.specs.declared.Literals.{Literals}

@@ -12,11 +12,11 @@ use Rattle.base.specs.Bits.{bit}
 use Rattle.base.proofs.Says.{no-flag}
 use Rattle.base.proofs.Words.{or-zero}
 use Rattle.runs.specs.Plan.{Plan}
-use Rattle.marks_row.specs.declared.Segment.{Segment}
-use Rattle.marks_row.specs.Segments.{Position, Reached, Every}
+use Rattle.tables.specs.declared.Segment.{Segment}
+use Rattle.tables.specs.Segments.{Position, Reached, Every}
 use Rattle.marks_row.specs.Columns.{requires, posts, indexOf, wordAt}
 use Rattle.marks_row.proofs.Rows.{cell}
-use Rattle.marks_row.proofs.Segments.{every-next, every-child}
+use Rattle.tables.proofs.Segments.{every-next, every-child}
 use Rattle.marks_between.specs.Passing.{Pairing}
 use Rattle.marks_between.proofs.Laws.{kid}
 use Rattle.marks_pair.specs.declared.Literals.{Literals}

@@ -8,8 +8,8 @@ use lib.Dec.{T}
 use lib.ListN.{getD}
 use Rattle.base.specs.Bits.{bit, Says}
 use Rattle.runs.specs.Plan.{Plan, Child}
-use Rattle.marks_row.specs.declared.Segment.{Segment}
-use Rattle.marks_row.specs.Segments.{Reached, Every}
+use Rattle.tables.specs.declared.Segment.{Segment}
+use Rattle.tables.specs.Segments.{Reached, Every}
 use Rattle.marks_between.specs.Passing.{OfGroups, SomePair}
 use Rattle.marks_pair.specs.declared.Literals.{Literals}
 use Rattle.marks_pair.specs.Pairs.{Pair, signWord}

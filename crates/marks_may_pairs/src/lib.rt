@@ -1,12 +1,15 @@
 // The pairs of children of an all-of group that may clobber a literal: a search that ends as soon as a pair is found,
 // asked again for what is still wanted.
-ghost use Rattle.marks_row.specs.Segments.{AtSegment};
+ghost use Rattle.tables.specs.Segments.{AtSegment};
 ghost use Rattle.marks_may_pairs.specs.Search.{Stands, Search, AllPairs};
 use base::wide;
 use marks_pair::Literals;
 use marks_pair::next_partner;
 use marks_pair::pair_words;
-use marks_row::Segment;
+use marks_row::Rows;
+use tables::Nodes;
+use tables::Orders;
+use tables::Segment;
 
 // The literals of the pair at which a search stopped, and the positions of its two children; with no literal, the child
 // is past them all.
@@ -19,10 +22,10 @@ pub struct Found {
 // Looks for a pair of children that clobbers a wanted literal, from the pair at two positions on; the search ends as
 // soon as one is found.
 pub fn clobbering_pair(
-    kids: &[u8; 128],
+    kids: &Nodes,
     segment: Segment,
-    order: &[u8; 16384],
-    rows: &[u64; 2944],
+    order: &Orders,
+    rows: &Rows,
     wanted: Literals,
     child: usize,
     partner: usize,
@@ -58,10 +61,10 @@ pub fn clobbering_pair(
 // The wanted literals that some pair of children clobbers: the search is asked again for those still wanted, and goes
 // on at the pair where it stood.
 pub fn clobbering_pairs(
-    kids: &[u8; 128],
+    kids: &Nodes,
     segment: Segment,
-    order: &[u8; 16384],
-    rows: &[u64; 2944],
+    order: &Orders,
+    rows: &Rows,
     wanted: Literals,
 ) -> Literals
     requires { ⌜ AtSegment (now kids) segment ⌝ }

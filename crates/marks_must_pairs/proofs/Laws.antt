@@ -12,12 +12,12 @@ use Rattle.base.specs.Bits.{bit, ones, Says}
 use Rattle.base.proofs.Says.{says-map, says-dec, says-self, says-and, says-or, says-not, no-flag}
 use Rattle.runs.specs.Plan.{Plan, Child}
 use Rattle.runs.specs.Summary.{Must, ExternalPre, ExternalPost}
-use Rattle.marks_row.specs.declared.Segment.{Segment}
-use Rattle.marks_row.specs.Tables.{code}
-use Rattle.marks_row.specs.Segments.{Some}
+use Rattle.tables.specs.declared.Segment.{Segment}
+use Rattle.tables.specs.Represents.{code}
+use Rattle.tables.specs.Segments.{Some}
 use Rattle.marks_row.specs.Musts.{SaysOf, MustPreWord, MustPostWord}
 use Rattle.runs.proofs.Plan.Numbers.{opposite}
-use Rattle.marks_row.proofs.Segments.{some-next, some-child}
+use Rattle.tables.proofs.Segments.{some-next, some-child}
 use Rattle.marks_between.specs.Passing.{OfGroups, PassingWord, Pairing, PairWord}
 use Rattle.marks_between.proofs.Pair.{no-pair, pass-none, pass-some}
 use Rattle.marks_must_pairs.specs.MustPairs.{MustPair}

@@ -7,7 +7,7 @@ use lib.Dec.{T}
 use Rattle.base.specs.Bits.{bit}
 use Rattle.runs.specs.Plan.{Plan, Child, Before}
 use Rattle.runs.specs.Summary.{Must, ExternalPre, ExternalPost}
-use Rattle.marks_row.specs.declared.Segment.{Segment}
+use Rattle.tables.specs.declared.Segment.{Segment}
 use Rattle.marks_row.specs.Musts.{SaysOf}
 use Rattle.marks_between.specs.Passing.{Undisturbed, OfGroups, SomePair}
 

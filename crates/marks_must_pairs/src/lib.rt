@@ -2,23 +2,28 @@
 // execution; for all flags at once.
 ghost use Prim.Native.Nat.{_<_};
 ghost use lib.ListN.{getD};
-ghost use Rattle.marks_row.specs.Segments.{AtSegment, AtPair};
+ghost use Rattle.tables.specs.Segments.{AtSegment, AtPair};
 ghost use Rattle.marks_between.specs.Passing.{PairWord};
+ghost use Rattle.tables.specs.Sizes.{NODES};
 ghost use Rattle.marks_must_pairs.specs.MustPairs.{MustPair, WithChildWord, MustPairsWord};
 use base::ALL;
 use base::wide;
 use marks_between::passing;
-use marks_row::Segment;
-use marks_row::codes::BEFORE;
+use marks_row::Rows;
 use marks_row::must_post;
 use marks_row::must_pre;
+use tables::NODES;
+use tables::Nodes;
+use tables::Orders;
+use tables::Segment;
+use tables::codes::BEFORE;
 
 // The wanted flags of one sign that the child c and the child at j must clobber.
 fn must_pair_word(
-    kids: &[u8; 128],
+    kids: &Nodes,
     segment: Segment,
-    order: &[u8; 16384],
-    rows: &[u64; 2944],
+    order: &Orders,
+    rows: &Rows,
     sign: usize,
     wanted: u64,
     c: usize,
@@ -29,7 +34,7 @@ fn must_pair_word(
         (now (rows .entry)) sign wanted c (getD (now (kids .entry)) j 0) r ⌝ }
 {
     let d = wide(kids[j]);
-    if order[d * 128 + c] == BEFORE {
+    if order[d * NODES + c] == BEFORE {
         let shared = wanted & (must_post(rows, d, 1 - sign) & must_pre(rows, c, sign));
         if shared == 0 {
             return 0;
@@ -42,15 +47,15 @@ fn must_pair_word(
 // The flags already known, and those that a pair with the child c must clobber: only those that c requires in every
 // completed execution.
 fn must_pairs_of(
-    kids: &[u8; 128],
+    kids: &Nodes,
     segment: Segment,
-    order: &[u8; 16384],
-    rows: &[u64; 2944],
+    order: &Orders,
+    rows: &Rows,
     sign: usize,
     known: u64,
     c: usize,
 ) -> u64
-    requires { ⌜ AtSegment (now kids) segment × ((sign < 2) × (c < 128)) ⌝ }
+    requires { ⌜ AtSegment (now kids) segment × ((sign < 2) × (c < NODES)) ⌝ }
     ensures { λ r. ⌜ WithChildWord (now (kids .entry)) segment (now (order .entry))
         (now (rows .entry)) sign known c r ⌝ }
 {
@@ -68,10 +73,10 @@ fn must_pairs_of(
 
 // The flags already known, and those that some pair of children must clobber.
 pub fn must_pairs(
-    kids: &[u8; 128],
+    kids: &Nodes,
     segment: Segment,
-    order: &[u8; 16384],
-    rows: &[u64; 2944],
+    order: &Orders,
+    rows: &Rows,
     sign: usize,
     known: u64,
 ) -> u64

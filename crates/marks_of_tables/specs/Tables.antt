@@ -2,7 +2,7 @@
 use mathlib.Core.List.{List}
 use Prim.Native.Nat.{ℕ}
 use Rattle.runs.specs.Plan.{Plan, Node, WellFormed}
-use Rattle.marks_row.specs.Tables.{Represents}
+use Rattle.tables.specs.Represents.{Represents}
 use Rattle.marks_words.specs.Words.{MarkWords}
 
 abbrev pub NodeWords : List ℕ → List ℕ → List ℕ → List ℕ → List ℕ → ℕ → ℕ → List ℕ → Type 0

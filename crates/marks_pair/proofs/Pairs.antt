@@ -13,8 +13,8 @@ use Rattle.base.proofs.Words.{or-zero}
 use Rattle.runs.specs.Plan.{Plan, Child, Before, Unordered, WellFormed}
 use Rattle.runs.specs.Summary.{MayClobber, ClobberByPairs, in-child, unordered-pair, opposed-pair, passed-on}
 use Rattle.runs.proofs.Summary.External.{external-pre-with, external-post-with}
-use Rattle.marks_row.specs.declared.Segment.{Segment}
-use Rattle.marks_row.specs.Tables.{code}
+use Rattle.tables.specs.declared.Segment.{Segment}
+use Rattle.tables.specs.Represents.{code}
 use Rattle.marks_row.specs.Columns.{may-pre, may-post, requires, asserts, posts, indexOf, firstOf, Fact, wordAt}
 use Rattle.runs.proofs.Plan.Numbers.{opposite}
 use Rattle.marks_row.proofs.Rows.{read}

@@ -7,7 +7,7 @@ use Prim.Native.Nat.{ℕ, _<_}
 use lib.Dec.{T}
 use Rattle.base.specs.Bits.{bit, Says}
 use Rattle.runs.specs.Plan.{Plan, Child, Before, Unordered}
-use Rattle.marks_row.specs.declared.Segment.{Segment}
+use Rattle.tables.specs.declared.Segment.{Segment}
 use Rattle.marks_row.specs.Columns.{may-pre, may-post, requires, asserts, posts, Fact, wordIn}
 use Rattle.marks_between.specs.Passing.{Between, OfGroups}
 use Rattle.marks_pair.specs.declared.Literals.{Literals}

@@ -2,13 +2,13 @@
 // children.
 ghost use Prim.Native.Nat.{_<_};
 ghost use lib.ListN.{getD};
-ghost use Rattle.marks_row.specs.Segments.{AtPair};
+ghost use Rattle.tables.specs.Segments.{AtPair};
 ghost use Rattle.marks_between.specs.Passing.{PairWord};
+ghost use Rattle.tables.specs.Sizes.{NODES};
 ghost use Rattle.marks_pair.specs.Pairs.{Pair, PairWords, NextPartner};
 use base::wide;
 use marks_between::passing;
-use marks_row::Segment;
-use marks_row::codes::BEFORE;
+use marks_row::Rows;
 use marks_row::columns::ASSERTS;
 use marks_row::columns::MAY_POST;
 use marks_row::columns::MAY_PRE;
@@ -16,6 +16,11 @@ use marks_row::columns::POSTS;
 use marks_row::columns::REQUIRES;
 use marks_row::word_at;
 use marks_siblings::apart;
+use tables::NODES;
+use tables::Nodes;
+use tables::Orders;
+use tables::Segment;
+use tables::codes::BEFORE;
 
 // Literals: the flags wanted clear, the flags wanted set.
 pub struct Literals {
@@ -25,10 +30,10 @@ pub struct Literals {
 
 // The wanted flags of one sign that the child c and the child at j clobber.
 fn pair_word(
-    kids: &[u8; 128],
+    kids: &Nodes,
     segment: Segment,
-    order: &[u8; 16384],
-    rows: &[u64; 2944],
+    order: &Orders,
+    rows: &Rows,
     sign: usize,
     wanted: u64,
     c: usize,
@@ -39,7 +44,7 @@ fn pair_word(
         (getD (now (kids .entry)) j 0) r ⌝ }
 {
     let d = wide(kids[j]);
-    if order[d * 128 + c] == BEFORE {
+    if order[d * NODES + c] == BEFORE {
         let passed = word_at(rows, d, MAY_POST + (1 - sign)) & word_at(rows, c, MAY_PRE + sign);
         let shared = wanted & passed;
         if shared == 0 {
@@ -57,10 +62,10 @@ fn pair_word(
 
 // The wanted literals that the child c and the child at j clobber.
 pub fn pair_words(
-    kids: &[u8; 128],
+    kids: &Nodes,
     segment: Segment,
-    order: &[u8; 16384],
-    rows: &[u64; 2944],
+    order: &Orders,
+    rows: &Rows,
     wanted: Literals,
     c: usize,
     j: usize,
@@ -79,14 +84,8 @@ pub fn pair_words(
 
 // The position of the next child to pair with c: the given one, or past them all, if c requires or leaves no wanted
 // literal.
-pub fn next_partner(
-    rows: &[u64; 2944],
-    wanted: Literals,
-    c: usize,
-    next: usize,
-    end: usize,
-) -> usize
-    requires { ⌜ c < 128 ⌝ }
+pub fn next_partner(rows: &Rows, wanted: Literals, c: usize, next: usize, end: usize) -> usize
+    requires { ⌜ c < NODES ⌝ }
     ensures { λ r. ⌜ NextPartner (now (rows .entry)) wanted c next end r ⌝ }
 {
     let clear = word_at(rows, c, REQUIRES) | word_at(rows, c, POSTS);

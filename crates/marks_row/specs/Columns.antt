@@ -1,4 +1,4 @@
--- Rows of words: 23 words to a node, one for each column; bit f of a word speaks of flag f. Definitions only.
+-- Rows of words: a word for each column to a node; bit f of a word speaks of flag f. Definitions only.
 use mathlib.Core.Path.{_≡_}
 use mathlib.Core.Bool.{Bool, false}
 use mathlib.Core.Option.{none}
@@ -6,6 +6,7 @@ use mathlib.Core.List.{List}
 use Prim.Native.Nat.{ℕ, _+_, _*_, _<_}
 use lib.ListN.{length, getD}
 use Rattle.base.specs.Bits.{Says}
+use Rattle.tables.specs.Sizes.{NODES}
 use Rattle.runs.specs.Plan.{pre, inc, post, Plan, signNumber}
 use Rattle.runs.specs.Execution.{lastAsserted}
 use Rattle.runs.specs.Summary.{May, Must, ExternalPre, ExternalPost, Incondition, MayClobber, TaskWith, MustClobber}
@@ -17,6 +18,13 @@ use Rattle.runs.specs.Classes.{Neutral, Covers, MayQuiet, MayMeet}
 pub data Column : Type 0 where
   avoid : Column
   quiet covered may-pre may-post may-inc requires asserts posts may-clobber must-inc must-clobber : Bool → Column
+
+-- the columns of a row, and the words of all rows
+abbrev pub COLUMNS : ℕ
+COLUMNS = 23
+
+abbrev pub ROWS : ℕ
+ROWS = NODES * COLUMNS
 
 abbrev pub indexOf : Column → ℕ
 indexOf avoid = 0
@@ -54,7 +62,7 @@ Fact p n f (must-clobber v) = MustClobber p f v n
 
 -- word k of the row of node n; its word in a column
 abbrev pub wordAt : List ℕ → ℕ → ℕ → ℕ
-wordAt rows n k = getD rows (n * 23 + k) 0
+wordAt rows n k = getD rows (n * COLUMNS + k) 0
 
 abbrev pub wordIn : List ℕ → ℕ → Column → ℕ
 wordIn rows n k = wordAt rows n (indexOf k)
@@ -63,7 +71,7 @@ wordIn rows n k = wordAt rows n (indexOf k)
 pub record Right (p : Plan) (rows : List ℕ) (n : ℕ) : Type 0 where
   pub says : (k : Column) (f : ℕ) → f < 64 → Says (wordIn rows n k) f (Fact p n f k)
 
--- 23 words say the facts of n
+-- the words of a row say the facts of n
 pub record Row (p : Plan) (n : ℕ) (w : List ℕ) : Type 0 where
   pub says : (k : Column) (f : ℕ) → f < 64 → Says (getD w (indexOf k) 0) f (Fact p n f k)
 
@@ -73,6 +81,6 @@ pub record RowIs (w : Column → ℕ) (r : List ℕ) : Type 0 where
 
 -- rows' is rows with the words w in the row of n
 pub record Written (rows rows′ : List ℕ) (n : ℕ) (w : List ℕ) : Type 0 where
-  pub long : length rows′ ≡ 2944
-  pub here : (k : ℕ) → k < 23 → wordAt rows′ n k ≡ getD w k 0
-  pub there : (c k : ℕ) → k < 23 → (c ≡ n → ⊥) → wordAt rows′ c k ≡ wordAt rows c k
+  pub long : length rows′ ≡ ROWS
+  pub here : (k : ℕ) → k < COLUMNS → wordAt rows′ n k ≡ getD w k 0
+  pub there : (c k : ℕ) → k < COLUMNS → (c ≡ n → ⊥) → wordAt rows′ c k ≡ wordAt rows c k

@@ -1,7 +1,4 @@
--- Tables of a plan, and rows of words that hold the facts of its nodes.
-pub mod Segments
-pub mod Tables
+-- Rows of words that hold the facts of a plan's nodes.
 pub mod Columns
-pub mod Walks
 pub mod Tasks
 pub mod Musts

@@ -6,7 +6,7 @@ use Prim.Native.Nat.{ℕ, _<_}
 use Rattle.base.specs.Bits.{Says}
 use Rattle.runs.specs.Plan.{task, Plan, Node, WellFormed}
 use Rattle.marks_row.specs.declared.SignWords.{SignWords}
-use Rattle.marks_row.specs.Tables.{RepresentsConditions}
+use Rattle.tables.specs.Represents.{RepresentsConditions}
 use Rattle.marks_row.specs.Columns.{quiet, covered, may-pre, may-post, may-inc, requires, asserts, Fact}
 
 -- what is known of a task whose words are worked out

@@ -17,14 +17,14 @@ use Rattle.runs.specs.Execution.{Event, start, finish, skip, nodeOf, asserts as
 use Rattle.runs.specs.Summary.{TaskWith, Silent}
 use Rattle.runs.proofs.Reflect.{clash}
 use Rattle.marks_siblings.specs.declared.Siblings.{Siblings}
-use Rattle.marks_row.specs.declared.Segment.{Segment}
-use Rattle.marks_row.specs.Tables.{code, RepresentsOrder}
+use Rattle.tables.specs.declared.Segment.{Segment}
+use Rattle.tables.specs.Represents.{code, RepresentsOrder}
 use Rattle.marks_row.specs.Columns.{avoid, quiet, asserts, Fact, wordIn, Right}
-use Rattle.marks_row.specs.Segments.{Every}
+use Rattle.tables.specs.Segments.{Every}
 use Rattle.marks_siblings.specs.Group.{Group}
 use Rattle.marks_siblings.specs.Siblings.{Apart, Narrows, Limits, SiblingWords}
 use Rattle.marks_row.proofs.Rows.{cell}
-use Rattle.marks_row.proofs.Segments.{every-next, every-none, every-child}
+use Rattle.tables.proofs.Segments.{every-next, every-none, every-child}
 
 module _ {w r : ℕ} {C : Type 0} {A : ℕ → Type 0} where
   pub narrows-kept : ¬ C → r ≡ w → Narrows w r C A

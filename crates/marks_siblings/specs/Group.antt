@@ -2,8 +2,8 @@
 use mathlib.Core.List.{List}
 use Prim.Native.Nat.{ℕ}
 use Rattle.runs.specs.Plan.{Plan, Node, Child, WellFormed}
-use Rattle.marks_row.specs.declared.Segment.{Segment}
-use Rattle.marks_row.specs.Segments.{ChildrenOf}
+use Rattle.tables.specs.declared.Segment.{Segment}
+use Rattle.tables.specs.Segments.{ChildrenOf}
 use Rattle.marks_row.specs.Columns.{Right}
 
 -- the rows of the children of n are right

@@ -9,8 +9,8 @@ use Rattle.base.specs.Bits.{bit, Says}
 use Rattle.runs.specs.Plan.{Plan, Child, Before, Unordered}
 use Rattle.runs.specs.Summary.{Silent}
 use Rattle.marks_siblings.specs.declared.Siblings.{Siblings}
-use Rattle.marks_row.specs.declared.Segment.{Segment}
-use Rattle.marks_row.specs.Tables.{beforeCode, afterCode, code, RepresentsOrder}
+use Rattle.tables.specs.declared.Segment.{Segment}
+use Rattle.tables.specs.Represents.{beforeCode, afterCode, code, RepresentsOrder}
 use Rattle.marks_row.specs.Columns.{avoid, quiet, asserts, Fact, wordIn}
 use Rattle.marks_siblings.specs.Group.{Group}
 

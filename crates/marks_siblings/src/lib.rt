@@ -3,18 +3,23 @@ ghost use mathlib.Core.Logic.{_↔_};
 ghost use Prim.Native.Nat.{_<_};
 ghost use lib.Dec.{T};
 ghost use Rattle.base.specs.Bits.{bit};
-ghost use Rattle.marks_row.specs.Segments.{AtSegment};
+ghost use Rattle.tables.specs.Segments.{AtSegment};
+ghost use Rattle.tables.specs.Sizes.{NODES};
 ghost use Rattle.marks_siblings.specs.Siblings.{Apart, Narrows, Limits, SiblingsOf};
 use base::ALL;
 use base::wide;
-use marks_row::Segment;
-use marks_row::codes::AFTER;
-use marks_row::codes::BEFORE;
+use marks_row::Rows;
 use marks_row::columns::ASSERTS;
 use marks_row::columns::AVOID;
 use marks_row::columns::QUIET;
 use marks_row::neither;
 use marks_row::word_at;
+use tables::NODES;
+use tables::Nodes;
+use tables::Orders;
+use tables::Segment;
+use tables::codes::AFTER;
+use tables::codes::BEFORE;
 
 // What the siblings of a child in an all-of group allow: those before it avoid the flag, are quiet for its clear and
 // its set literal; those after it avoid the flag; those unordered with it do not assert the flag.
@@ -27,11 +32,11 @@ pub struct Siblings {
 }
 
 // a and b are unordered.
-pub fn apart(order: &[u8; 16384], a: usize, b: usize) -> bool
-    requires { ⌜ (a < 128) × (b < 128) ⌝ }
+pub fn apart(order: &Orders, a: usize, b: usize) -> bool
+    requires { ⌜ (a < NODES) × (b < NODES) ⌝ }
     ensures { λ r. ⌜ T r ↔ Apart (now (order .entry)) a b ⌝ }
 {
-    let code = order[a * 128 + b];
+    let code = order[a * NODES + b];
     if code == BEFORE {
         return false;
     }
@@ -51,17 +56,11 @@ pub fn narrowed(word: u64, applies: bool, by: u64) -> u64
     word
 }
 
-fn with_sibling(
-    order: &[u8; 16384],
-    rows: &[u64; 2944],
-    child: usize,
-    sibling: usize,
-    s: Siblings,
-) -> Siblings
-    requires { ⌜ (child < 128) × (sibling < 128) ⌝ }
+fn with_sibling(order: &Orders, rows: &Rows, child: usize, sibling: usize, s: Siblings) -> Siblings
+    requires { ⌜ (child < NODES) × (sibling < NODES) ⌝ }
     ensures { λ r. ⌜ Limits (now (order .entry)) (now (rows .entry)) child sibling s r ⌝ }
 {
-    let stands = order[sibling * 128 + child];
+    let stands = order[sibling * NODES + child];
     if stands == BEFORE {
         return Siblings {
             avoid_before: s.avoid_before & word_at(rows, sibling, AVOID),
@@ -94,13 +93,13 @@ fn with_sibling(
 
 // One pass over the siblings of a child of the all-of group.
 pub fn all_siblings(
-    kids: &[u8; 128],
+    kids: &Nodes,
     segment: Segment,
-    order: &[u8; 16384],
-    rows: &[u64; 2944],
+    order: &Orders,
+    rows: &Rows,
     child: usize,
 ) -> Siblings
-    requires { ⌜ AtSegment (now kids) segment × (child < 128) ⌝ }
+    requires { ⌜ AtSegment (now kids) segment × (child < NODES) ⌝ }
     ensures { λ r. ⌜ SiblingsOf (now (kids .entry)) segment (now (order .entry)) (now (rows .entry)) child r ⌝ }
 {
     let mut s = Siblings {

@@ -11,15 +11,16 @@ use Rattle.runs.specs.Plan.{Kind, task, all-of, any-of, optional, Picks, Plan, 
 use Rattle.runs.proofs.Plan.Trees.{under-root}
 use Rattle.runs.proofs.Plan.Numbers.{kind-inj}
 use Rattle.runs.proofs.Execution.Final.{under-task}
-use Rattle.marks_row.specs.declared.Segment.{Segment}
-use Rattle.marks_row.specs.Segments.{segmentOf, Position}
-use Rattle.marks_row.specs.Tables.{RepresentsKinds, RepresentsConditions, Represents}
+use Rattle.tables.specs.declared.Segment.{Segment}
+use Rattle.tables.specs.Segments.{segmentOf, Position}
+use Rattle.tables.specs.Represents.{RepresentsKinds, RepresentsConditions, Represents}
 use Rattle.marks_row.specs.Columns.{indexOf, Right, Row, Written}
 use Rattle.marks_row.specs.Tasks.{Task}
 use Rattle.marks_siblings.specs.Group.{Group}
 use Rattle.marks_row.proofs.Rows.{index-small, written-right, written-keeps}
-use Rattle.marks_row.proofs.Segments.{has-children, listed, every-child}
-use Rattle.marks_row.proofs.Walks.{RightTo, right-none, right-more, right-all}
+use Rattle.tables.proofs.Segments.{has-children, listed, every-child}
+use Rattle.tables.specs.Walks.{RightTo}
+use Rattle.tables.proofs.Walks.{right-none, right-more, right-all}
 use Rattle.marks_group.specs.Groups.{AnyRow}
 use Rattle.marks_tree.specs.Clobbers.{AllOfRow}
 use Rattle.marks_tree.specs.Filled.{Given, Filled, TasksFilled, AllFilled}

@@ -8,9 +8,9 @@ use lib.Bits.{bitOr}
 use lib.ListN.{getD}
 use Rattle.base.specs.Bits.{Says}
 use Rattle.runs.specs.Plan.{all-of, Plan}
-use Rattle.marks_row.specs.declared.Segment.{Segment}
+use Rattle.tables.specs.declared.Segment.{Segment}
 use Rattle.marks_row.specs.Columns.{Column, avoid, quiet, covered, may-pre, may-post, may-inc, requires, asserts}
-use Rattle.marks_row.specs.Columns.{posts, may-clobber, must-inc, must-clobber, Row}
+use Rattle.marks_row.specs.Columns.{posts, may-clobber, must-inc, must-clobber, Row, COLUMNS}
 use Rattle.marks_group.specs.Groups.{Within, WithinRow}
 use Rattle.marks_pair.specs.declared.Literals.{Literals}
 use Rattle.marks_between.specs.Passing.{SomePair, OfGroups}
@@ -59,4 +59,4 @@ clobberOf may must (must-clobber v) = signWord must v
 
 -- word by word
 pub record Ored (a b r : List ℕ) : Type 0 where
-  pub is : (k : ℕ) → k < 23 → getD r k 0 ≡ bitOr (getD a k 0) (getD b k 0)
+  pub is : (k : ℕ) → k < COLUMNS → getD r k 0 ≡ bitOr (getD a k 0) (getD b k 0)

@@ -4,9 +4,9 @@ use mathlib.Core.List.{List}
 use Prim.Native.Nat.{ℕ, _<_}
 use lib.ListN.{length}
 use Rattle.runs.specs.Plan.{Kind, task, Plan, Node, WellFormed}
-use Rattle.marks_row.specs.Tables.{RepresentsKinds, RepresentsTree, RepresentsOrder, RepresentsConditions, Represents}
-use Rattle.marks_row.specs.Columns.{Right}
-use Rattle.marks_row.specs.Walks.{RightUnder}
+use Rattle.tables.specs.Represents.{RepresentsKinds, RepresentsTree, RepresentsOrder, RepresentsConditions, Represents}
+use Rattle.marks_row.specs.Columns.{Right, ROWS}
+use Rattle.tables.specs.Walks.{RightUnder}
 
 -- the rows of the tasks are right
 abbrev pub TasksRight : Plan → List ℕ → Type 0
@@ -24,19 +24,19 @@ pub record Given (kind from kids order rows : List ℕ) (n node : ℕ) (p : Plan
 -- for every such plan in which the node is of a kind in K: what was right is right, and so is the row of each node
 -- under this one
 pub record Filled (K : Kind → Type 0) (kind from kids order rows rows′ : List ℕ) (n node : ℕ) : Type 0 where
-  pub long : length rows′ ≡ 2944
+  pub long : length rows′ ≡ ROWS
   pub under : (p : Plan) → Given kind from kids order rows n node p → K (p .tree .kind node)
       → RightUnder p (Right p rows) (Right p rows′) node
 
 -- for every plan that the tables represent, the rows of the tasks
 pub record TasksFilled (kind conds rows : List ℕ) (n : ℕ) : Type 0 where
-  pub long : length rows ≡ 2944
+  pub long : length rows ≡ ROWS
   pub right : (p : Plan) → WellFormed p → RepresentsKinds kind p → RepresentsConditions conds p → (t : ℕ) → t < n
       → Node p t → p .tree .kind t ≡ task
       → Right p rows t
 
 -- for every plan that the tables represent, the rows of all its nodes
 pub record AllFilled (kind from kids order conds rows : List ℕ) (n : ℕ) : Type 0 where
-  pub long : length rows ≡ 2944
+  pub long : length rows ≡ ROWS
   pub right : (p : Plan) → WellFormed p → Represents kind from kids order conds n p → (m : ℕ) → Node p m
       → Right p rows m

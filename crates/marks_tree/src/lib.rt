@@ -4,8 +4,10 @@ ghost use Prim.Native.Nat.{_≤_, _<_};
 ghost use lib.ListN.{length};
 ghost use Rattle.runs.specs.Plan.{all-of, Picks};
 ghost use Rattle.marks_row.specs.Columns.{RowIs};
-ghost use Rattle.marks_row.specs.Segments.{AtSegment};
-ghost use Rattle.marks_row.specs.Tables.{AtGroup};
+ghost use Rattle.tables.specs.Segments.{AtSegment};
+ghost use Rattle.tables.specs.Represents.{AtGroup};
+ghost use Rattle.marks_row.specs.Columns.{ROWS};
+ghost use Rattle.tables.specs.Sizes.{NODES};
 ghost use Rattle.marks_tree.specs.Clobbers.{AllOfRow, OpenLiterals, clobberOf, Ored};
 ghost use Rattle.marks_tree.specs.Filled.{Filled, TasksFilled, AllFilled};
 use base::kinds::ALL_OF;
@@ -16,8 +18,9 @@ use marks_group::any_words;
 use marks_may_pairs::clobbering_pairs;
 use marks_must_pairs::must_pairs;
 use marks_pair::Literals;
-use marks_row::Segment;
-use marks_row::children;
+use marks_row::COLUMNS;
+use marks_row::Rows;
+use marks_row::Words;
 use marks_row::columns::ASSERTS;
 use marks_row::columns::MAY_CLOBBER;
 use marks_row::columns::MUST_CLOBBER;
@@ -25,9 +28,15 @@ use marks_row::columns::POSTS;
 use marks_row::columns::REQUIRES;
 use marks_row::task_words;
 use marks_row::write_row;
+use tables::Conditions;
+use tables::Nodes;
+use tables::Orders;
+use tables::Segment;
+use tables::Starts;
+use tables::children;
 
 // A row with the words of may and must clobber only.
-fn clobber_words(may: Literals, must: Literals) -> [u64; 23]
+fn clobber_words(may: Literals, must: Literals) -> Words
     ensures { λ r. ⌜ RowIs (clobberOf may must) r ⌝ }
 {
     [
@@ -57,12 +66,12 @@ fn clobber_words(may: Literals, must: Literals) -> [u64; 23]
     ]
 }
 
-fn ored(a: [u64; 23], b: [u64; 23]) -> [u64; 23]
+fn ored(a: Words, b: Words) -> Words
     ensures { λ r. ⌜ Ored a b r ⌝ }
 {
     let mut out = a;
     let mut k = 0;
-    while k < 23 {
+    while k < COLUMNS {
         out[k] = a[k] | b[k];
         k += 1;
     }
@@ -71,7 +80,7 @@ fn ored(a: [u64; 23], b: [u64; 23]) -> [u64; 23]
 
 // The literals that a pair of children of an all-of group can clobber where no child does: some task under the group
 // requires the literal and some task asserts the opposite, or the flag is left both ways.
-fn open_literals(words: [u64; 23]) -> Literals
+fn open_literals(words: Words) -> Literals
     ensures { λ r. ⌜ OpenLiterals words r ⌝ }
 {
     let left = words[POSTS] & words[POSTS + 1];
@@ -84,7 +93,7 @@ fn open_literals(words: [u64; 23]) -> Literals
 }
 
 // The row of an all-of group, from the rows of its children.
-fn all_row(kids: &[u8; 128], segment: Segment, order: &[u8; 16384], rows: &[u64; 2944]) -> [u64; 23]
+fn all_row(kids: &Nodes, segment: Segment, order: &Orders, rows: &Rows) -> Words
     requires { ⌜ AtSegment (now kids) segment ⌝ }
     ensures { λ r. ⌜ AllOfRow (now (kids .entry)) segment (now (order .entry)) (now (rows .entry)) r ⌝ }
 {
@@ -103,15 +112,15 @@ fn all_row(kids: &[u8; 128], segment: Segment, order: &[u8; 16384], rows: &[u64;
 
 // Works out the rows of a node and of all under it, those of the tasks excepted, if the node is an all-of group.
 fn all_of(
-    kind: &[u8; 128],
-    from: &[u8; 129],
-    kids: &[u8; 128],
-    order: &[u8; 16384],
-    rows: &mut [u64; 2944],
+    kind: &Nodes,
+    from: &Starts,
+    kids: &Nodes,
+    order: &Orders,
+    rows: &mut Rows,
     n: usize,
     node: usize,
 )
-    requires { ⌜ AtGroup (now from) (now kids) n node × (length (now rows) ≡ 2944) ⌝ }
+    requires { ⌜ AtGroup (now from) (now kids) n node × (length (now rows) ≡ ROWS) ⌝ }
     ensures { λ r. ⌜ Filled (λ k. k ≡ all-of) (now (kind .entry)) (now (from .entry)) (now (kids .entry))
         (now (order .entry))
         (now (rows .entry)) (now (rows .exit)) n node ⌝ }
@@ -135,15 +144,15 @@ fn all_of(
 // Works out the rows of a node and of all under it, those of the tasks excepted, if one branch of the node is
 // taken: an any-of or optional group.
 fn any_of(
-    kind: &[u8; 128],
-    from: &[u8; 129],
-    kids: &[u8; 128],
-    order: &[u8; 16384],
-    rows: &mut [u64; 2944],
+    kind: &Nodes,
+    from: &Starts,
+    kids: &Nodes,
+    order: &Orders,
+    rows: &mut Rows,
     n: usize,
     node: usize,
 )
-    requires { ⌜ AtGroup (now from) (now kids) n node × (length (now rows) ≡ 2944) ⌝ }
+    requires { ⌜ AtGroup (now from) (now kids) n node × (length (now rows) ≡ ROWS) ⌝ }
     ensures { λ r. ⌜ Filled Picks (now (kind .entry)) (now (from .entry)) (now (kids .entry)) (now (order .entry))
         (now (rows .entry)) (now (rows .exit)) n node ⌝ }
 {
@@ -164,8 +173,8 @@ fn any_of(
 }
 
 // Works out the rows of the tasks.
-fn task_rows(kind: &[u8; 128], conds: &[u64; 768], rows: &mut [u64; 2944], n: usize)
-    requires { ⌜ (n ≤ 128) × (length (now rows) ≡ 2944) ⌝ }
+fn task_rows(kind: &Nodes, conds: &Conditions, rows: &mut Rows, n: usize)
+    requires { ⌜ (n ≤ NODES) × (length (now rows) ≡ ROWS) ⌝ }
     ensures { λ r. ⌜ TasksFilled (now (kind .entry)) (now (conds .entry)) (now (rows .exit)) n ⌝ }
 {
     let mut i = 0;
@@ -180,15 +189,15 @@ fn task_rows(kind: &[u8; 128], conds: &[u64; 768], rows: &mut [u64; 2944], n: us
 
 // Works out the rows of all nodes: those of the tasks, then those of the groups from the root down.
 pub fn node_rows(
-    kind: &[u8; 128],
-    from: &[u8; 129],
-    kids: &[u8; 128],
-    order: &[u8; 16384],
-    conds: &[u64; 768],
-    rows: &mut [u64; 2944],
+    kind: &Nodes,
+    from: &Starts,
+    kids: &Nodes,
+    order: &Orders,
+    conds: &Conditions,
+    rows: &mut Rows,
     n: usize,
 )
-    requires { ⌜ AtGroup (now from) (now kids) n 0 × (length (now rows) ≡ 2944) ⌝ }
+    requires { ⌜ AtGroup (now from) (now kids) n 0 × (length (now rows) ≡ ROWS) ⌝ }
     ensures { λ r. ⌜ AllFilled (now (kind .entry)) (now (from .entry)) (now (kids .entry)) (now (order .entry))
         (now (conds .entry)) (now (rows .exit)) n ⌝ }
 {

@@ -4,13 +4,18 @@ pub mod marks;
 ghost use mathlib.Core.Path.{_≡_};
 ghost use Prim.Native.Nat.{_<_};
 ghost use lib.ListN.{getD};
+ghost use Rattle.tables.specs.Sizes.{NODES};
 ghost use Rattle.marks_words.specs.Words.{firstWords, WordIs, WordsAre, FailsWord};
 use marks::MUST_POST;
 use marks::MUST_PRE;
+use marks_row::Rows;
 use marks_row::columns;
 use marks_row::must_post;
 use marks_row::must_pre;
 use marks_row::word_at;
+
+// The words of a node: by sign and mark.
+pub type Marks = [u64; 16];
 
 // The first word of a mark's column; there is a word for each sign, clear and set.
 fn column(mark: usize) -> usize
@@ -31,8 +36,8 @@ fn column(mark: usize) -> usize
 }
 
 // The word of a node for one sign and one mark: k is mark + 8 * sign. Two marks are worked out from two columns each.
-fn mark_word(rows: &[u64; 2944], node: usize, k: usize) -> u64
-    requires { ⌜ (node < 128) × (k < 16) ⌝ }
+fn mark_word(rows: &Rows, node: usize, k: usize) -> u64
+    requires { ⌜ (node < NODES) × (k < 16) ⌝ }
     ensures { λ r. ⌜ WordIs (now (rows .entry)) node k r ⌝ }
 {
     let sign = k / 8;
@@ -47,8 +52,8 @@ fn mark_word(rows: &[u64; 2944], node: usize, k: usize) -> u64
 }
 
 // The sixteen words of a node.
-pub fn mark_words(rows: &[u64; 2944], node: usize) -> [u64; 16]
-    requires { ⌜ node < 128 ⌝ }
+pub fn mark_words(rows: &Rows, node: usize) -> Marks
+    requires { ⌜ node < NODES ⌝ }
     ensures { λ r. ⌜ WordsAre (now (rows .entry)) node r ⌝ }
 {
     let mut words = [0u64; 16];
@@ -61,7 +66,7 @@ pub fn mark_words(rows: &[u64; 2944], node: usize) -> [u64; 16]
 }
 
 // The flags with a literal that has one mark, or is false at the start and has the other.
-pub fn failing(words: &[u64; 16], start: u64, mark: usize, other: usize) -> u64
+pub fn failing(words: &Marks, start: u64, mark: usize, other: usize) -> u64
     requires { ⌜ (mark < 8) × (other < 8) ⌝ }
     ensures { λ r. ⌜ FailsWord (now (words .entry)) start mark other r ⌝ }
 {

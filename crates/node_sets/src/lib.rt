@@ -1,5 +1,5 @@
 // Sets of nodes: a table that marks one, or those of a list; whether a list strictly rises.
-use base::no_nodes;
+use tables::no_nodes;
 ghost use mathlib.Core.Path.{_≡_};
 ghost use Prim.Native.Nat.{_<_};
 ghost use Rattle.runs.specs.Tests.{listed};

@@ -1,7 +1,6 @@
 // Blocked nodes (02: struck): whether a list of them is accepted (28, 29), and which nodes stand.
 use base::kinds::ANY_OF;
 use base::kinds::OPTIONAL;
-use base::no_nodes;
 use base::wide;
 use node_sets::mark_all;
 use node_sets::rises;
@@ -9,6 +8,7 @@ use plan_check::check;
 use plan_format::fields::is_kind;
 use plan_format::fields::nodes;
 use plan_format::fields::parent;
+use tables::no_nodes;
 ghost use mathlib.Core.Path.{_≡_};
 ghost use mathlib.Core.Bool.{false};
 ghost use Prim.Native.Nat.{_<_};

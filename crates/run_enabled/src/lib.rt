@@ -1,7 +1,6 @@
 // Refusals 19 and 20 of a start or a skip: another branch of an any-of or optional group above the node is begun (01:
 // taken); an order's earlier node is not complete.
 use base::kinds::ALL_OF;
-use base::no_nodes;
 use base::statuses::DONE;
 use base::wide;
 use plan_format::fields::earlier;
@@ -11,6 +10,7 @@ use plan_format::fields::orders;
 use plan_format::fields::parent;
 use run_progress::is_begun;
 use run_progress::is_complete;
+use tables::no_nodes;
 ghost use mathlib.Core.Path.{_≡_};
 ghost use Prim.Native.Nat.{ℕ, _<_};
 ghost use lib.ListN.{length, getD};

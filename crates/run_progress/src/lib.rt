@@ -1,13 +1,13 @@
 // Which nodes are complete and which are begun (01: taken): one pass over the nodes from the last to the first, which
 // counts children.
 use base::kinds::ALL_OF;
-use base::no_nodes;
 use base::statuses::DONE;
 use base::statuses::WAITING;
 use base::wide;
 use plan_format::fields::is_kind;
 use plan_format::fields::nodes;
 use plan_format::fields::parent;
+use tables::no_nodes;
 ghost use mathlib.Core.Path.{_≡_};
 ghost use Prim.Native.Nat.{_<_};
 ghost use lib.ListN.{length, getD};

@@ -1,11 +1,11 @@
 // The order of starts: after the bytes of the nodes a state has a number for each node, the ordinal of its start (02:
 // place).
 use base::kinds::TASK;
-use base::no_starts;
 use base::statuses::WAITING;
 use plan_format::fields::is_kind;
 use plan_format::fields::nodes;
 use plan_format::fields::u16_at;
+use tables::no_starts;
 ghost use mathlib.Core.Path.{_≡_};
 ghost use Prim.Native.Nat.{ℕ, _<_};
 ghost use lib.ListN.{length, getD};

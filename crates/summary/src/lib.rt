@@ -6,16 +6,18 @@ ghost use Rattle.node_sets.specs.Sets.{AllMarked};
 ghost use Rattle.plan_format.specs.Format.{nodeCount};
 ghost use Rattle.plan_rules.specs.Rules.{refusal};
 ghost use Rattle.summary.specs.Summary.{UnderWords, Refused, Summarised};
-use base::no_conditions;
-use base::no_nodes;
-use base::no_starts;
 use marks_of_tables::node_words;
+use marks_words::Marks;
 use node_sets::all_nodes;
 use plan_blocked::check_blocked;
 use plan_format::fields::flags;
 use plan_format::fields::nodes;
 use table_all::fill_tables;
-use table_orders::no_order;
+use tables::Nodes;
+use tables::no_conditions;
+use tables::no_nodes;
+use tables::no_orders;
+use tables::no_starts;
 
 // Refusals 1 to 14, 28, 29, 15 and 17, or 0, and then of the marks those of the nodes that stand.
 fn summary_refused(
@@ -23,7 +25,7 @@ fn summary_refused(
     blocked: &[usize],
     node: usize,
     out: &[u8],
-    standing: &mut [u8; 128],
+    standing: &mut Nodes,
 ) -> u32
     requires { ⌜ AllMarked (now standing) ⌝ }
     ensures { λ r. ⌜ Refused (now (plan .entry)) (now (blocked .entry)) node (now (out .entry)) r
@@ -43,14 +45,14 @@ fn summary_refused(
 }
 
 // The marks of a node that stands, as words.
-fn standing_words(plan: &[u8], standing: &[u8; 128], node: usize) -> [u64; 16]
+fn standing_words(plan: &[u8], standing: &Nodes, node: usize) -> Marks
     requires { ⌜ (refusal (now plan) ≡ 0) × ((node < nodeCount (now plan)) × (getD (now standing) node 0 ≡ 1)) ⌝ }
     ensures { λ r. ⌜ UnderWords (now (plan .entry)) (now (standing .entry)) node r ⌝ }
 {
     let mut kind = no_nodes();
     let mut from = no_starts();
     let mut kids = no_nodes();
-    let mut order = no_order();
+    let mut order = no_orders();
     let mut conds = no_conditions();
     fill_tables(
         plan,
@@ -66,7 +68,7 @@ fn standing_words(plan: &[u8], standing: &[u8; 128], node: usize) -> [u64; 16]
 }
 
 // The marks of a node: none, if it does not stand.
-fn under_words(plan: &[u8], standing: &[u8; 128], node: usize) -> [u64; 16]
+fn under_words(plan: &[u8], standing: &Nodes, node: usize) -> Marks
     requires { ⌜ (refusal (now plan) ≡ 0) × (node < nodeCount (now plan)) ⌝ }
     ensures { λ r. ⌜ UnderWords (now (plan .entry)) (now (standing .entry)) node r ⌝ }
 {
@@ -77,7 +79,7 @@ fn under_words(plan: &[u8], standing: &[u8; 128], node: usize) -> [u64; 16]
 }
 
 // Byte i of a summary: entry i / 8 is 2 f + sign.
-fn mark_byte(words: &[u64; 16], i: usize) -> u8
+fn mark_byte(words: &Marks, i: usize) -> u8
     requires { ⌜ i < 1024 ⌝ }
     ensures { λ r. ⌜ r ≡ getD (now (words .entry)) (i % 16) 0 / 2 ^ (i / 16) % 2 ⌝ }
 {

@@ -20,7 +20,7 @@ use Rattle.plan_check.specs.Meaning.{planOf}
 use Rattle.plan_check.proofs.Accepted.{clean}
 use Rattle.runs.proofs.Plan.Numbers.{place-small, sign-small}
 use Rattle.plan_check.proofs.Meaning.{means}
-use Rattle.marks_row.specs.Tables.{RepresentsConditions}
+use Rattle.tables.specs.Represents.{RepresentsConditions}
 use Rattle.base.specs.Zeros.{Zeros}
 
 -- `1 << k` is added to word j

@@ -11,7 +11,7 @@ use Rattle.plan_format.specs.Format.{nodeCount, kindOf}
 use Rattle.plan_rules.specs.Rules.{refusal}
 use Rattle.plan_check.specs.Meaning.{planOf}
 use Rattle.plan_check.proofs.Meaning.{means}
-use Rattle.marks_row.specs.Tables.{RepresentsKinds}
+use Rattle.tables.specs.Represents.{RepresentsKinds}
 
 pub record Kinds (b kinds : List ℕ) (i : ℕ) : Type 0 where
   pub long : length kinds ≡ 128

@@ -8,20 +8,21 @@ use lib.ListN.{getD, set}
 use Rattle.base.specs.Zeros.{Zeros}
 use Rattle.plan_format.specs.Format.{nodeCount}
 use Rattle.plan_check.specs.Meaning.{planOf}
-use Rattle.marks_row.specs.Tables.{Shaped, Represents, RepresentsKinds, RepresentsOrder, RepresentsConditions}
+use Rattle.tables.specs.Represents.{Shaped, Represents, RepresentsKinds, RepresentsOrder, RepresentsConditions}
 use Rattle.runs.specs.Blocked.{without, Blocks}
 use Rattle.plan_blocked.specs.Blocked.{Standing}
 use Rattle.table_orders.specs.Links.{Linked, Leading}
 use Rattle.plan_reader.specs.declared.items.Item.{Item}
 use Rattle.plan_reader.specs.declared.items.Item.the-variants as item
+use Rattle.tables.specs.Sizes.{NODES, STARTS, PAIRS, CONDITIONS}
 
 -- tables with nothing in them
 pub record Fresh (kind from kids order conds : List ℕ) : Type 0 where
-  pub no-kinds : Zeros 128 kind
-  pub no-starts : Zeros 129 from
-  pub no-kids : Zeros 128 kids
-  pub no-order : Zeros 16384 order
-  pub no-conditions : Zeros 768 conds
+  pub no-kinds : Zeros NODES kind
+  pub no-starts : Zeros STARTS from
+  pub no-kids : Zeros NODES kids
+  pub no-order : Zeros PAIRS order
+  pub no-conditions : Zeros CONDITIONS conds
 
 -- tables of the plan that the bytes b mean, without the blocked nodes: of any blocked nodes S, if a table marks the nodes
 -- that stand
@@ -32,9 +33,9 @@ pub record TablesOf (b standing kind from kids order conds : List ℕ) : Type 0 
 
 -- an item that has a place in the tables
 unfoldable pub Fits : ℕ → Item → Type 0
-Fits at (item.Node x) = at < 128
-Fits at (item.Condition x) = (x .node < 128) × (x .value ≤ 383)
-Fits at (item.Order x) = (x .earlier < x .later) × (x .later < 128)
+Fits at (item.Node x) = at < NODES
+Fits at (item.Condition x) = (x .node < NODES) × (x .value ≤ 383)
+Fits at (item.Order x) = (x .earlier < x .later) × (x .later < NODES)
 
 -- what an item changes in the tables, and that the others stay as they are
 unfoldable pub Stored : ℕ → Item → List ℕ → List ℕ → List ℕ → List ℕ → List ℕ → List ℕ → Type 0

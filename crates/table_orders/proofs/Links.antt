@@ -7,7 +7,7 @@ use native.Mathlib.Decide.{ℕ-discrete}
 use native.Mathlib.Omega.{arith}
 use lib.ListN.{length, set, length-set}
 use lib.Seq.{getD-set-same, getD-set-other}
-use Rattle.marks_row.specs.Tables.{code}
+use Rattle.tables.specs.Represents.{code}
 use Rattle.table_orders.specs.Links.{Linked, Leading}
 
 -- one link

@@ -7,7 +7,7 @@ use native.Mathlib.Decide.{ℕ-discrete, decLt}
 use native.Mathlib.Omega.{arith}
 use lib.ListN.{length}
 use Rattle.base.specs.Zeros.{Zeros}
-use Rattle.marks_row.specs.Tables.{code, RepresentsOrder}
+use Rattle.tables.specs.Represents.{code, RepresentsOrder}
 use Rattle.plan_format.specs.Format.{orderCount, earlierOf, laterOf}
 use Rattle.plan_rules.specs.Rules.{refusal}
 use Rattle.plan_check.specs.Meaning.{planOf}

@@ -4,14 +4,15 @@ use mathlib.Core.Logic.{_⊎_}
 use mathlib.Core.List.{List}
 use Prim.Native.Nat.{ℕ, _<_}
 use lib.ListN.{length}
-use Rattle.marks_row.specs.Tables.{code}
+use Rattle.tables.specs.Represents.{code}
+use Rattle.tables.specs.Sizes.{NODES, PAIRS}
 
 -- the nodes of `From` are put before c, and nothing else is changed
 pub record Linked (old new : List ℕ) (c : ℕ) (From : ℕ → Type 0) : Type 0 where
-  pub long : length new ≡ 16384
-  pub ahead : (a : ℕ) → a < 128 → From a → code new a c ≡ 1
-  pub back : (a : ℕ) → a < 128 → From a → code new c a ≡ 2
-  pub kept : (x y : ℕ) → x < 128 → y < 128 → (y ≡ c → From x → ⊥) → (x ≡ c → From y → ⊥) → code new x y ≡ code old x y
+  pub long : length new ≡ PAIRS
+  pub ahead : (a : ℕ) → a < NODES → From a → code new a c ≡ 1
+  pub back : (a : ℕ) → a < NODES → From a → code new c a ≡ 2
+  pub kept : (x y : ℕ) → x < NODES → y < NODES → (y ≡ c → From x → ⊥) → (x ≡ c → From y → ⊥) → code new x y ≡ code old x y
 
 -- c is a, or a lower number that the table has before a
 abbrev pub Leading : List ℕ → ℕ → ℕ → Type 0

@@ -15,7 +15,7 @@ use Rattle.runs.specs.Verdict.{CLEAR, DOOMED, OPEN, Judged}
 use Rattle.runs.specs.Blocked.{without, Blocks, Refused28, Refused29}
 use Rattle.runs.specs.Demand3.{NeverViolates, NeverCompletes}
 use Rattle.runs.specs.Model.Verdicts.{verdict}
-use Rattle.marks_row.specs.Tables.{Represents}
+use Rattle.tables.specs.Represents.{Represents}
 use Rattle.marks_words.specs.Words.{StartWord}
 use Rattle.verdict.specs.declared.Verdict.{Verdict}
 use Rattle.verdict.specs.declared.Verdict.the-variants.{Clear, Doomed, Open}

@@ -2,12 +2,9 @@
 ghost use mathlib.Core.Path.{_≡_};
 ghost use Rattle.plan_rules.specs.Rules.{refusal};
 ghost use Rattle.plan_check.specs.Meaning.{startOf};
-ghost use Rattle.marks_row.specs.Tables.{AtGroup};
+ghost use Rattle.tables.specs.Represents.{AtGroup};
 ghost use Rattle.marks_words.specs.Words.{StartWord};
 ghost use Rattle.verdict.specs.Verdict.{OfTables, OfStanding, Assessed};
-use base::no_conditions;
-use base::no_nodes;
-use base::no_starts;
 use marks_of_tables::node_words;
 use marks_words::failing;
 use marks_words::marks::MAY_CLOBBER;
@@ -20,7 +17,14 @@ use plan_format::fields::flags;
 use plan_format::fields::nodes;
 use plan_format::fields::start_flag;
 use table_all::fill_tables;
-use table_orders::no_order;
+use tables::Conditions;
+use tables::Nodes;
+use tables::Orders;
+use tables::Starts;
+use tables::no_conditions;
+use tables::no_nodes;
+use tables::no_orders;
+use tables::no_starts;
 
 pub enum Verdict {
     Clear,
@@ -52,11 +56,11 @@ fn start_word(plan: &[u8]) -> u64
 
 // The verdict of any plan that the tables represent, from the marks of its root.
 pub fn judge_tables(
-    kind: &[u8; 128],
-    from: &[u8; 129],
-    kids: &[u8; 128],
-    order: &[u8; 16384],
-    conds: &[u64; 768],
+    kind: &Nodes,
+    from: &Starts,
+    kids: &Nodes,
+    order: &Orders,
+    conds: &Conditions,
     n: usize,
     start: u64,
 ) -> Verdict
@@ -75,14 +79,14 @@ pub fn judge_tables(
 }
 
 // The verdict on an accepted plan of which the marked nodes stand.
-pub fn judge(plan: &[u8], standing: &[u8; 128]) -> Verdict
+pub fn judge(plan: &[u8], standing: &Nodes) -> Verdict
     requires { ⌜ refusal (now plan) ≡ 0 ⌝ }
     ensures { λ r. ⌜ OfStanding (now (plan .entry)) (now (standing .entry)) r ⌝ }
 {
     let mut kind = no_nodes();
     let mut from = no_starts();
     let mut kids = no_nodes();
-    let mut order = no_order();
+    let mut order = no_orders();
     let mut conds = no_conditions();
     fill_tables(
         plan,

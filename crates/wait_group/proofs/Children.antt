@@ -9,10 +9,10 @@ use Rattle.plan_format.specs.Format.{nodeCount, orderCount, earlierOf, laterOf,
 use Rattle.plan_rules.specs.Rules.{isChild}
 use Rattle.plan_check.proofs.Accepted.{Clean, clean}
 use Rattle.plan_check.proofs.Meaning.{kind-is}
-use Rattle.marks_row.specs.declared.Segment.{Segment}
-use Rattle.marks_row.specs.Segments.{segmentOf, Position, Every}
-use Rattle.marks_row.specs.Tables.{AtGroup}
-use Rattle.marks_row.proofs.Segments.{every-next}
+use Rattle.tables.specs.declared.Segment.{Segment}
+use Rattle.tables.specs.Segments.{segmentOf, Position, Every}
+use Rattle.tables.specs.Represents.{AtGroup}
+use Rattle.tables.proofs.Segments.{every-next}
 use Rattle.table_children.proofs.Listed.{listed-child, every-listed, lower-before}
 use Rattle.wait_lengths.specs.Waits.{greatest, lengthOf, waitWithin}
 use Rattle.wait_group.specs.Spread.{Raised, GroupOf, Tables, ChildLengths, Spread}

@@ -8,6 +8,7 @@ use Rattle.plan_format.specs.Format.{nodeCount, orderCount, kindOf, earlierOf, 
 use Rattle.plan_rules.specs.Rules.{refusal, isChild}
 use Rattle.table_children.specs.Children.{TreeOf}
 use Rattle.wait_lengths.specs.Waits.{lengthOf, waitWithin}
+use Rattle.tables.specs.Sizes.{NODES}
 
 -- the orders below r have an earlier node below c, those from r on have not
 pub record FirstOrder (b : List ℕ) (c r : ℕ) : Type 0 where
@@ -17,7 +18,7 @@ pub record FirstOrder (b : List ℕ) (c r : ℕ) : Type 0 where
 
 -- the waits of the later nodes of the orders of c are raised to v, where they are below it; nothing else changes
 pub record Raised (b waits waits′ : List ℕ) (c v : ℕ) : Type 0 where
-  pub long : length waits′ ≡ 128
+  pub long : length waits′ ≡ NODES
   pub grown : (m : ℕ) → getD waits m 0 ≤ getD waits′ m 0
   pub reached : (j : ℕ) → j < orderCount b → earlierOf b j ≡ c → v ≤ getD waits′ (laterOf b j) 0
   pub only : (m u : ℕ) → getD waits m 0 ≤ u → ((j : ℕ) → j < orderCount b → earlierOf b j ≡ c → laterOf b j ≡ m → v ≤ u)
@@ -33,8 +34,8 @@ pub record GroupOf (b from kids : List ℕ) (test : Bool) (g : ℕ) : Type 0 whe
 -- the tables before and while the groups are worked out: the lengths of the tasks stand, and no wait is beyond the one
 -- within its group
 pub record Tables (b lengths waits : List ℕ) : Type 0 where
-  pub lengths-long : length lengths ≡ 128
-  pub waits-long : length waits ≡ 128
+  pub lengths-long : length lengths ≡ NODES
+  pub waits-long : length waits ≡ NODES
   pub tasks : (t : ℕ) → t < nodeCount b → kindOf b t ≡ 0 → getD lengths t 0 ≡ lengthOf b t
   pub within : (m : ℕ) → m < nodeCount b → getD waits m 0 ≤ waitWithin b m
 

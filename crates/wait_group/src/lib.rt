@@ -5,12 +5,16 @@ ghost use lib.ListN.{length};
 ghost use Rattle.plan_format.specs.Format.{isKind, isChoice};
 ghost use Rattle.plan_rules.specs.Rules.{refusal};
 ghost use Rattle.wait_lengths.specs.Waits.{lengthOf};
+ghost use Rattle.tables.specs.Sizes.{NODES};
 ghost use Rattle.wait_group.specs.Spread.{FirstOrder, Raised, GroupOf, Tables, ChildLengths, Spread};
 use base::wide;
-use marks_row::children;
 use plan_format::fields::earlier;
 use plan_format::fields::later;
 use plan_format::fields::orders;
+use tables::Nodes;
+use tables::Starts;
+use tables::Times;
+use tables::children;
 
 // The greater of two.
 fn greater(a: u32, b: u32) -> u32
@@ -38,8 +42,8 @@ fn first_order(plan: &[u8], c: usize) -> usize
 }
 
 // Raises the waits of all that c stands before by an order to the end of c.
-fn raise(plan: &[u8], waits: &mut [u32; 128], c: usize, end: u32)
-    requires { ⌜ (refusal (now plan) ≡ 0) × (length (now waits) ≡ 128) ⌝ }
+fn raise(plan: &[u8], waits: &mut Times, c: usize, end: u32)
+    requires { ⌜ (refusal (now plan) ≡ 0) × (length (now waits) ≡ NODES) ⌝ }
     ensures { λ r. ⌜ Raised (now (plan .entry)) (now (waits .entry)) (now (waits .exit)) c end ⌝ }
 {
     let k = orders(plan);
@@ -59,10 +63,10 @@ fn raise(plan: &[u8], waits: &mut [u32; 128], c: usize, end: u32)
 // group.
 pub fn spread(
     plan: &[u8],
-    from: &[u8; 129],
-    kids: &[u8; 128],
-    lengths: &[u32; 128],
-    waits: &mut [u32; 128],
+    from: &Starts,
+    kids: &Nodes,
+    lengths: &Times,
+    waits: &mut Times,
     node: usize,
 ) -> u32
     requires { ⌜ GroupOf (now plan) (now from) (now kids) (isKind (now plan) node 1) node
@@ -84,13 +88,7 @@ pub fn spread(
 }
 
 // The length of an any-of or optional group, from those of its children.
-pub fn longest_child(
-    plan: &[u8],
-    from: &[u8; 129],
-    kids: &[u8; 128],
-    lengths: &[u32; 128],
-    node: usize,
-) -> u32
+pub fn longest_child(plan: &[u8], from: &Starts, kids: &Nodes, lengths: &Times, node: usize) -> u32
     requires { ⌜ GroupOf (now plan) (now from) (now kids) (isChoice (now plan) node) node
         × ChildLengths (now plan) (now lengths) node ⌝ }
     ensures { λ r. ⌜ r ≡ lengthOf (now (plan .entry)) node ⌝ }

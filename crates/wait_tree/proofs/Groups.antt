@@ -18,9 +18,10 @@ use Rattle.plan_check.proofs.Accepted.{Clean, clean}
 use Rattle.plan_rules.proofs.Causes.{parent-group}
 use Rattle.plan_check.proofs.Meaning.{kind-of, kind-task, means-well-formed}
 use Rattle.plan_check.proofs.Nodes.{is-node, plan-kind}
-use Rattle.marks_row.specs.declared.Segment.{Segment}
-use Rattle.marks_row.specs.Segments.{segmentOf, Position}
-use Rattle.marks_row.proofs.Walks.{RightTo, right-none, right-more, right-all}
+use Rattle.tables.specs.declared.Segment.{Segment}
+use Rattle.tables.specs.Segments.{segmentOf, Position}
+use Rattle.tables.specs.Walks.{RightTo}
+use Rattle.tables.proofs.Walks.{right-none, right-more, right-all}
 use Rattle.table_children.specs.Children.{TreeOf}
 use Rattle.table_children.proofs.Listed.{its-children, every-listed}
 use Rattle.wait_lengths.specs.Waits.{lengthOf, waitWithin}

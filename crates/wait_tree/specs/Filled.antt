@@ -7,9 +7,10 @@ use lib.ListN.{length, getD}
 use Rattle.plan_format.specs.Format.{nodeCount}
 use Rattle.plan_rules.specs.Rules.{isChild}
 use Rattle.plan_check.specs.Meaning.{planOf}
-use Rattle.marks_row.specs.Walks.{RightUnder}
+use Rattle.tables.specs.Walks.{RightUnder}
 use Rattle.wait_lengths.specs.Waits.{lengthOf, waitWithin, longestWait}
 use Rattle.wait_group.specs.Spread.{Tables}
+use Rattle.tables.specs.Sizes.{NODES}
 
 -- a node is worked out: its length, and the waits of its children
 pub record Done (b lengths waits : List ℕ) (n : ℕ) : Type 0 where
@@ -23,16 +24,16 @@ pub record Worked (b lengths waits lengths′ waits′ : List ℕ) (n : ℕ) : T
 
 -- every node's wait within its group
 pub record Within (b waits : List ℕ) : Type 0 where
-  pub long : length waits ≡ 128
+  pub long : length waits ≡ NODES
   pub is : (n : ℕ) → n < nodeCount b → getD waits n 0 ≡ waitWithin b n
 
 -- all groups are worked out
 pub record AllWorked (b lengths waits : List ℕ) : Type 0 where
-  pub lengths-long : length lengths ≡ 128
+  pub lengths-long : length lengths ≡ NODES
   pub root : getD lengths 0 0 ≡ lengthOf b 0
   pub within : Within b waits
 
 -- every node's longest wait
 pub record Longest (b waits : List ℕ) : Type 0 where
-  pub long : length waits ≡ 128
+  pub long : length waits ≡ NODES
   pub is : (n : ℕ) → n < nodeCount b → getD waits n 0 ≡ longestWait b n

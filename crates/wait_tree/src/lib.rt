@@ -8,29 +8,33 @@ ghost use Rattle.base.specs.Zeros.{Zeros};
 ghost use Rattle.table_children.specs.Children.{TreeOf};
 ghost use Rattle.wait_lengths.specs.Waits.{lengthOf};
 ghost use Rattle.wait_group.specs.Spread.{GroupOf, Tables};
+ghost use Rattle.tables.specs.Sizes.{NODES};
 ghost use Rattle.wait_tree.specs.Filled.{Worked, AllWorked, Within, Longest};
 use base::kinds::ALL_OF;
 use base::kinds::TASK;
-use base::no_nodes;
-use base::no_starts;
-use base::no_times;
 use base::wide;
-use marks_row::children;
 use plan_format::fields::kind;
 use plan_format::fields::minutes;
 use plan_format::fields::nodes;
 use plan_format::fields::parent;
 use table_children::fill_all_children;
+use tables::Nodes;
+use tables::Starts;
+use tables::Times;
+use tables::children;
+use tables::no_nodes;
+use tables::no_starts;
+use tables::no_times;
 use wait_group::longest_child;
 use wait_group::spread;
 
 // Works out an all-of group and all groups under it: the lengths, and the waits of the children.
 fn all_length(
     plan: &[u8],
-    from: &[u8; 129],
-    kids: &[u8; 128],
-    lengths: &mut [u32; 128],
-    waits: &mut [u32; 128],
+    from: &Starts,
+    kids: &Nodes,
+    lengths: &mut Times,
+    waits: &mut Times,
     node: usize,
 )
     requires { ⌜ GroupOf (now plan) (now from) (now kids) (isKind (now plan) node 1) node
@@ -57,10 +61,10 @@ fn all_length(
 // Works out an any-of or optional group and all groups under it.
 fn any_length(
     plan: &[u8],
-    from: &[u8; 129],
-    kids: &[u8; 128],
-    lengths: &mut [u32; 128],
-    waits: &mut [u32; 128],
+    from: &Starts,
+    kids: &Nodes,
+    lengths: &mut Times,
+    waits: &mut Times,
     node: usize,
 )
     requires { ⌜ GroupOf (now plan) (now from) (now kids) (isChoice (now plan) node) node
@@ -85,8 +89,8 @@ fn any_length(
 }
 
 // The lengths of the tasks.
-fn task_lengths(plan: &[u8], lengths: &mut [u32; 128], waits: &[u32; 128])
-    requires { ⌜ (refusal (now plan) ≡ 0) × (length (now lengths) ≡ 128) × Zeros 128 (now waits) ⌝ }
+fn task_lengths(plan: &[u8], lengths: &mut Times, waits: &Times)
+    requires { ⌜ (refusal (now plan) ≡ 0) × (length (now lengths) ≡ NODES) × Zeros NODES (now waits) ⌝ }
     ensures { λ r. ⌜ Tables (now (plan .entry)) (now (lengths .exit)) (now (waits .entry)) ⌝ }
 {
     let n = nodes(plan);
@@ -100,15 +104,9 @@ fn task_lengths(plan: &[u8], lengths: &mut [u32; 128], waits: &[u32; 128])
 }
 
 // All groups.
-fn work_out(
-    plan: &[u8],
-    from: &[u8; 129],
-    kids: &[u8; 128],
-    lengths: &mut [u32; 128],
-    waits: &mut [u32; 128],
-)
-    requires { ⌜ (refusal (now plan) ≡ 0) × TreeOf (now plan) (now from) (now kids) × (length (now lengths) ≡ 128)
-        × Zeros 128 (now waits) ⌝ }
+fn work_out(plan: &[u8], from: &Starts, kids: &Nodes, lengths: &mut Times, waits: &mut Times)
+    requires { ⌜ (refusal (now plan) ≡ 0) × TreeOf (now plan) (now from) (now kids) × (length (now lengths) ≡ NODES)
+        × Zeros NODES (now waits) ⌝ }
     ensures { λ r. ⌜ AllWorked (now (plan .entry)) (now (lengths .exit)) (now (waits .exit)) ⌝ }
 {
     task_lengths(plan, lengths, waits);
@@ -122,7 +120,7 @@ fn work_out(
 
 // From the root down: to the wait within its group each node adds the longest wait of its parent, which has the lower
 // number.
-fn add_waits(plan: &[u8], waits: &mut [u32; 128])
+fn add_waits(plan: &[u8], waits: &mut Times)
     requires { ⌜ (refusal (now plan) ≡ 0) × Within (now plan) (now waits) ⌝ }
     ensures { λ r. ⌜ Longest (now (plan .entry)) (now (waits .exit)) ⌝ }
 {
@@ -138,8 +136,8 @@ fn add_waits(plan: &[u8], waits: &mut [u32; 128])
 }
 
 // The longest waits of all nodes, and the length of the root.
-pub fn longest_waits(plan: &[u8], waits: &mut [u32; 128]) -> u32
-    requires { ⌜ (refusal (now plan) ≡ 0) × Zeros 128 (now waits) ⌝ }
+pub fn longest_waits(plan: &[u8], waits: &mut Times) -> u32
+    requires { ⌜ (refusal (now plan) ≡ 0) × Zeros NODES (now waits) ⌝ }
     ensures { λ r. ⌜ Longest (now (plan .entry)) (now (waits .exit)) × (r ≡ lengthOf (now (plan .entry)) 0) ⌝ }
 {
     let mut from = no_starts();

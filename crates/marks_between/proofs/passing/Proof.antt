@@ -1,5 +1,5 @@
 -- `passing` meets its contract. Assumes nothing.
-use Rattle.marks_row.proofs.Turns.{pair-small}
+use Rattle.tables.proofs.Turns.{pair-small}
 use Rattle.marks_between.proofs.Laws.{part-of, parts, passing-says}
 use native.Mathlib.Omega.{arith}
 use borrow.Author.Needs.{needs}

@@ -1,7 +1,7 @@
 -- `passing_part` meets its contract. Assumes nothing.
 use Prim.Native.Nat.{_-_}
-use Rattle.marks_row.specs.Segments.{Reached}
-use Rattle.marks_row.proofs.Turns.{first-turn, position-small, kid-small, position, next-turn, last-turn}
+use Rattle.tables.specs.Segments.{Reached}
+use Rattle.tables.proofs.Turns.{first-turn, position-small, kid-small, position, next-turn, last-turn}
 use Rattle.marks_siblings.proofs.Sibling.{implied}
 use Rattle.marks_between.specs.Passing.{PassingPart}
 use Rattle.marks_between.proofs.Laws.{part-none, part-more, part-empty}

@@ -2,10 +2,10 @@
 use Prim.Native.Nat.{ℕ, _-_}
 use Rattle.base.proofs.Says.{says-eq}
 use Rattle.runs.specs.Plan.{Plan}
-use Rattle.marks_row.specs.Segments.{Reached}
-use Rattle.marks_row.specs.Tables.{RepresentsOrder}
-use Rattle.marks_row.proofs.Segments.{listed}
-use Rattle.marks_row.proofs.Turns.{first-turn, position-small, kid-small, position, next-turn, last-turn}
+use Rattle.tables.specs.Segments.{Reached}
+use Rattle.tables.specs.Represents.{RepresentsOrder}
+use Rattle.tables.proofs.Segments.{listed}
+use Rattle.tables.proofs.Turns.{first-turn, position-small, kid-small, position, next-turn, last-turn}
 use Rattle.marks_siblings.specs.Group.{Group}
 use Rattle.marks_group.proofs.Masks.{masked}
 use Rattle.marks_group.proofs.Merge.{AllWords, joined-none, joined-more, child-row, all-row}

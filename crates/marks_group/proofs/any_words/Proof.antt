@@ -4,8 +4,8 @@ use Prim.Native.Nat.{ℕ, _-_}
 use Rattle.runs.specs.Plan.{optional, Plan, kindNumber}
 use Rattle.runs.proofs.Plan.Numbers.{kind-inj}
 use Rattle.runs.proofs.Execution.Completeness.{picks-other}
-use Rattle.marks_row.specs.Segments.{Reached}
-use Rattle.marks_row.proofs.Turns.{first-turn, position-small, kid-small, position, next-turn, last-turn}
+use Rattle.tables.specs.Segments.{Reached}
+use Rattle.tables.proofs.Turns.{first-turn, position-small, kid-small, position, next-turn, last-turn}
 use Rattle.marks_siblings.specs.Group.{Group}
 use Rattle.marks_group.proofs.Merge.{AnyWords, joined-none, joined-more, unmasked, child-row, any-row}
 use Rattle.marks_group.proofs.Merge.{optional-row}

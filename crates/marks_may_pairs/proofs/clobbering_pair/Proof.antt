@@ -1,7 +1,7 @@
 -- `clobbering_pair` meets its contract: no pair passed so far clobbers a wanted literal. Assumes nothing.
 use mathlib.Core.Path.{_≡_, refl}
 use Prim.Native.Nat.{_-_}
-use Rattle.marks_row.proofs.Turns.{position-small, kid-small, position, last-turn}
+use Rattle.tables.proofs.Turns.{position-small, kid-small, position, last-turn}
 use Rattle.marks_may_pairs.specs.Search.{Stands}
 use Rattle.marks_may_pairs.proofs.Search.{goes-on, partner-passed, child-passed, pair-found, nothing-found}
 use native.Mathlib.Omega.{arith}

@@ -6,9 +6,9 @@ use Prim.Native.Nat.{_-_}
 use lib.Dec.{T}
 use Rattle.base.specs.Bits.{bit}
 use Rattle.runs.specs.Plan.{Child}
-use Rattle.marks_row.specs.Segments.{Reached, Some}
+use Rattle.tables.specs.Segments.{Reached, Some}
 use Rattle.marks_row.specs.Musts.{SaysOf}
-use Rattle.marks_row.proofs.Turns.{first-turn, position, next-turn, last-turn}
+use Rattle.tables.proofs.Turns.{first-turn, position, next-turn, last-turn}
 use Rattle.marks_between.specs.Passing.{OfGroups}
 use Rattle.marks_between.proofs.Laws.{kid}
 use Rattle.marks_must_pairs.specs.MustPairs.{MustPair}

@@ -2,10 +2,10 @@
 use mathlib.Core.Path.{refl}
 use Prim.Native.Nat.{ℕ, _-_}
 use Rattle.runs.specs.Plan.{Plan, Child}
-use Rattle.marks_row.specs.Tables.{RepresentsOrder}
-use Rattle.marks_row.specs.Segments.{Reached, Every}
-use Rattle.marks_row.proofs.Segments.{listed}
-use Rattle.marks_row.proofs.Turns.{first-turn, position-small, kid-small, position, next-turn, last-turn}
+use Rattle.tables.specs.Represents.{RepresentsOrder}
+use Rattle.tables.specs.Segments.{Reached, Every}
+use Rattle.tables.proofs.Segments.{listed}
+use Rattle.tables.proofs.Turns.{first-turn, position-small, kid-small, position, next-turn, last-turn}
 use Rattle.marks_siblings.specs.Group.{Group}
 use Rattle.marks_siblings.specs.Siblings.{SiblingWords}
 use Rattle.marks_siblings.proofs.Sibling.{with-sibling, no-siblings, all-siblings}

@@ -7,11 +7,11 @@ use native.Mathlib.Omega.{arith}
 use borrow.Author.Needs.{needs}
 use borrow.Fn.Kinds.{In}
 use borrow.Fn.PlainCycle.{Measures, is, falls, and}
-use Rattle.marks_row.specs.Segments.{Reached}
-use Rattle.marks_row.proofs.Turns.{at-segment, first-turn, position-small, kid-small, kid-later, nearer, position}
-use Rattle.marks_row.proofs.Turns.{next-turn, last-turn}
+use Rattle.tables.specs.Segments.{Reached}
+use Rattle.tables.proofs.Turns.{at-segment, first-turn, position-small, kid-small, kid-later, nearer, position}
+use Rattle.tables.proofs.Turns.{next-turn, last-turn}
 use Rattle.base.proofs.wide.Reads as wide-reads
-use Rattle.marks_row.proofs.children.Reads as children-reads
+use Rattle.tables.proofs.children.Reads as children-reads
 use Rattle.marks_row.proofs.write_row.Reads as write-row-reads
 use Rattle.marks_group.proofs.any_words.Reads as any-words-reads
 use Rattle.marks_tree.proofs.Children.{is-task, is-all, is-choice, ChildrenTo, children-none, child-more}

@@ -1,7 +1,7 @@
 -- `longest_child` meets its contract: the greatest length of the children before i. Assumes nothing.
 use Prim.Native.Nat.{_-_}
-use Rattle.marks_row.specs.Segments.{Reached}
-use Rattle.marks_row.proofs.Turns.{at-segment, first-turn, position-small, kid-small, position, next-turn, last-turn}
+use Rattle.tables.specs.Segments.{Reached}
+use Rattle.tables.proofs.Turns.{at-segment, first-turn, position-small, kid-small, position, next-turn, last-turn}
 use Rattle.wait_lengths.specs.Waits.{lengthOf}
 use Rattle.wait_group.proofs.Children.{at-group, child-at, GreatestTo, greatest-start, greatest-turn, any-all}
 use native.Mathlib.Omega.{arith}

@@ -1,7 +1,7 @@
 -- `spread` meets its contract: the children before i are done, and the orders of each are met. Assumes nothing.
 use Prim.Native.Nat.{_-_}
-use Rattle.marks_row.specs.Segments.{Reached}
-use Rattle.marks_row.proofs.Turns.{at-segment, first-turn, position-small, kid-small, position, next-turn, last-turn}
+use Rattle.tables.specs.Segments.{Reached}
+use Rattle.tables.proofs.Turns.{at-segment, first-turn, position-small, kid-small, position, next-turn, last-turn}
 use Rattle.wait_group.proofs.Children.{at-group, SpreadTo, spread-none, spread-end, spread-more, spread-all}
 use native.Mathlib.Omega.{arith}
 use borrow.Author.Needs.{needs}

@@ -9,9 +9,9 @@ use borrow.Author.Needs.{needs}
 use denote.Ref.{now}
 use Rattle.plan_format.specs.Format.{nodeCount}
 use Rattle.plan_check.proofs.Accepted.{clean}
-use Rattle.marks_row.specs.Segments.{Reached}
-use Rattle.marks_row.proofs.Turns.{at-segment, first-turn, position-small, kid-later, nearer, position, next-turn}
-use Rattle.marks_row.proofs.Turns.{last-turn}
+use Rattle.tables.specs.Segments.{Reached}
+use Rattle.tables.proofs.Turns.{at-segment, first-turn, position-small, kid-later, nearer, position, next-turn}
+use Rattle.tables.proofs.Turns.{last-turn}
 use Rattle.wait_group.proofs.Children.{at-group}
 use Rattle.wait_tree.proofs.Groups.{ChildrenTo, children-none, child-more, task-worked, all-group}
 use Rattle.wait_tree.proofs.Groups.{any-group, child-lengths, all-worked, any-worked}
@@ -25,7 +25,7 @@ use Rattle.wait_tree.proofs.any_length.Kinds as any-length-kinds
 use Rattle.wait_tree.proofs.+all_length+any_length.Lts-any_length as any-length-lts
 use Rattle.plan_format.proofs.fields.kind.Reads as kind-reads
 use Rattle.base.proofs.wide.Reads as wide-reads
-use Rattle.marks_row.proofs.children.Reads as children-reads
+use Rattle.tables.proofs.children.Reads as children-reads
 use Rattle.wait_group.proofs.longest_child.Reads as longest-child-reads
 use Rattle.wait_group.proofs.spread.Reads as spread-reads
 use Rattle.wait_tree.proofs.+all_length+any_length.{statement}

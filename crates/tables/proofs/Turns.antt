@@ -4,9 +4,9 @@ use mathlib.Core.List.{List}
 use Prim.Native.Nat.{ℕ, _+_, _-_, _≤_, _<_}
 use native.Mathlib.Omega.{arith}
 use lib.ListN.{getD}
-use Rattle.marks_row.specs.declared.Segment.{Segment}
-use Rattle.marks_row.specs.Segments.{segmentOf, Position, Reached, AtSegment, AtPair}
-use Rattle.marks_row.specs.Tables.{AtGroup}
+use Rattle.tables.specs.declared.Segment.{Segment}
+use Rattle.tables.specs.Segments.{segmentOf, Position, Reached, AtSegment, AtPair}
+use Rattle.tables.specs.Represents.{AtGroup}
 
 -- the segment of a node of shaped tables
 module _ {from kids : List ℕ} {size g : ℕ} {s : Segment} (a : AtGroup from kids size g) (e : s ≡ segmentOf from g) where

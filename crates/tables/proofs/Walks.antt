@@ -8,15 +8,10 @@ use native.Mathlib.Omega.{arith}
 use lib.ListN.{getD}
 use Rattle.runs.specs.Plan.{Plan, Under}
 use Rattle.runs.proofs.Plan.Trees.{Branch, branch}
-use Rattle.marks_row.specs.declared.Segment.{Segment}
-use Rattle.marks_row.specs.Segments.{ChildrenOf, Every}
-use Rattle.marks_row.specs.Walks.{RightUnder}
-use Rattle.marks_row.proofs.Segments.{every-next, every-child}
-
--- what was right is right, and so is every node under the children at the positions from low to i
-pub record RightTo (p : Plan) (kids : List ℕ) (low : ℕ) (R R′ : ℕ → Type 0) (i : ℕ) : Type 0 where
-  pub kept : (m : ℕ) → R m → R′ m
-  pub right : Every kids low i (λ c. (m : ℕ) → Under p c m → R′ m)
+use Rattle.tables.specs.declared.Segment.{Segment}
+use Rattle.tables.specs.Segments.{ChildrenOf}
+use Rattle.tables.specs.Walks.{RightUnder, RightTo}
+use Rattle.tables.proofs.Segments.{every-next, every-child}
 
 module _ {p : Plan} {kids : List ℕ} {low : ℕ} {R : ℕ → Type 0} where
   pub right-none : {i : ℕ} → i ≡ low → RightTo p kids low R R i

@@ -8,11 +8,12 @@ use Prim.Native.Nat.{ℕ, _+_, _*_, _≤_, _<_}
 use lib.ListN.{getD}
 use Rattle.base.specs.Bits.{Says}
 use Rattle.runs.specs.Plan.{task, Place, Plan, Node, Before, kindNumber, placeNumber, signNumber}
-use Rattle.marks_row.specs.Segments.{segmentOf, Position, ChildrenOf}
+use Rattle.tables.specs.Sizes.{NODES, WORDS}
+use Rattle.tables.specs.Segments.{segmentOf, Position, ChildrenOf}
 
 -- the word of a task's conditions at a place and with a sign
 abbrev pub condition : List ℕ → ℕ → Place → Bool → ℕ
-condition conds t k v = getD conds (t * 6 + (2 * placeNumber k + signNumber v)) 0
+condition conds t k v = getD conds (t * WORDS + (2 * placeNumber k + signNumber v)) 0
 
 -- the codes of the table of orders; the code of a and b says that a stands before b, or after b
 abbrev pub beforeCode : ℕ
@@ -22,14 +23,14 @@ abbrev pub afterCode : ℕ
 afterCode = 2
 
 abbrev pub code : List ℕ → ℕ → ℕ → ℕ
-code order a b = getD order (a * 128 + b) 0
+code order a b = getD order (a * NODES + b) 0
 
 -- What the functions ask of the tables so that no index is out of range and each recursion ends: a node is a lower
 -- number than its children.
 pub record Shaped (from kids : List ℕ) (n : ℕ) : Type 0 where
-  pub small : n ≤ 128
+  pub small : n ≤ NODES
   pub starts : (g : ℕ) → g < n → getD from g 0 ≤ getD from (g + 1) 0
-  pub ends : (g : ℕ) → g < n → getD from (g + 1) 0 ≤ 128
+  pub ends : (g : ℕ) → g < n → getD from (g + 1) 0 ≤ NODES
   pub rises : (g i : ℕ) → g < n → Position (segmentOf from g) i → (g < getD kids i 0) × (getD kids i 0 < n)
 
 -- what is asked where a node is worked out: it is one of shaped tables

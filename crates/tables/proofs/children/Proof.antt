@@ -1,8 +1,8 @@
 -- `children` meets its contract. Assumes nothing.
 use mathlib.Core.Path.{refl}
 use borrow.Author.Needs.{needs}
-use Rattle.marks_row.proofs.children.Statement.{statement}
-use Rattle.marks_row.proofs.children.Tie as tie
+use Rattle.tables.proofs.children.Statement.{statement}
+use Rattle.tables.proofs.children.Tie as tie
 
 returns : tie.Need-returns
 returns c = rw (c .before .before .wide .ensures .0, c .wide2 .ensures .0) refl
