@@ -1,2 +1,3 @@
--- The marks of a node as words over the flags.
+-- The marks of a node as words over the flags, from its row and from tables.
 pub mod Words
+pub mod Tables

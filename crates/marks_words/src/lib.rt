@@ -1,18 +1,28 @@
-// The marks of a node as words over the flags, and the literals that fail at the root.
+// The marks of a node as words over the flags, from its row and from any tables that represent a plan; the literals that
+// fail at the root.
 pub mod marks;
 
 ghost use mathlib.Core.Path.{_≡_};
 ghost use Prim.Native.Nat.{_<_};
-ghost use lib.ListN.{getD};
+ghost use lib.ListN.{length, getD};
 ghost use Rattle.tables.specs.Sizes.{NODES};
+ghost use Rattle.tables.specs.Represents.{AtGroup};
+ghost use Rattle.marks_row.specs.Columns.{ROWS};
 ghost use Rattle.marks_words.specs.Words.{firstWords, WordIs, WordsAre, FailsWord};
+ghost use Rattle.marks_words.specs.Tables.{NodeWords};
 use marks::MUST_POST;
 use marks::MUST_PRE;
+use marks_row::ROWS;
 use marks_row::Rows;
 use marks_row::columns;
 use marks_row::must_post;
 use marks_row::must_pre;
 use marks_row::word_at;
+use marks_tree::node_rows;
+use tables::Conditions;
+use tables::Nodes;
+use tables::Orders;
+use tables::Starts;
 
 // The words of a node: by sign and mark.
 pub type Marks = [u64; 16];
@@ -63,6 +73,31 @@ pub fn mark_words(rows: &Rows, node: usize) -> Marks
         k += 1;
     }
     words
+}
+
+fn no_rows() -> Rows
+    ensures { λ r. ⌜ length r ≡ ROWS ⌝ }
+{
+    [0u64; ROWS]
+}
+
+// The words of a node, from any tables that represent a plan: the rows of all nodes, then the words of one.
+pub fn node_words(
+    kind: &Nodes,
+    from: &Starts,
+    kids: &Nodes,
+    order: &Orders,
+    conds: &Conditions,
+    n: usize,
+    node: usize,
+) -> Marks
+    requires { ⌜ AtGroup (now from) (now kids) n 0 × (node < NODES) ⌝ }
+    ensures { λ r. ⌜ NodeWords (now (kind .entry)) (now (from .entry)) (now (kids .entry)) (now (order .entry))
+        (now (conds .entry)) n node r ⌝ }
+{
+    let mut rows = no_rows();
+    node_rows(kind, from, kids, order, conds, &mut rows, n);
+    mark_words(&rows, node)
 }
 
 // The flags with a literal that has one mark, or is false at the start and has the other.

@@ -6,18 +6,13 @@ ghost use Rattle.node_sets.specs.Sets.{AllMarked};
 ghost use Rattle.plan_format.specs.Format.{nodeCount};
 ghost use Rattle.plan_rules.specs.Rules.{refusal};
 ghost use Rattle.summary.specs.Summary.{UnderWords, Refused, Summarised};
-use marks_of_tables::node_words;
 use marks_words::Marks;
 use node_sets::all_nodes;
 use plan_blocked::check_blocked;
 use plan_format::fields::flags;
 use plan_format::fields::nodes;
-use table_all::fill_tables;
+use table_marks::node_marks;
 use tables::Nodes;
-use tables::no_conditions;
-use tables::no_nodes;
-use tables::no_orders;
-use tables::no_starts;
 
 // Refusals 1 to 14, 28, 29, 15 and 17, or 0, and then of the marks those of the nodes that stand.
 fn summary_refused(
@@ -44,36 +39,13 @@ fn summary_refused(
     0
 }
 
-// The marks of a node that stands, as words.
-fn standing_words(plan: &[u8], standing: &Nodes, node: usize) -> Marks
-    requires { ⌜ (refusal (now plan) ≡ 0) × ((node < nodeCount (now plan)) × (getD (now standing) node 0 ≡ 1)) ⌝ }
-    ensures { λ r. ⌜ UnderWords (now (plan .entry)) (now (standing .entry)) node r ⌝ }
-{
-    let mut kind = no_nodes();
-    let mut from = no_starts();
-    let mut kids = no_nodes();
-    let mut order = no_orders();
-    let mut conds = no_conditions();
-    fill_tables(
-        plan,
-        standing,
-        &mut kind,
-        &mut from,
-        &mut kids,
-        &mut order,
-        &mut conds,
-    );
-    let n = nodes(plan);
-    node_words(&kind, &from, &kids, &order, &conds, n, node)
-}
-
 // The marks of a node: none, if it does not stand.
 fn under_words(plan: &[u8], standing: &Nodes, node: usize) -> Marks
     requires { ⌜ (refusal (now plan) ≡ 0) × (node < nodeCount (now plan)) ⌝ }
     ensures { λ r. ⌜ UnderWords (now (plan .entry)) (now (standing .entry)) node r ⌝ }
 {
     if standing[node] == 1 {
-        return standing_words(plan, standing, node);
+        return node_marks(plan, standing, node);
     }
     [0u64; 16]
 }

@@ -16,7 +16,7 @@ use Rattle.runs.specs.Blocked.{without, Blocks, Refused28, Refused29}
 use Rattle.runs.specs.Demand3.{NeverViolates, NeverCompletes}
 use Rattle.runs.specs.Model.Verdicts.{verdict}
 use Rattle.tables.specs.Represents.{Represents}
-use Rattle.marks_words.specs.Words.{StartWord}
+use Rattle.marks_words.specs.Words.{MarkWords, StartWord}
 use Rattle.verdict.specs.declared.Verdict.{Verdict}
 use Rattle.verdict.specs.declared.Verdict.the-variants.{Clear, Doomed, Open}
 use Rattle.verdict.specs.declared.Answer.{Answer}
@@ -32,6 +32,11 @@ wordOf Open = OPEN
 abbrev pub said : Answer → ℕ ⊎ verdicts.Verdict
 said (answers.Refused n) = inl n
 said (answers.Judged v) = inr (wordOf v)
+
+-- the verdict of every well-formed plan of at most 64 flags whose root has these marks
+abbrev pub OfWords : List ℕ → ℕ → Verdict → Type 0
+OfWords words start v = (p : Plan) (F : ℕ → Bool) → WellFormed p → p .cond .flags ≤ 64 → MarkWords p 0 words
+    → StartWord F start → wordOf v ≡ verdict p F
 
 -- the verdict of every well-formed plan of at most 64 flags that the tables represent, whatever flags F a word says to be
 -- set at the start

@@ -4,27 +4,23 @@ ghost use Rattle.plan_rules.specs.Rules.{refusal};
 ghost use Rattle.plan_check.specs.Meaning.{startOf};
 ghost use Rattle.tables.specs.Represents.{AtGroup};
 ghost use Rattle.marks_words.specs.Words.{StartWord};
-ghost use Rattle.verdict.specs.Verdict.{OfTables, OfStanding, Assessed};
-use marks_of_tables::node_words;
+ghost use Rattle.verdict.specs.Verdict.{OfWords, OfTables, OfStanding, Assessed};
+use marks_words::Marks;
 use marks_words::failing;
 use marks_words::marks::MAY_CLOBBER;
 use marks_words::marks::MAY_PRE;
 use marks_words::marks::MUST_CLOBBER;
 use marks_words::marks::MUST_PRE;
+use marks_words::node_words;
 use node_sets::all_nodes;
 use plan_blocked::check_blocked;
 use plan_format::fields::flags;
-use plan_format::fields::nodes;
 use plan_format::fields::start_flag;
-use table_all::fill_tables;
+use table_marks::node_marks;
 use tables::Conditions;
 use tables::Nodes;
 use tables::Orders;
 use tables::Starts;
-use tables::no_conditions;
-use tables::no_nodes;
-use tables::no_orders;
-use tables::no_starts;
 
 pub enum Verdict {
     Clear,
@@ -54,7 +50,20 @@ fn start_word(plan: &[u8]) -> u64
     word
 }
 
-// The verdict of any plan that the tables represent, from the marks of its root.
+// The verdict of any plan whose root has these marks.
+pub fn of_words(words: &Marks, start: u64) -> Verdict
+    ensures { λ r. ⌜ OfWords (now (words .entry)) start r ⌝ }
+{
+    if failing(words, start, MAY_CLOBBER, MAY_PRE) == 0 {
+        return Verdict::Clear;
+    }
+    if failing(words, start, MUST_CLOBBER, MUST_PRE) != 0 {
+        return Verdict::Doomed;
+    }
+    Verdict::Open
+}
+
+// The verdict of any plan that the tables represent.
 pub fn judge_tables(
     kind: &Nodes,
     from: &Starts,
@@ -69,13 +78,7 @@ pub fn judge_tables(
         (now (conds .entry)) n start r ⌝ }
 {
     let words = node_words(kind, from, kids, order, conds, n, 0);
-    if failing(&words, start, MAY_CLOBBER, MAY_PRE) == 0 {
-        return Verdict::Clear;
-    }
-    if failing(&words, start, MUST_CLOBBER, MUST_PRE) != 0 {
-        return Verdict::Doomed;
-    }
-    Verdict::Open
+    of_words(&words, start)
 }
 
 // The verdict on an accepted plan of which the marked nodes stand.
@@ -83,23 +86,9 @@ pub fn judge(plan: &[u8], standing: &Nodes) -> Verdict
     requires { ⌜ refusal (now plan) ≡ 0 ⌝ }
     ensures { λ r. ⌜ OfStanding (now (plan .entry)) (now (standing .entry)) r ⌝ }
 {
-    let mut kind = no_nodes();
-    let mut from = no_starts();
-    let mut kids = no_nodes();
-    let mut order = no_orders();
-    let mut conds = no_conditions();
-    fill_tables(
-        plan,
-        standing,
-        &mut kind,
-        &mut from,
-        &mut kids,
-        &mut order,
-        &mut conds,
-    );
-    let n = nodes(plan);
+    let words = node_marks(plan, standing, 0);
     let start = start_word(plan);
-    judge_tables(&kind, &from, &kids, &order, &conds, n, start)
+    of_words(&words, start)
 }
 
 // A refusal, 1 to 14, 28 or 29, or the verdict on what is left of the plan without the blocked nodes.

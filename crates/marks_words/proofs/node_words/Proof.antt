@@ -1,7 +1,7 @@
 -- `node_words` meets its contract. Assumes nothing.
 use native.Mathlib.Omega.{arith}
-use Rattle.marks_of_tables.proofs.node_words.Statement.{statement}
-use Rattle.marks_of_tables.proofs.node_words.Tie as tie
+use Rattle.marks_words.proofs.node_words.Statement.{statement}
+use Rattle.marks_words.proofs.node_words.Tie as tie
 
 pub node-words-spec : {M : Type 1} → statement M
 node-words-spec = tie.close (tie.spec

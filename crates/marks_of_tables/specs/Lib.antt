@@ -1,2 +1,0 @@
--- The marks of a node, from tables.
-pub mod Tables

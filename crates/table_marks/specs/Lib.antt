@@ -1,0 +1,2 @@
+-- The marks of a node of what is left of a plan.
+pub mod Marks

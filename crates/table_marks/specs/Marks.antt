@@ -1,0 +1,14 @@
+-- The marks of a node of what is left of a plan, as words. Definitions only.
+use mathlib.Core.Bool.{Bool}
+use mathlib.Core.List.{List}
+use Prim.Native.Nat.{ℕ}
+use Rattle.runs.specs.Plan.{Node}
+use Rattle.runs.specs.Blocked.{without, Blocks}
+use Rattle.plan_check.specs.Meaning.{planOf}
+use Rattle.plan_blocked.specs.Blocked.{Standing}
+use Rattle.marks_words.specs.Words.{MarkWords}
+
+-- of any blocked nodes S, if a table marks the nodes that stand
+abbrev pub LeftWords : List ℕ → List ℕ → ℕ → List ℕ → Type 0
+LeftWords b standing n words = (S : ℕ → Bool) → Blocks (planOf b) S → Standing b S standing
+    → Node (without (planOf b) S) n → MarkWords (without (planOf b) S) n words

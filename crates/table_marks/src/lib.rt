@@ -1,0 +1,38 @@
+// The marks of a node of what is left of an accepted plan.
+ghost use mathlib.Core.Path.{_≡_};
+ghost use Prim.Native.Nat.{_<_};
+ghost use Rattle.plan_format.specs.Format.{nodeCount};
+ghost use Rattle.plan_rules.specs.Rules.{refusal};
+ghost use Rattle.table_marks.specs.Marks.{LeftWords};
+use marks_words::Marks;
+use marks_words::node_words;
+use plan_format::fields::nodes;
+use table_all::fill_tables;
+use tables::Nodes;
+use tables::no_conditions;
+use tables::no_nodes;
+use tables::no_orders;
+use tables::no_starts;
+
+// The marks of a node as words, of the plan of which the marked nodes stand: blank tables, filled and asked.
+pub fn node_marks(plan: &[u8], standing: &Nodes, node: usize) -> Marks
+    requires { ⌜ (refusal (now plan) ≡ 0) × (node < nodeCount (now plan)) ⌝ }
+    ensures { λ r. ⌜ LeftWords (now (plan .entry)) (now (standing .entry)) node r ⌝ }
+{
+    let mut kind = no_nodes();
+    let mut from = no_starts();
+    let mut kids = no_nodes();
+    let mut order = no_orders();
+    let mut conds = no_conditions();
+    fill_tables(
+        plan,
+        standing,
+        &mut kind,
+        &mut from,
+        &mut kids,
+        &mut order,
+        &mut conds,
+    );
+    let n = nodes(plan);
+    node_words(&kind, &from, &kids, &order, &conds, n, node)
+}
