@@ -19,11 +19,10 @@ use Rattle.marks_row.specs.Tasks.{Task}
 use Rattle.marks_siblings.specs.Group.{Group}
 use Rattle.marks_row.proofs.Rows.{index-small, written-right, written-keeps}
 use Rattle.tables.proofs.Segments.{has-children, listed, every-child}
-use Rattle.tables.specs.Walks.{RightTo}
 use Rattle.tables.proofs.Walks.{right-none, right-more, right-all}
 use Rattle.marks_group.specs.Groups.{AnyRow}
 use Rattle.marks_tree.specs.Clobbers.{AllOfRow}
-use Rattle.marks_tree.specs.Filled.{Given, Filled, TasksFilled, AllFilled}
+use Rattle.marks_tree.specs.Filled.{Given, OfAny, ChildrenTo, Filled, TasksFilled, AllFilled}
 
 -- in every plan that the table of kinds represents, the kind of c is in K
 abbrev pub OfKind : List ℕ → ℕ → (Kind → Type 0) → Type 0
@@ -57,24 +56,25 @@ task-filled {node = node} e = record {
   };
 }
 
-module _ (kind from kids order : List ℕ) (n node : ℕ) (segment : Segment) where
-  -- the children at the positions before i are worked out, with all under them
-  pub record ChildrenTo (rows₀ rows : List ℕ) (i : ℕ) : Type 0 where
-    pub long : length rows ≡ 2944
-    pub walked : (p : Plan) → Given kind from kids order rows₀ n node p
-        → RightTo p kids (segment .start) (Right p rows₀) (Right p rows) i
+-- the kind is known
+pub any-kind : {kind from kids order rows rows′ : List ℕ} {n node : ℕ} {K : Kind → Type 0} → OfKind kind node K
+    → Filled K kind from kids order rows rows′ n node → Filled OfAny kind from kids order rows rows′ n node
+any-kind is x = record { long = x .long; under = λ p g k. x .under p g (is p (g .kinds) (g .is-node)) }
 
-  pub children-none : (rows : List ℕ) → length rows ≡ 2944 → ChildrenTo rows rows (segment .start)
+module _ (kind from kids order : List ℕ) (n node : ℕ) (segment : Segment) where
+  pub children-none : (rows : List ℕ) → length rows ≡ 2944
+      → ChildrenTo kind from kids order n node segment rows rows (segment .start)
   children-none rows e = record { long = e; walked = λ p g. right-none refl }
 
   -- one child more
-  pub child-more : {rows₀ rows rows′ rows″ : List ℕ} {i c : ℕ} {K : Kind → Type 0} → segment ≡ segmentOf from node
-      → c ≡ getD kids i 0 → Position segment i → ChildrenTo rows₀ rows i → rows″ ≡ rows′
-      → OfKind kind c K → Filled K kind from kids order rows rows′ n c → ChildrenTo rows₀ rows″ (i + 1)
-  child-more {rows₀} {rows} {c = c} {K = K} z e at h q is x = rw q (record {
+  pub child-more : {rows₀ rows rows′ : List ℕ} {i c : ℕ} → segment ≡ segmentOf from node → c ≡ getD kids i 0
+      → Position segment i → ChildrenTo kind from kids order n node segment rows₀ rows i
+      → Filled OfAny kind from kids order rows rows′ n c
+      → ChildrenTo kind from kids order n node segment rows₀ rows′ (i + 1)
+  child-more {rows₀} {rows} {c = c} z e at h x = record {
     long = x .long;
-    walked = λ p g. right-more (at .low) e (h .walked p g) (x .under p (given p g) (kn p g));
-  })
+    walked = λ p g. right-more (at .low) e (h .walked p g) (x .under p (given p g) tt);
+  }
     where
       given : (p : Plan) → Given kind from kids order rows₀ n node p → Given kind from kids order rows n c p
       given p g = record {
@@ -86,11 +86,9 @@ module _ (kind from kids order : List ℕ) (n node : ℕ) (segment : Segment) wh
         tasks = λ t l k. h .walked p g .kept t (g .tasks t l k);
       }
 
-      kn : (p : Plan) → Given kind from kids order rows₀ n node p → K (p .tree .kind c)
-      kn p g = is p (g .kinds) (given p g .is-node)
-
   module _ {rows₀ rows rows′ words : List ℕ} (z : segment ≡ segmentOf from node)
-      (h : ChildrenTo rows₀ rows (segment .end)) (x : Written rows rows′ node words) where
+      (h : ChildrenTo kind from kids order n node segment rows₀ rows (segment .end))
+      (x : Written rows rows′ node words) where
     -- all children are right
     group : (p : Plan) → Given kind from kids order rows₀ n node p → Group kids segment rows p node
     group p g = record {
@@ -150,13 +148,11 @@ module _ {kind conds rows : List ℕ} where
       at p w k c t l n q (no ne) = h .right p w k c t (omega arith) n q
 
 -- all nodes, once the root is worked out
-pub all-nodes : {kind from kids order conds rows rows′ : List ℕ} {n : ℕ} {K : Kind → Type 0}
-    → TasksFilled kind conds rows n
-    → OfKind kind 0 K
-    → Filled K kind from kids order rows rows′ n 0 → AllFilled kind from kids order conds rows′ n
-all-nodes {kind} {from} {kids} {order} {conds} {rows} {n = n} t is x = record {
+pub all-nodes : {kind from kids order conds rows rows′ : List ℕ} {n : ℕ} → TasksFilled kind conds rows n
+    → Filled OfAny kind from kids order rows rows′ n 0 → AllFilled kind from kids order conds rows′ n
+all-nodes {kind} {from} {kids} {order} {conds} {rows} {n = n} t x = record {
   long = x .long;
-  right = λ p w r m l. x .under p (given p w r) (is p (r .kinds) (w .root-node)) .right m (under-root p w m l);
+  right = λ p w r m l. x .under p (given p w r) tt .right m (under-root p w m l);
 }
   where
     given : (p : Plan) → WellFormed p → Represents kind from kids order conds n p

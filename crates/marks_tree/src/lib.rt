@@ -1,15 +1,16 @@
-// The rows of a plan's nodes, by functions that call each other: for all-of groups, and for any-of and optional groups.
+// The rows of a plan's nodes, by functions that call each other: for all-of groups, and for any-of and optional groups;
+// for the children of a group, and for a node of either kind.
 ghost use mathlib.Core.Path.{_≡_};
 ghost use Prim.Native.Nat.{_≤_, _<_};
 ghost use lib.ListN.{length};
 ghost use Rattle.runs.specs.Plan.{all-of, Picks};
 ghost use Rattle.marks_row.specs.Columns.{RowIs};
-ghost use Rattle.tables.specs.Segments.{AtSegment};
+ghost use Rattle.tables.specs.Segments.{segmentOf, AtSegment};
 ghost use Rattle.tables.specs.Represents.{AtGroup};
 ghost use Rattle.marks_row.specs.Columns.{ROWS};
 ghost use Rattle.tables.specs.Sizes.{NODES};
 ghost use Rattle.marks_tree.specs.Clobbers.{AllOfRow, OpenLiterals, clobberOf, Ored};
-ghost use Rattle.marks_tree.specs.Filled.{Filled, TasksFilled, AllFilled};
+ghost use Rattle.marks_tree.specs.Filled.{OfAny, ChildrenTo, Filled, TasksFilled, AllFilled};
 use base::kinds::ALL_OF;
 use base::kinds::TASK;
 use base::wide;
@@ -110,6 +111,52 @@ fn all_row(kids: &Nodes, segment: Segment, order: &Orders, rows: &Rows) -> Words
     ored(words, clobbers)
 }
 
+// Works out the rows of a node and of all under it, those of the tasks excepted.
+fn group(
+    kind: &Nodes,
+    from: &Starts,
+    kids: &Nodes,
+    order: &Orders,
+    rows: &mut Rows,
+    n: usize,
+    node: usize,
+)
+    requires { ⌜ AtGroup (now from) (now kids) n node × (length (now rows) ≡ ROWS) ⌝ }
+    ensures { λ r. ⌜ Filled OfAny (now (kind .entry)) (now (from .entry)) (now (kids .entry)) (now (order .entry))
+        (now (rows .entry)) (now (rows .exit)) n node ⌝ }
+{
+    let k = kind[node];
+    if k == ALL_OF {
+        all_of(kind, from, kids, order, rows, n, node);
+    } else if k != TASK {
+        any_of(kind, from, kids, order, rows, n, node);
+    }
+}
+
+// Works out the rows of all groups under a group, child by child, and answers where its children are.
+fn groups_under(
+    kind: &Nodes,
+    from: &Starts,
+    kids: &Nodes,
+    order: &Orders,
+    rows: &mut Rows,
+    n: usize,
+    node: usize,
+) -> Segment
+    requires { ⌜ AtGroup (now from) (now kids) n node × (length (now rows) ≡ ROWS) ⌝ }
+    ensures { λ r. ⌜ (r ≡ segmentOf (now (from .entry)) node) × ChildrenTo (now (kind .entry)) (now (from .entry))
+        (now (kids .entry)) (now (order .entry)) n node r (now (rows .entry)) (now (rows .exit)) (r .end) ⌝ }
+{
+    let segment = children(from, node);
+    let mut i = segment.start;
+    while i < segment.end {
+        let child = wide(kids[i]);
+        group(kind, from, kids, order, rows, n, child);
+        i += 1;
+    }
+    segment
+}
+
 // Works out the rows of a node and of all under it, those of the tasks excepted, if the node is an all-of group.
 fn all_of(
     kind: &Nodes,
@@ -125,18 +172,7 @@ fn all_of(
         (now (order .entry))
         (now (rows .entry)) (now (rows .exit)) n node ⌝ }
 {
-    let segment = children(from, node);
-    let mut i = segment.start;
-    while i < segment.end {
-        let child = wide(kids[i]);
-        let k = kind[child];
-        if k == ALL_OF {
-            all_of(kind, from, kids, order, rows, n, child);
-        } else if k != TASK {
-            any_of(kind, from, kids, order, rows, n, child);
-        }
-        i += 1;
-    }
+    let segment = groups_under(kind, from, kids, order, rows, n, node);
     let words = all_row(kids, segment, order, rows);
     write_row(rows, node, words);
 }
@@ -156,18 +192,7 @@ fn any_of(
     ensures { λ r. ⌜ Filled Picks (now (kind .entry)) (now (from .entry)) (now (kids .entry)) (now (order .entry))
         (now (rows .entry)) (now (rows .exit)) n node ⌝ }
 {
-    let segment = children(from, node);
-    let mut i = segment.start;
-    while i < segment.end {
-        let child = wide(kids[i]);
-        let k = kind[child];
-        if k == ALL_OF {
-            all_of(kind, from, kids, order, rows, n, child);
-        } else if k != TASK {
-            any_of(kind, from, kids, order, rows, n, child);
-        }
-        i += 1;
-    }
+    let segment = groups_under(kind, from, kids, order, rows, n, node);
     let words = any_words(kind[node], kids, segment, rows);
     write_row(rows, node, words);
 }
@@ -202,10 +227,5 @@ pub fn node_rows(
         (now (conds .entry)) (now (rows .exit)) n ⌝ }
 {
     task_rows(kind, conds, rows, n);
-    let root = kind[0];
-    if root == ALL_OF {
-        all_of(kind, from, kids, order, rows, n, 0);
-    } else if root != TASK {
-        any_of(kind, from, kids, order, rows, n, 0);
-    }
+    group(kind, from, kids, order, rows, n, 0);
 }

@@ -20,13 +20,12 @@ use Rattle.plan_check.proofs.Meaning.{kind-of, kind-task, means-well-formed}
 use Rattle.plan_check.proofs.Nodes.{is-node, plan-kind}
 use Rattle.tables.specs.declared.Segment.{Segment}
 use Rattle.tables.specs.Segments.{segmentOf, Position}
-use Rattle.tables.specs.Walks.{RightTo}
 use Rattle.tables.proofs.Walks.{right-none, right-more, right-all}
 use Rattle.table_children.specs.Children.{TreeOf}
 use Rattle.table_children.proofs.Listed.{its-children, every-listed}
 use Rattle.wait_lengths.specs.Waits.{lengthOf, waitWithin}
 use Rattle.wait_group.specs.Spread.{GroupOf, Tables, ChildLengths, Spread}
-use Rattle.wait_tree.specs.Filled.{Done, Worked, AllWorked}
+use Rattle.wait_tree.specs.Filled.{Done, ChildrenTo, Worked, AllWorked}
 use Rattle.wait_lengths.proofs.Laws.{choice-is, choice-of, child-lower}
 use Rattle.wait_lengths.proofs.Bounds.{own-child, group-kind, wait-any, wait-root}
 
@@ -82,11 +81,6 @@ task-worked {t = t} e l k s = record {
 }
 
 -- ---- the children at the positions before i, with all under them
-pub record ChildrenTo (b kids : List ℕ) (segment : Segment) (lengths₀ waits₀ lengths waits : List ℕ)
-    (i : ℕ) : Type 0 where
-  pub tables : Tables b lengths waits
-  pub walked : RightTo (planOf b) kids (segment .start) (Done b lengths₀ waits₀) (Done b lengths waits) i
-
 module _ {b kids : List ℕ} {segment : Segment} {lengths₀ waits₀ : List ℕ} where
   pub children-none : Tables b lengths₀ waits₀
       → ChildrenTo b kids segment lengths₀ waits₀ lengths₀ waits₀ (segment .start)

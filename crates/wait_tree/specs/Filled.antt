@@ -7,7 +7,8 @@ use lib.ListN.{length, getD}
 use Rattle.plan_format.specs.Format.{nodeCount}
 use Rattle.plan_rules.specs.Rules.{isChild}
 use Rattle.plan_check.specs.Meaning.{planOf}
-use Rattle.tables.specs.Walks.{RightUnder}
+use Rattle.tables.specs.declared.Segment.{Segment}
+use Rattle.tables.specs.Walks.{RightUnder, RightTo}
 use Rattle.wait_lengths.specs.Waits.{lengthOf, waitWithin, longestWait}
 use Rattle.wait_group.specs.Spread.{Tables}
 use Rattle.tables.specs.Sizes.{NODES}
@@ -16,6 +17,12 @@ use Rattle.tables.specs.Sizes.{NODES}
 pub record Done (b lengths waits : List ℕ) (n : ℕ) : Type 0 where
   pub own : getD lengths n 0 ≡ lengthOf b n
   pub children : (c : ℕ) → isChild b n c ≡ true → getD waits c 0 ≡ waitWithin b c
+
+-- the children at the positions before i are worked out, with all under them
+pub record ChildrenTo (b kids : List ℕ) (segment : Segment) (lengths₀ waits₀ lengths waits : List ℕ)
+    (i : ℕ) : Type 0 where
+  pub tables : Tables b lengths waits
+  pub walked : RightTo (planOf b) kids (segment .start) (Done b lengths₀ waits₀) (Done b lengths waits) i
 
 -- what was worked out still is, and so is every node under n
 pub record Worked (b lengths waits lengths′ waits′ : List ℕ) (n : ℕ) : Type 0 where

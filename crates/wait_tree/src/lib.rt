@@ -1,6 +1,7 @@
 // Lengths and longest waits of an accepted plan, by functions for all-of groups and for any-of and optional groups that
-// call each other.
+// call each other, by way of one that goes over the children.
 ghost use mathlib.Core.Path.{_≡_};
+ghost use mathlib.Core.Bool.{true};
 ghost use lib.ListN.{length};
 ghost use Rattle.plan_format.specs.Format.{isKind, isChoice};
 ghost use Rattle.plan_rules.specs.Rules.{refusal};
@@ -9,7 +10,8 @@ ghost use Rattle.table_children.specs.Children.{TreeOf};
 ghost use Rattle.wait_lengths.specs.Waits.{lengthOf};
 ghost use Rattle.wait_group.specs.Spread.{GroupOf, Tables};
 ghost use Rattle.tables.specs.Sizes.{NODES};
-ghost use Rattle.wait_tree.specs.Filled.{Worked, AllWorked, Within, Longest};
+ghost use Rattle.tables.specs.Segments.{segmentOf};
+ghost use Rattle.wait_tree.specs.Filled.{ChildrenTo, Worked, AllWorked, Within, Longest};
 use base::kinds::ALL_OF;
 use base::kinds::TASK;
 use base::wide;
@@ -28,6 +30,34 @@ use tables::no_times;
 use wait_group::longest_child;
 use wait_group::spread;
 
+// Works out all groups under a group, child by child.
+fn groups_under(
+    plan: &[u8],
+    from: &Starts,
+    kids: &Nodes,
+    lengths: &mut Times,
+    waits: &mut Times,
+    node: usize,
+)
+    requires { ⌜ GroupOf (now plan) (now from) (now kids) true node × Tables (now plan) (now lengths) (now waits) ⌝ }
+    ensures { λ r. ⌜ ChildrenTo (now (plan .entry)) (now (kids .entry)) (segmentOf (now (from .entry)) node)
+        (now (lengths .entry)) (now (waits .entry)) (now (lengths .exit)) (now (waits .exit))
+        (segmentOf (now (from .entry)) node .end) ⌝ }
+{
+    let segment = children(from, node);
+    let mut i = segment.start;
+    while i < segment.end {
+        let child = wide(kids[i]);
+        let k = kind(plan, child);
+        if k == ALL_OF {
+            all_length(plan, from, kids, lengths, waits, child);
+        } else if k != TASK {
+            any_length(plan, from, kids, lengths, waits, child);
+        }
+        i += 1;
+    }
+}
+
 // Works out an all-of group and all groups under it: the lengths, and the waits of the children.
 fn all_length(
     plan: &[u8],
@@ -42,18 +72,7 @@ fn all_length(
     ensures { λ r. ⌜ Worked (now (plan .entry)) (now (lengths .entry)) (now (waits .entry)) (now (lengths .exit))
         (now (waits .exit)) node ⌝ }
 {
-    let segment = children(from, node);
-    let mut i = segment.start;
-    while i < segment.end {
-        let child = wide(kids[i]);
-        let k = kind(plan, child);
-        if k == ALL_OF {
-            all_length(plan, from, kids, lengths, waits, child);
-        } else if k != TASK {
-            any_length(plan, from, kids, lengths, waits, child);
-        }
-        i += 1;
-    }
+    groups_under(plan, from, kids, lengths, waits, node);
     let longest = spread(plan, from, kids, lengths, waits, node);
     lengths[node] = longest;
 }
@@ -72,18 +91,7 @@ fn any_length(
     ensures { λ r. ⌜ Worked (now (plan .entry)) (now (lengths .entry)) (now (waits .entry)) (now (lengths .exit))
         (now (waits .exit)) node ⌝ }
 {
-    let segment = children(from, node);
-    let mut i = segment.start;
-    while i < segment.end {
-        let child = wide(kids[i]);
-        let k = kind(plan, child);
-        if k == ALL_OF {
-            all_length(plan, from, kids, lengths, waits, child);
-        } else if k != TASK {
-            any_length(plan, from, kids, lengths, waits, child);
-        }
-        i += 1;
-    }
+    groups_under(plan, from, kids, lengths, waits, node);
     let longest = longest_child(plan, from, kids, lengths, node);
     lengths[node] = longest;
 }
