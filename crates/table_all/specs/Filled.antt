@@ -8,10 +8,11 @@ use lib.ListN.{getD, set}
 use Rattle.base.specs.Zeros.{Zeros}
 use Rattle.plan_format.specs.Format.{nodeCount}
 use Rattle.plan_check.specs.Meaning.{planOf}
-use Rattle.tables.specs.Represents.{Shaped, Represents, RepresentsKinds, RepresentsOrder, RepresentsConditions}
+use Rattle.tables.specs.Represents.{Represents, RepresentsKinds, RepresentsOrder, RepresentsConditions}
 use Rattle.runs.specs.Blocked.{without, Blocks}
 use Rattle.plan_blocked.specs.Blocked.{Standing}
 use Rattle.table_orders.specs.Links.{Linked, Leading}
+use Rattle.table_children.specs.Children.{TreeIn, planWith}
 use Rattle.plan_reader.specs.declared.items.Item.{Item}
 use Rattle.plan_reader.specs.declared.items.Item.the-variants as item
 use Rattle.tables.specs.Sizes.{NODES, STARTS, PAIRS, CONDITIONS}
@@ -27,7 +28,7 @@ pub record Fresh (kind from kids order conds : List ℕ) : Type 0 where
 -- tables of the plan that the bytes b mean, without the blocked nodes: of any blocked nodes S, if a table marks the nodes
 -- that stand
 pub record TablesOf (b standing kind from kids order conds : List ℕ) : Type 0 where
-  pub shaped : Shaped from kids (nodeCount b)
+  pub children : TreeIn (planWith b standing) (nodeCount b) from kids
   pub represents : (S : ℕ → Bool) → Blocks (planOf b) S → Standing b S standing
       → Represents kind from kids order conds (nodeCount b) (without (planOf b) S)
 

@@ -6,9 +6,16 @@ use Rattle.runs.specs.Plan.{Node}
 use Rattle.runs.specs.Blocked.{without, Blocks}
 use Rattle.plan_check.specs.Meaning.{planOf}
 use Rattle.plan_blocked.specs.Blocked.{Standing}
+use Rattle.plan_format.specs.Format.{nodeCount}
 use Rattle.marks_words.specs.Words.{MarkWords}
+use Rattle.table_children.specs.Children.{TreeIn, planWith}
 
 -- of any blocked nodes S, if a table marks the nodes that stand
 abbrev pub LeftWords : List ℕ → List ℕ → ℕ → List ℕ → Type 0
 LeftWords b standing n words = (S : ℕ → Bool) → Blocks (planOf b) S → Standing b S standing
     → Node (without (planOf b) S) n → MarkWords (without (planOf b) S) n words
+
+-- with the table of the children that stand
+pub record WordsAndTree (b standing from kids : List ℕ) (n : ℕ) (words : List ℕ) : Type 0 where
+  pub marks : LeftWords b standing n words
+  pub children : TreeIn (planWith b standing) (nodeCount b) from kids

@@ -21,7 +21,7 @@ use Rattle.node_sets.specs.Sets.{AllMarked}
 use Rattle.runs.specs.Tests.{listed}
 use Rattle.runs.specs.Plan.{Plan, WellFormed}
 use Rattle.runs.specs.Blocked.{without, blockedRefusal}
-use Rattle.runs.proofs.Blocked.Branches.{refusal-28, refusal-29, blocks-nothing}
+use Rattle.runs.proofs.Blocked.Branches.{refusal-28, refusal-29, blocks-nothing, blocked-well-formed}
 use Rattle.runs.specs.Summary.{Mark, may-pre, must-pre, may-clobber, must-clobber}
 use Rattle.runs.specs.Verdict as verdicts
 use Rattle.runs.specs.Verdict.{CLEAR, DOOMED, OPEN, Fails, Judged}
@@ -32,10 +32,11 @@ use Rattle.runs.proofs.Verdict.Exact.{MayFail, MustFail, SomeLiteral, may-fail-
 use Rattle.runs.proofs.Verdict.Exact.{clear-is, doomed-is, verdict-exact}
 use Rattle.runs.proofs.Calls.Demand3.{demand3}
 use Rattle.marks_words.specs.Words.{MarkWords, StartWord, FailsWord}
+use Rattle.table_marks.specs.Marks.{LeftWords}
 use Rattle.verdict.specs.declared.Verdict.{Verdict}
 use Rattle.verdict.specs.declared.Answer.{Answer}
 use Rattle.verdict.specs.declared.Answer.the-variants.{Refused, Judged as Given}
-use Rattle.verdict.specs.Verdict.{wordOf, said, OfStanding, answerOf, Assessed}
+use Rattle.verdict.specs.Verdict.{wordOf, said, OfWords, OfStanding, answerOf, Assessed}
 
 -- ---- a word without bits: no literal fails
 module _ (p : Plan) (F : ℕ → Bool) (m k : Mark) {w : ℕ} where
@@ -92,6 +93,13 @@ module _ (p : Plan) (w : WellFormed p) (l : p .cond .flags ≤ 64) (F : ℕ → 
 -- the plan that is left has no more flags
 pub left-flags : (b : List ℕ) → refusal b ≡ 0 → (S : ℕ → Bool) → without (planOf b) S .cond .flags ≤ 64
 left-flags b ok S = omega (arith, means b ok .flags, clean b ok .fits .limits .flags)
+
+-- from the marks of the root of what is left
+pub of-marks : {b table words : List ℕ} {start : ℕ} (v : Verdict) → refusal b ≡ 0 → LeftWords b table 0 words
+    → StartWord (startOf b) start → OfWords words start v → OfStanding b table v
+of-marks {b} v ok m s o S k h =
+    let w = blocked-well-formed (planOf b) (means-well-formed b ok) S k in
+    o (without (planOf b) S) (startOf b) w (left-flags b ok S) (m S k h (w .root-node)) s
 
 -- with every node marked the verdict is that of the whole plan
 pub whole-verdict : (b : List ℕ) → refusal b ≡ 0 → (table : List ℕ) → AllMarked table → (v : Verdict)

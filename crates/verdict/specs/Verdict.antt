@@ -15,7 +15,6 @@ use Rattle.runs.specs.Verdict.{CLEAR, DOOMED, OPEN, Judged}
 use Rattle.runs.specs.Blocked.{without, Blocks, Refused28, Refused29}
 use Rattle.runs.specs.Demand3.{NeverViolates, NeverCompletes}
 use Rattle.runs.specs.Model.Verdicts.{verdict}
-use Rattle.tables.specs.Represents.{Represents}
 use Rattle.marks_words.specs.Words.{MarkWords, StartWord}
 use Rattle.verdict.specs.declared.Verdict.{Verdict}
 use Rattle.verdict.specs.declared.Verdict.the-variants.{Clear, Doomed, Open}
@@ -33,16 +32,11 @@ abbrev pub said : Answer → ℕ ⊎ verdicts.Verdict
 said (answers.Refused n) = inl n
 said (answers.Judged v) = inr (wordOf v)
 
--- the verdict of every well-formed plan of at most 64 flags whose root has these marks
+-- the verdict of every well-formed plan of at most 64 flags whose root has these marks, whatever flags F a word says to
+-- be set at the start
 abbrev pub OfWords : List ℕ → ℕ → Verdict → Type 0
 OfWords words start v = (p : Plan) (F : ℕ → Bool) → WellFormed p → p .cond .flags ≤ 64 → MarkWords p 0 words
     → StartWord F start → wordOf v ≡ verdict p F
-
--- the verdict of every well-formed plan of at most 64 flags that the tables represent, whatever flags F a word says to be
--- set at the start
-abbrev pub OfTables : List ℕ → List ℕ → List ℕ → List ℕ → List ℕ → ℕ → ℕ → Verdict → Type 0
-OfTables kind from kids order conds n start v = (p : Plan) (F : ℕ → Bool) → WellFormed p → p .cond .flags ≤ 64
-    → Represents kind from kids order conds n p → StartWord F start → wordOf v ≡ verdict p F
 
 -- the verdict of the plan that the bytes b mean, without the blocked nodes: of any blocked nodes S, if a table marks the
 -- nodes that stand

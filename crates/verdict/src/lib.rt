@@ -2,25 +2,20 @@
 ghost use mathlib.Core.Path.{_≡_};
 ghost use Rattle.plan_rules.specs.Rules.{refusal};
 ghost use Rattle.plan_check.specs.Meaning.{startOf};
-ghost use Rattle.tables.specs.Represents.{AtGroup};
 ghost use Rattle.marks_words.specs.Words.{StartWord};
-ghost use Rattle.verdict.specs.Verdict.{OfWords, OfTables, OfStanding, Assessed};
+ghost use Rattle.verdict.specs.Verdict.{OfWords, OfStanding, Assessed};
 use marks_words::Marks;
 use marks_words::failing;
 use marks_words::marks::MAY_CLOBBER;
 use marks_words::marks::MAY_PRE;
 use marks_words::marks::MUST_CLOBBER;
 use marks_words::marks::MUST_PRE;
-use marks_words::node_words;
 use node_sets::all_nodes;
 use plan_blocked::check_blocked;
 use plan_format::fields::flags;
 use plan_format::fields::start_flag;
 use table_marks::node_marks;
-use tables::Conditions;
 use tables::Nodes;
-use tables::Orders;
-use tables::Starts;
 
 pub enum Verdict {
     Clear,
@@ -34,7 +29,7 @@ pub enum Answer {
 }
 
 // The flags that are set at the start, as a word.
-fn start_word(plan: &[u8]) -> u64
+pub fn start_word(plan: &[u8]) -> u64
     requires { ⌜ refusal (now plan) ≡ 0 ⌝ }
     ensures { λ r. ⌜ StartWord (startOf (now (plan .entry))) r ⌝ }
 {
@@ -61,24 +56,6 @@ pub fn of_words(words: &Marks, start: u64) -> Verdict
         return Verdict::Doomed;
     }
     Verdict::Open
-}
-
-// The verdict of any plan that the tables represent.
-pub fn judge_tables(
-    kind: &Nodes,
-    from: &Starts,
-    kids: &Nodes,
-    order: &Orders,
-    conds: &Conditions,
-    n: usize,
-    start: u64,
-) -> Verdict
-    requires { ⌜ AtGroup (now from) (now kids) n 0 ⌝ }
-    ensures { λ r. ⌜ OfTables (now (kind .entry)) (now (from .entry)) (now (kids .entry)) (now (order .entry))
-        (now (conds .entry)) n start r ⌝ }
-{
-    let words = node_words(kind, from, kids, order, conds, n, 0);
-    of_words(&words, start)
 }
 
 // The verdict on an accepted plan of which the marked nodes stand.

@@ -19,13 +19,10 @@ use plan_format::fields::kind;
 use plan_format::fields::minutes;
 use plan_format::fields::nodes;
 use plan_format::fields::parent;
-use table_children::fill_all_children;
 use tables::Nodes;
 use tables::Starts;
 use tables::Times;
 use tables::children;
-use tables::no_nodes;
-use tables::no_starts;
 use tables::no_times;
 use wait_group::longest_child;
 use wait_group::spread;
@@ -143,16 +140,13 @@ fn add_waits(plan: &[u8], waits: &mut Times)
     }
 }
 
-// The longest waits of all nodes, and the length of the root.
-pub fn longest_waits(plan: &[u8], waits: &mut Times) -> u32
-    requires { ⌜ (refusal (now plan) ≡ 0) × Zeros NODES (now waits) ⌝ }
+// The longest waits of all nodes, and the length of the root, from the table of children.
+pub fn longest_waits(plan: &[u8], from: &Starts, kids: &Nodes, waits: &mut Times) -> u32
+    requires { ⌜ (refusal (now plan) ≡ 0) × TreeOf (now plan) (now from) (now kids) × Zeros NODES (now waits) ⌝ }
     ensures { λ r. ⌜ Longest (now (plan .entry)) (now (waits .exit)) × (r ≡ lengthOf (now (plan .entry)) 0) ⌝ }
 {
-    let mut from = no_starts();
-    let mut kids = no_nodes();
-    fill_all_children(plan, &mut from, &mut kids);
     let mut lengths = no_times();
-    work_out(plan, &from, &kids, &mut lengths, waits);
+    work_out(plan, from, kids, &mut lengths, waits);
     add_waits(plan, waits);
     lengths[0]
 }

@@ -3,7 +3,6 @@ use mathlib.Core.Path.{_≡_, sym, _∙_}
 use native.Mathlib.Omega.{arith}
 use denote.Ref.{now}
 use Rattle.plan_rules.specs.Rules.{refusal}
-use Rattle.verdict.proofs.Judging.{whole-verdict}
 use Rattle.listing.proofs.Answers.{lists-refused, lists-short, lists-text}
 use borrow.Author.Needs.{needs}
 use Rattle.listing.proofs.listing.Statement.{statement}
@@ -18,26 +17,15 @@ returns c = let e = c .before .check .ensures in lists-refused _ _ e (λ z. c .i
 returns-2 : tie.Need-returns-2
 returns-2 c = lists-short _ _ (passed (c .before)) (omega (arith, c .if2 .taken))
 
--- with nothing blocked the verdict is that of the plan
-judge-requires : tie.Need-judge-requires
-judge-requires c κs = passed (c .before .before .before)
-
-write-text-requires : tie.Need-write-text-requires
-write-text-requires c κs =
-    let i = c .before .before .before .before in
-    let p = passed (i .before) in (
-      p,
-      whole-verdict _ p _ (c .before .before .before .all-nodes .ensures)
-          (c .before .judge .result) (c .before .judge .ensures),
-      omega (arith, i .if2 .left),
-    )
+write-listing-requires : tie.Need-write-listing-requires
+write-listing-requires c κs = let i = c .before in (passed (i .before), omega (arith, i .if2 .left))
 
 returns-3 : tie.Need-returns-3
 returns-3 c =
     let w = c .before .before in
-    let i = w .before .before .before .before .before in
-    lists-text _ _ (passed (i .before)) (omega (arith, i .if2 .left)) (w .write-text .ensures)
+    let i = w .before .before in
+    lists-text _ _ (passed (i .before)) (omega (arith, i .if2 .left)) (w .write-listing .ensures)
 
 pub listing-spec : {M : Type 1} → statement M
-listing-spec = tie.close (tie.spec (λ c κs. search needs) returns returns-2 (λ c κs. tt) judge-requires write-text-requires
-    (λ c. search needs) returns-3)
+listing-spec = tie.close (tie.spec (λ c κs. search needs) returns returns-2 write-listing-requires (λ c. search needs)
+    returns-3)

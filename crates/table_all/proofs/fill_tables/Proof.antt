@@ -13,7 +13,7 @@ returns c =
     let i = c .before .before .before .fill-items .ensures in
     let t = c .fill-children .ensures in
     record {
-      shaped = t .shaped;
+      children = t;
       represents = λ S k h. left-represented _ (c .before .before .before .before .before .before .before .before .before .pre .0) S k h i (t .tree);
     }
 

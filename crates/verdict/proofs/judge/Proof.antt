@@ -1,19 +1,15 @@
 -- `judge` meets its contract. Assumes nothing.
-use Rattle.plan_check.proofs.Accepted.{clean}
-use Rattle.plan_check.proofs.Meaning.{means-well-formed}
-use Rattle.runs.proofs.Blocked.Branches.{blocked-well-formed}
-use Rattle.verdict.proofs.Judging.{left-flags}
 use borrow.Author.Needs.{needs}
+use Rattle.plan_check.proofs.Accepted.{clean}
+use Rattle.verdict.proofs.Judging.{of-marks}
 use Rattle.verdict.proofs.judge.Statement.{statement}
 use Rattle.verdict.proofs.judge.Tie as tie
 
 returns : tie.Need-returns
-returns c S k h =
+returns c =
     let start = c .before .before in
-    let p = start .before .before .before .pre in
-    let w = blocked-well-formed _ (means-well-formed _ p) S k in
-    c .of-words .ensures _ _ w (left-flags _ p S) (start .before .node-marks .ensures S k h (w .root-node))
-    (start .start-word .ensures)
+    of-marks (c .of-words .result) (start .before .before .before .pre) (start .before .node-marks .ensures)
+    (start .start-word .ensures) (c .of-words .ensures)
 
 pub judge-spec : {M : Type 1} → statement M
 judge-spec = tie.close (tie.spec
