@@ -1,6 +1,7 @@
--- Laws of tests and of the bits of a word, of counts, of answers and lent memory, of tables of zeros.
+-- Laws of Booleans, of tests and of the bits of a word, of counts, of answers and lent memory, of tables of zeros.
+pub mod Booleans
 pub mod Tests
-pub mod Equations
+pub mod Bits
 pub mod Says
 pub mod Words
 pub mod Count

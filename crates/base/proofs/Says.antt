@@ -9,7 +9,7 @@ use lib.Dec.{T}
 use lib.Bits.{bitAnd, bitOr, bitXor}
 use Rattle.base.specs.Bits.{bit, ones, Says}
 use Rattle.base.proofs.Tests.{and-tests, or-tests, not-test}
-use Rattle.base.proofs.Equations.{bit-and, bit-or, bit-less, bit-none, bit-all, bit-not, one-same, one-other}
+use Rattle.base.proofs.Bits.{bit-and, bit-or, bit-less, bit-none, bit-all, bit-not, one-same, one-other}
 
 module _ {w f : ℕ} {A : Type 0} where
   pub says-map : {B : Type 0} → A ↔ B → Says w f A → Says w f B

@@ -9,7 +9,7 @@ use lib.Pow.{shr-shr}
 use lib.Bits.{bitAnd, bitOr, bitXor, and-le-l, and-le-r, or-add-and, xor-add-and}
 use borrow.Author.Tests.{eqb-true, eqb-false}
 use Rattle.base.specs.Bits.{bit}
-use Rattle.base.proofs.Equations.{bit-and, bit-none}
+use Rattle.base.proofs.Bits.{bit-and, bit-none}
 
 -- two digits that are 1 together are equal
 same-digit : (a b : ℕ) → a < 2 → b < 2 → (t : Bool) → eqb a 1 ≡ t → eqb b 1 ≡ t → a ≡ b

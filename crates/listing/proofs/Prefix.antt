@@ -10,7 +10,7 @@ use lib.ListN.{length, take}
 use lib.Seq.{getD-take, length-take-le, take-all}
 use Rattle.plan_format.specs.Format.{u16At, nodeCount, condCount, orderCount, flagCount, wholeLength}
 use Rattle.plan_rules.specs.Rules.{refusal, cause2}
-use Rattle.plan_rules.proofs.Laws.{either}
+use Rattle.base.proofs.Booleans.{either}
 use Rattle.plan_rules.proofs.Causes.{limits}
 use Rattle.plan_check.proofs.Chain.{second, third}
 use Rattle.listing.specs.Text.{refusedText, printed}

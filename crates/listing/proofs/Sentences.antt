@@ -13,7 +13,7 @@ use Rattle.runs.proofs.Verdict.Exact.{verdict-exact}
 use Rattle.wait_lengths.specs.Waits.{lengthOf, waitWithin, longestWait}
 use Rattle.wait_lengths.proofs.Sentences.{times, length-one, longest-one}
 use Rattle.text_decimals.specs.Decimals.{decimal}
-use Rattle.text_decimals.proofs.Laws.{plain, plain-only}
+use Rattle.text_decimals.proofs.Decimals.{plain, plain-only}
 use Rattle.text_order.specs.Order.{ranking}
 use Rattle.text_order.proofs.Order.{arranged, arranged-node, arranged-only}
 use Rattle.text_lines.specs.Lines.{ending, linesOf}

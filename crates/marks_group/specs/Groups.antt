@@ -69,7 +69,8 @@ pub record JoinedWord (first last k x y mask r : ℕ) : Type 0 where
 
 -- the words r are the words a and those of a child
 pub record Merged (first last : ℕ) (a rows : List ℕ) (child : ℕ) (mask r : List ℕ) : Type 0 where
-  pub words : (k : ℕ) → k < COLUMNS → JoinedWord first last k (getD a k 0) (wordAt rows child k) (getD mask k 0) (getD r k 0)
+  pub words : (k : ℕ) → k < COLUMNS
+      → JoinedWord first last k (getD a k 0) (wordAt rows child k) (getD mask k 0) (getD r k 0)
 
 -- the words before the first child
 pub record Unmerged (first last : ℕ) (r : List ℕ) : Type 0 where

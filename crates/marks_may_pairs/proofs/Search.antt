@@ -18,7 +18,7 @@ use Rattle.marks_row.specs.Columns.{requires, posts, indexOf, wordAt}
 use Rattle.marks_row.proofs.Rows.{cell}
 use Rattle.tables.proofs.Segments.{every-next, every-child}
 use Rattle.marks_between.specs.Passing.{Pairing}
-use Rattle.marks_between.proofs.Laws.{kid}
+use Rattle.marks_between.proofs.Passed.{kid}
 use Rattle.marks_pair.specs.declared.Literals.{Literals}
 use Rattle.marks_pair.specs.Pairs.{Opposite, signWord, PairWords, NextPartner}
 use Rattle.marks_pair.proofs.Pairs.{pair-opposite}

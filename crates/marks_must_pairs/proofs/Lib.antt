@@ -1,2 +1,2 @@
 -- Laws of pairs that must clobber.
-pub mod Laws
+pub mod Pairs

@@ -1,5 +1,5 @@
-// Rows of words, one for each column (specs/Columns.antt): bit f of a word speaks of flag f. The rows of
-// tasks; what is read off a row.
+// Rows of words, one for each column (specs/Columns.antt): bit f of a word speaks of flag f. The rows of tasks; what is
+// read off a row.
 pub mod columns;
 
 ghost use mathlib.Core.Path.{_≡_};

@@ -1,5 +1,5 @@
-// The marks of a node as words over the flags, from its row and from any tables that represent a plan; the literals that
-// fail at the root.
+// The marks of a node as words over the flags, from its row and from any tables that represent a plan; the literals
+// that fail at the root.
 pub mod marks;
 
 ghost use mathlib.Core.Path.{_≡_};

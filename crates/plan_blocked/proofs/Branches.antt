@@ -14,7 +14,7 @@ use Rattle.node_sets.specs.Sets.{marked, Each}
 use Rattle.node_sets.proofs.Sets.{marked-none, marked-more}
 use Rattle.plan_format.specs.Format.{nodeCount, parentOf, kindOf, isKind}
 use Rattle.plan_rules.specs.Rules.{refusal}
-use Rattle.plan_rules.proofs.Laws.{some-same}
+use Rattle.runs.proofs.Searches.{some-same}
 use Rattle.plan_check.specs.Meaning.{kindAt, planOf}
 use Rattle.plan_check.proofs.Accepted.{clean}
 use Rattle.plan_check.proofs.Meaning.{kind-limit, means-well-formed}

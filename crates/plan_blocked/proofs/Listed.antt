@@ -10,7 +10,7 @@ use borrow.Author.Tests.{eq-eqb, ne-eqb, lt-ltb, le-ltb}
 use Rattle.plan_format.specs.Format.{nodeCount, kindOf, parentOf, isKind}
 use Rattle.plan_rules.specs.Rules.{refusal}
 use Rattle.plan_rules.proofs.Causes.{parent-group}
-use Rattle.plan_rules.proofs.Laws.{or-split}
+use Rattle.base.proofs.Booleans.{or-split}
 use Rattle.plan_check.specs.Meaning.{kindAt, planOf}
 use Rattle.plan_check.proofs.Accepted.{clean}
 use Rattle.plan_check.proofs.Meaning.{kind-limit}

@@ -17,8 +17,8 @@ use Rattle.plan_format.specs.Format.{condValue, earlierOf, laterOf, isKind, isG
 use Rattle.plan_rules.specs.Rules.{refusal, badEntry, cause6, childless, cause8, bothSigns, cause11, noPost, postOf}
 use Rattle.plan_rules.specs.Rules.{cause12, isChild, badPair, badOrder, cause13}
 use Rattle.runs.specs.Tests.{anyBelow}
-use Rattle.plan_rules.proofs.Laws.{or-none, or-split, and-both, and-three, and-of, none-at, found-at, some-yes}
-use Rattle.plan_rules.proofs.Laws.{not-passed}
+use Rattle.base.proofs.Booleans.{or-none, or-split, and-both, and-three, and-of, not-passed}
+use Rattle.runs.proofs.Searches.{none-at, found-at, some-yes}
 use Rattle.runs.specs.Plan.{task, all-of, any-of, optional, Place, inc, post, Accepted, WellFormed, kindNumber}
 use Rattle.runs.specs.Plan.{placeNumber, signNumber}
 use Rattle.runs.proofs.Reflect.{clash, true-T, T-true}

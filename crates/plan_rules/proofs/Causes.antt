@@ -14,7 +14,8 @@ use Rattle.plan_format.specs.Format.{nodeCount, condCount, orderCount, flagCoun
 use Rattle.plan_format.specs.Format.{kindOf, condNode, condValue, isKind, isGroup, Limits, Whole}
 use Rattle.plan_rules.specs.Rules.{cause2, badChar, cause5, badParent, cause7, badCondition, cause9, bothSigns}
 use Rattle.plan_rules.specs.Rules.{postOf}
-use Rattle.plan_rules.proofs.Laws.{or-split, or-none, and-both, and-three, none-at}
+use Rattle.base.proofs.Booleans.{or-split, or-none, and-both, and-three}
+use Rattle.runs.proofs.Searches.{none-at}
 
 -- ---- sizes
 pub limits : (b : List ℕ) → 16 ≤ length b → cause2 b ≡ false → Limits b

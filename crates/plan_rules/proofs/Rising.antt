@@ -13,7 +13,8 @@ use borrow.Author.Tests.{eqb-true, ltb-true, not-false}
 use Rattle.plan_format.specs.Format.{condCount, condNode, condValue}
 use Rattle.plan_rules.specs.Rules.{notBelow, notRising, cause10}
 use Rattle.runs.specs.Tests.{anyBelow}
-use Rattle.plan_rules.proofs.Laws.{or-split, and-both, none-at}
+use Rattle.base.proofs.Booleans.{or-split, and-both}
+use Rattle.runs.proofs.Searches.{none-at}
 
 -- the pair (a, b) is below (c, d)
 abbrev pub Below : ℕ → ℕ → ℕ → ℕ → Type 0

@@ -10,7 +10,8 @@ use borrow.Author.Tests.{eqb-true, eq-eqb}
 use Rattle.plan_rules_later.specs.declared.Step.{Step}
 use Rattle.plan_rules_later.proofs.Table.{latest, refuses, refusesAt, backwards}
 use Rattle.runs.specs.Tests.{anyBelow}
-use Rattle.plan_rules.proofs.Laws.{either, same, and-both, and-of, or-none, found-at, some-yes, some-same, some-back}
+use Rattle.base.proofs.Booleans.{either, same, and-both, and-of, or-none}
+use Rattle.runs.proofs.Searches.{found-at, some-yes, some-same, some-back}
 
 -- ---- the table
 module _ (s : ℕ → Step) where

@@ -13,7 +13,8 @@ use Rattle.plan_codes.specs.Values.{flagOf, signOf, placeOf}
 use Rattle.plan_format.specs.Format.{nodeCount, condCount, parentOf, condNode, condValue, isGroup, Whole}
 use Rattle.plan_rules.specs.Rules.{cause7, childless, cause8, cause10, bothSigns, cause11, postOf, noPost, cause12}
 use Rattle.runs.specs.Tests.{anyBelow}
-use Rattle.plan_rules.proofs.Laws.{same, and-both, and-three, and-of, found-at, some-yes, some-same}
+use Rattle.base.proofs.Booleans.{same, and-both, and-three, and-of}
+use Rattle.runs.proofs.Searches.{found-at, some-yes, some-same}
 use Rattle.plan_rules_later.specs.declared.Pass.the-variants.{Children, Signs, Posts}
 use Rattle.plan_rules_later.specs.declared.Pass.{Pass}
 use Rattle.plan_rules_later.specs.Passes.{childStep, slotOf, signStep, postStep, stepOf, stepsOf, Ready}

@@ -14,7 +14,7 @@ use borrow.Author.Tests.{ne-eqb, lt-ltb}
 use Rattle.base.specs.Bits.{bit}
 use Rattle.run_flags.specs.Flags.{flagIn, byteWith, withFlag}
 use Rattle.run_flags.proofs.Laws.{length-with}
-use Rattle.plan_rules.proofs.Laws.{either}
+use Rattle.base.proofs.Booleans.{either}
 use Rattle.plan_codes.specs.Values.{flagOf}
 use Rattle.plan_format.specs.Format.{condValue, condCount}
 use Rattle.run_state.specs.State.{flagShown}

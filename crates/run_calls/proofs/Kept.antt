@@ -11,7 +11,7 @@ use lib.ListN.{length, getD, take, List·getD-eq-default}
 use lib.Seq.{ext-getD, getD-take, length-take-le}
 use borrow.Author.Tests.{eq-eqb, ne-eqb, lt-ltb, le-ltb}
 use Rattle.plan_format.specs.Format.{u16At, nodeCount, isKind}
-use Rattle.plan_rules.proofs.Laws.{either}
+use Rattle.base.proofs.Booleans.{either}
 use Rattle.runs.specs.Plan.{placeNumber}
 use Rattle.runs.specs.Execution.{Event, History, nodeOf, statusOf}
 use Rattle.runs.specs.Calls.{Call, statusByte}

@@ -16,7 +16,7 @@ use Rattle.run_flags.specs.Flags.{flagIn, withFlag}
 use Rattle.run_flags.proofs.Laws.{length-with, with-same, with-other}
 use Rattle.plan_format.specs.Format.{nodeCount, kindOf, condCount, condNode, condValue}
 use Rattle.plan_rules.specs.Rules.{refusal}
-use Rattle.plan_rules.proofs.Laws.{either, and-both, and-of, not-passed}
+use Rattle.base.proofs.Booleans.{either, and-both, and-of, not-passed}
 use Rattle.plan_rules.proofs.Rising.{nodes-rise}
 use Rattle.plan_check.specs.Meaning.{planOf, signIn}
 use Rattle.plan_check.proofs.Accepted.{clean}

@@ -14,7 +14,8 @@ use Rattle.run_flags.specs.Flags.{flagIn, allByte}
 use Rattle.run_flags.proofs.Laws.{in-first, all-flags}
 use Rattle.plan_format.specs.Format.{condCount, condNode, condValue}
 use Rattle.plan_rules.specs.Rules.{refusal}
-use Rattle.plan_rules.proofs.Laws.{and-both, and-of, found-at, some-yes, not-passed}
+use Rattle.base.proofs.Booleans.{and-both, and-of, not-passed}
+use Rattle.runs.proofs.Searches.{found-at, some-yes}
 use Rattle.plan_check.specs.Meaning.{planOf, signIn}
 use Rattle.runs.specs.Plan.{Place, pre, inc, post, placeNumber}
 use Rattle.runs.specs.Execution.{Event, start, nodeOf, asserts, running}

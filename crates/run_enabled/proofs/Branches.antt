@@ -9,7 +9,7 @@ use lib.Dec.{eqb, ltb}
 use borrow.Author.Tests.{eqb-true, eqb-false, eq-eqb, ne-eqb, lt-ltb, ltb-true, not-true}
 use Rattle.plan_format.specs.Format.{nodeCount, parentOf, kindOf, isKind}
 use Rattle.plan_rules.specs.Rules.{isChild}
-use Rattle.plan_rules.proofs.Laws.{and-both, and-of, not-passed, or-split}
+use Rattle.base.proofs.Booleans.{and-both, and-of, not-passed, or-split}
 use Rattle.plan_rules.proofs.Causes.{parent-group}
 use Rattle.plan_check.specs.Meaning.{planOf}
 use Rattle.plan_check.proofs.Accepted.{Clean}

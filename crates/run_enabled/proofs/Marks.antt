@@ -9,7 +9,7 @@ use lib.ListN.{length, getD, set, length-set}
 use lib.Seq.{getD-set-same, getD-set-other}
 use Rattle.plan_format.specs.Format.{nodeCount, parentOf}
 use Rattle.plan_rules.specs.Rules.{refusal}
-use Rattle.plan_rules.proofs.Laws.{not-passed}
+use Rattle.base.proofs.Booleans.{not-passed}
 use Rattle.plan_check.specs.Meaning.{planOf}
 use Rattle.plan_check.proofs.Accepted.{clean}
 use Rattle.plan_rules.proofs.Causes.{parent-group}

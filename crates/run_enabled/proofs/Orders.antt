@@ -10,7 +10,8 @@ use borrow.Author.Tests.{not-true}
 use Rattle.plan_format.specs.Format.{nodeCount, orderCount, earlierOf, laterOf}
 use Rattle.plan_rules.specs.Rules.{refusal, badOrder, cause13}
 use Rattle.runs.specs.Tests.{anyBelow}
-use Rattle.plan_rules.proofs.Laws.{and-both, and-of, none-at, found-at, some-yes}
+use Rattle.base.proofs.Booleans.{and-both, and-of}
+use Rattle.runs.proofs.Searches.{none-at, found-at, some-yes}
 use Rattle.plan_check.specs.Meaning.{planOf}
 use Rattle.plan_check.proofs.Accepted.{clean}
 use Rattle.plan_check.proofs.Meaning.{siblings, child-is, order-is, has-order}

@@ -12,7 +12,7 @@ use lib.ListN.{length, getD, set, take, drop, length-set, replicate, getD-replic
 use lib.Seq.{getD-set-same, getD-set-other, getD-take}
 use lib.Bits.{bitXor}
 use Rattle.base.specs.Bits.{bit}
-use Rattle.base.proofs.Equations.{xor, bit-or, bit-xor, bit-none, one-same, one-other}
+use Rattle.base.proofs.Bits.{xor, bit-or, bit-xor, bit-none, one-same, one-other}
 use Rattle.run_flags.specs.Flags.{flagIn, byteWith, withFlag, allByte}
 
 xor-false : (a : Bool) → xor a false ≡ a

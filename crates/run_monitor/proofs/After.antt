@@ -13,7 +13,7 @@ use borrow.Author.Tests.{eq-eqb, ne-eqb, lt-ltb, le-ltb, leb-true}
 use Rattle.run_flags.specs.Flags.{flagIn}
 use Rattle.run_flags.proofs.Laws.{same-byte}
 use Rattle.plan_format.specs.Format.{u16At, nodeCount, flagCount, kindOf, isKind}
-use Rattle.plan_rules.proofs.Laws.{and-both, and-of, not-passed, either}
+use Rattle.base.proofs.Booleans.{and-both, and-of, not-passed, either}
 use Rattle.plan_check.specs.Meaning.{signIn}
 use Rattle.plan_check.proofs.Meaning.{kind-is}
 use Rattle.runs.specs.Plan.{post, kindNumber, placeNumber}

@@ -13,7 +13,7 @@ use lib.Seq.{getD-set-same, getD-set-other, getD-append-add, getD-drop, length-t
 use Rattle.run_flags.specs.Flags.{flagIn}
 use Rattle.run_flags.proofs.Laws.{same-byte, in-first}
 use Rattle.plan_format.specs.Format.{nodeCount, condCount, flagCount, kindOf}
-use Rattle.plan_rules.proofs.Laws.{not-passed}
+use Rattle.base.proofs.Booleans.{not-passed}
 use Rattle.plan_check.specs.Meaning.{planOf, signIn}
 use Rattle.plan_check.proofs.Meaning.{means}
 use Rattle.runs.specs.Plan.{Place, placeNumber}

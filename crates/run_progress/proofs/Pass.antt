@@ -9,7 +9,7 @@ use native.Mathlib.Omega.{arith}
 use lib.ListN.{length, getD, set}
 use Rattle.plan_format.specs.Format.{nodeCount, parentOf, isKind}
 use Rattle.plan_rules.specs.Rules.{isChild}
-use Rattle.plan_rules.proofs.Laws.{and-both, and-of, not-passed}
+use Rattle.base.proofs.Booleans.{and-both, and-of, not-passed}
 use Rattle.plan_rules.proofs.Causes.{parent-group}
 use Rattle.plan_check.proofs.Meaning.{child-is}
 use Rattle.plan_check.specs.Meaning.{planOf}

@@ -9,7 +9,7 @@ use native.Mathlib.Omega.{arith}
 use lib.Dec.{T, eqb}
 use Rattle.plan_format.specs.Format.{nodeCount, kindOf, isKind}
 use Rattle.plan_rules.specs.Rules.{isChild}
-use Rattle.plan_rules.proofs.Laws.{and-both, and-of, not-passed}
+use Rattle.base.proofs.Booleans.{and-both, and-of, not-passed}
 use Rattle.plan_check.specs.Meaning.{planOf}
 use Rattle.plan_check.proofs.Meaning.{kind-of, kind-is, kind-task, kind-all-of}
 use Rattle.plan_check.proofs.Nodes.{is-child, child-test, is-node, node-is, plan-kind, kind-choice}

@@ -11,7 +11,7 @@ use lib.ListN.{getD, replicate}
 use borrow.Author.Tests.{eq-eqb, ne-eqb}
 use Rattle.run_flags.specs.Flags.{allByte}
 use Rattle.plan_format.specs.Format.{nodeCount, kindOf, isKind, condCount}
-use Rattle.plan_rules.proofs.Laws.{either}
+use Rattle.base.proofs.Booleans.{either}
 use mathlib.Core.Option.{Option, some, none}
 use Rattle.plan_check.specs.Meaning.{planOf, kindAt, signIn}
 use Rattle.plan_check.proofs.Meaning.{kind-is, kind-of, kind-number, kind-limit, means}

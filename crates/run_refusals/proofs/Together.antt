@@ -10,7 +10,7 @@ use lib.Dec.{eqb}
 use borrow.Author.Tests.{eqb-true, not-false}
 use Rattle.run_flags.specs.Flags.{allByte}
 use Rattle.plan_format.specs.Format.{isKind, condCount}
-use Rattle.plan_rules.proofs.Laws.{not-passed}
+use Rattle.base.proofs.Booleans.{not-passed}
 use Rattle.plan_check.specs.Meaning.{planOf}
 use Rattle.runs.specs.Plan.{post, placeNumber}
 use Rattle.runs.specs.Execution.{running}

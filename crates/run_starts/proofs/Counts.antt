@@ -10,7 +10,7 @@ use borrow.Author.Tests.{eq-eqb, ne-eqb, eqb-true, lt-ltb, ltb-true}
 use Rattle.base.proofs.Count.{count-le}
 use Rattle.plan_format.specs.Format.{nodeCount}
 use Rattle.base.proofs.Tally.{Tallied, tally-one, tally-none}
-use Rattle.plan_rules.proofs.Laws.{and-both, and-of, not-passed}
+use Rattle.base.proofs.Booleans.{and-both, and-of, not-passed}
 use Rattle.run_starts.specs.Starts.{ordinalIn, startedIn, startedCount}
 
 module _ (b s : List ℕ) where

@@ -11,7 +11,7 @@ use lib.Dec.{eqb}
 use borrow.Author.Tests.{eq-eqb, ne-eqb, eqb-true}
 use Rattle.base.proofs.Count.{count-same, count-none, count-one-more}
 use Rattle.plan_format.specs.Format.{nodeCount}
-use Rattle.plan_rules.proofs.Laws.{and-both, not-passed}
+use Rattle.base.proofs.Booleans.{and-both, not-passed}
 use Rattle.run_starts.specs.Starts.{ordinalIn, startedIn, startedCount, holders, strayOrdinal}
 use Rattle.run_starts.proofs.Numbers.{WellNumbered, started-in-range}
 

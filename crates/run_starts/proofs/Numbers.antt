@@ -9,7 +9,8 @@ use lib.Dec.{eqb}
 use borrow.Author.Tests.{eqb-true, eqb-false, eq-eqb, ne-eqb, not-true, not-false}
 use Rattle.base.proofs.Count.{count-le, each-once}
 use Rattle.plan_format.specs.Format.{nodeCount}
-use Rattle.plan_rules.proofs.Laws.{some-yes, found-at, none-at, none-all, either}
+use Rattle.base.proofs.Booleans.{either}
+use Rattle.runs.proofs.Searches.{some-yes, found-at, none-at, none-all}
 use Rattle.run_starts.specs.Starts.{ordinalIn, startedIn, startedCount, holders, strayOrdinal, misnumbered}
 
 module _ (b s : List ℕ) where

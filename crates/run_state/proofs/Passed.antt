@@ -10,7 +10,7 @@ use lib.ListN.{length}
 use lib.Dec.{eqb}
 use borrow.Author.Tests.{ltb-false, eqb-true, not-false}
 use Rattle.plan_format.specs.Format.{nodeCount, kindOf, isKind}
-use Rattle.plan_rules.proofs.Laws.{either, or-none, or-split, not-passed}
+use Rattle.base.proofs.Booleans.{either, or-none, or-split, not-passed}
 use Rattle.plan_check.specs.Meaning.{planOf}
 use Rattle.plan_check.proofs.Meaning.{means-well-formed, kind-is, kind-task}
 use Rattle.plan_check.proofs.Nodes.{node-is, plan-kind, kind-optional}

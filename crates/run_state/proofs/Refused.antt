@@ -18,7 +18,7 @@ use Rattle.node_sets.specs.Sets.{marked}
 use Rattle.plan_blocked.specs.Blocked as blocked
 use Rattle.plan_blocked.specs.Blocked.{refusalUnder, Standing}
 use Rattle.plan_blocked.proofs.Refused.{plan-accepted}
-use Rattle.plan_rules.proofs.Laws.{some-same}
+use Rattle.runs.proofs.Searches.{some-same}
 use Rattle.run_starts.specs.Starts.{Fits, nodeByte, strayOrdinal, misnumbered}
 use Rattle.run_state.specs.Under.{badAbsent, malformedUnder, roomRefusalUnder, stateRefusalUnder, badByteIn}
 use Rattle.run_state.specs.Under.{badNodeIn, Checked}

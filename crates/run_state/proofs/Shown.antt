@@ -14,7 +14,7 @@ use Rattle.base.specs.Bits.{bit}
 use Rattle.base.proofs.Count.{count-none}
 use Rattle.run_flags.specs.Flags.{flagIn}
 use Rattle.plan_format.specs.Format.{u16At, nodeCount, flagCount, startFlag, isKind}
-use Rattle.plan_rules.proofs.Laws.{either, not-passed}
+use Rattle.base.proofs.Booleans.{either, not-passed}
 use Rattle.plan_check.specs.Meaning.{planOf, startOf}
 use Rattle.plan_check.proofs.Accepted.{start-below}
 use Rattle.runs.specs.Execution.{waiting}

@@ -5,7 +5,8 @@ use mathlib.Core.List.{List}
 use Prim.Native.Nat.{ℕ, _<_}
 use Rattle.plan_format.specs.Format.{nodeCount}
 use Rattle.runs.specs.Tests.{anyBelow}
-use Rattle.plan_rules.proofs.Laws.{or-none, none-at, none-all}
+use Rattle.base.proofs.Booleans.{or-none}
+use Rattle.runs.proofs.Searches.{none-at, none-all}
 use Rattle.run_starts.proofs.Numbers.{WellNumbered, all-once, once-all}
 use Rattle.run_state.specs.State.{badFlag, badByte, badNode, malformed}
 use Rattle.run_state.specs.Under.{badAbsent, malformedUnder}

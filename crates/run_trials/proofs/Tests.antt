@@ -15,7 +15,7 @@ use Rattle.plan_blocked.specs.Blocked.{planUnder, refusalUnder}
 use Rattle.plan_blocked.proofs.Refused.{plan-accepted, blocks, under-well-formed}
 use Rattle.runs.specs.Blocked.{MarkedUnder, markedUnderB}
 use Rattle.runs.proofs.Blocked.Branches.{blocked-marks}
-use Rattle.plan_rules.proofs.Laws.{and-both}
+use Rattle.base.proofs.Booleans.{and-both}
 use Rattle.plan_check.specs.Meaning.{planOf, startOf}
 use Rattle.plan_check.proofs.Meaning.{means-well-formed}
 use Rattle.runs.specs.Calls.{World, fresh}

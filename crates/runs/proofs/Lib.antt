@@ -1,5 +1,6 @@
 pub mod Base
 pub mod Reflect
+pub mod Searches
 pub mod Plan
 pub mod Execution
 pub mod Summary

@@ -28,7 +28,7 @@ use Rattle.plan_check.proofs.Meaning.{means-well-formed}
 use Rattle.runs.specs.Summary.{Mark, byteOf, markAt}
 use Rattle.runs.proofs.Reflect.{Reflects, T-true, true-T}
 use Rattle.marks_words.specs.Words.{wordIndex, MarkWords}
-use Rattle.marks_words.proofs.Laws.{mark-small, mark-byte, byte-mark}
+use Rattle.marks_words.proofs.WordColumns.{mark-small, mark-byte, byte-mark}
 use Rattle.summary.specs.Summary.{summaryRefusal, summaryByte, summaryLeft, Tells, UnderWords, Summarised}
 
 -- the digit of a bit that says what a test reflects

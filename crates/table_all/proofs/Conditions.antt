@@ -10,7 +10,7 @@ use lib.Bits.{bitOr}
 use lib.ListN.{length, getD, set, length-set}
 use lib.Seq.{getD-set-same, getD-set-other}
 use Rattle.base.specs.Bits.{Says}
-use Rattle.base.proofs.Equations.{one-shl}
+use Rattle.base.proofs.Bits.{one-shl}
 use Rattle.base.proofs.Says.{says-map, says-eq, says-none, says-set}
 use Rattle.plan_codes.specs.Values.{valueOf}
 use Rattle.plan_format.specs.Format.{condCount, condNode, condValue}

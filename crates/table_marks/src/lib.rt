@@ -17,8 +17,8 @@ use tables::no_nodes;
 use tables::no_orders;
 use tables::no_starts;
 
-// The marks of a node as words, of the plan of which the marked nodes stand: blank tables, filled and asked. The table of
-// the children is lent blank, and stays with the caller.
+// The marks of a node as words, of the plan of which the marked nodes stand: blank tables, filled and asked. The table
+// of the children is lent blank, and stays with the caller.
 pub fn marks_and_children(
     plan: &[u8],
     standing: &Nodes,

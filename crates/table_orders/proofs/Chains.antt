@@ -9,7 +9,7 @@ use native.Mathlib.Omega.{arith}
 use lib.Dec.{T}
 use Rattle.plan_format.specs.Format.{orderCount, earlierOf, laterOf}
 use Rattle.plan_rules.specs.Rules.{refusal, badOrder, cause13, cause14}
-use Rattle.plan_rules.proofs.Laws.{none-at}
+use Rattle.runs.proofs.Searches.{none-at}
 use Rattle.plan_check.specs.Meaning.{planOf}
 use Rattle.plan_check.proofs.Accepted.{Clean}
 use Rattle.plan_rules.proofs.Rising.{first-rises}

@@ -12,7 +12,8 @@ pub record Linked (old new : List ℕ) (c : ℕ) (From : ℕ → Type 0) : Type 
   pub long : length new ≡ PAIRS
   pub ahead : (a : ℕ) → a < NODES → From a → code new a c ≡ 1
   pub back : (a : ℕ) → a < NODES → From a → code new c a ≡ 2
-  pub kept : (x y : ℕ) → x < NODES → y < NODES → (y ≡ c → From x → ⊥) → (x ≡ c → From y → ⊥) → code new x y ≡ code old x y
+  pub kept : (x y : ℕ) → x < NODES → y < NODES → (y ≡ c → From x → ⊥) → (x ≡ c → From y → ⊥)
+      → code new x y ≡ code old x y
 
 -- c is a, or a lower number that the table has before a
 abbrev pub Leading : List ℕ → ℕ → ℕ → Type 0

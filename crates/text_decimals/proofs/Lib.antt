@@ -1,3 +1,3 @@
 -- Laws of decimals and of written bytes.
 pub mod Written
-pub mod Laws
+pub mod Decimals

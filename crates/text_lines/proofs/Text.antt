@@ -10,7 +10,7 @@ use lib.Seq.{take-suc, take-all, getD-take, drop-cons}
 use Rattle.plan_format.specs.Format.{nodeCount, nameChar, nameOf}
 use Rattle.plan_check.proofs.Accepted.{Clean}
 use Rattle.text_decimals.specs.Decimals.{decimal, Wrote}
-use Rattle.text_decimals.proofs.Laws.{length-limit, plain, plain-only}
+use Rattle.text_decimals.proofs.Decimals.{length-limit, plain, plain-only}
 use Rattle.text_decimals.proofs.Written.{written-none, wrote-then, wrote-same}
 use Rattle.wait_lengths.specs.Waits.{longestWait}
 use Rattle.wait_lengths.proofs.Bounds.{end-limit}

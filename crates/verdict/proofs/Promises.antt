@@ -12,7 +12,7 @@ use borrow.Author.Tests.{le-ltb}
 use Rattle.plan_codes.specs.Values.{flagOf, signOf, placeOf}
 use Rattle.plan_format.specs.Format.{nodeCount, condCount, flagCount, condNode, condValue}
 use Rattle.plan_rules.specs.Rules.{refusal}
-use Rattle.plan_rules.proofs.Laws.{some-same}
+use Rattle.runs.proofs.Searches.{some-same}
 use Rattle.plan_check.specs.Meaning.{planOf, startOf, kindAt, conditionIs, hasCondition, signIn, hasOrder}
 use Rattle.plan_check.proofs.Accepted.{clean}
 use Rattle.plan_check.proofs.Meaning.{means-well-formed, order-is, has-order}

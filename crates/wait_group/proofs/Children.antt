@@ -17,7 +17,7 @@ use Rattle.table_children.proofs.Listed.{listed-child, every-listed, lower-befo
 use Rattle.wait_lengths.specs.Waits.{greatest, lengthOf, waitWithin}
 use Rattle.wait_group.specs.Spread.{Raised, GroupOf, Tables, ChildLengths, Spread}
 use Rattle.wait_lengths.proofs.Greatest.{greatest-le, greatest-least}
-use Rattle.wait_lengths.proofs.Laws.{child-lower, earlier-child, length-any, length-all, order-waits, waits-least}
+use Rattle.wait_lengths.proofs.Lengths.{child-lower, earlier-child, length-any, length-all, order-waits, waits-least}
 use Rattle.wait_lengths.proofs.Bounds.{child-limit}
 
 -- ---- v is the greatest f over the children at the positions from low to i, or 0

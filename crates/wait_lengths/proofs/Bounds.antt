@@ -11,14 +11,16 @@ use lib.Dec.{eqb, ltb, leb}
 use borrow.Author.Tests.{eq-eqb, ne-eqb, lt-ltb, le-ltb, ltb-false, le-leb, lt-leb}
 use Rattle.plan_format.specs.Format.{nodeCount, parentOf, kindOf, minutesOf, earlierOf, isKind, isGroup, isChoice}
 use Rattle.plan_rules.specs.Rules.{isChild, badEntry, cause6}
-use Rattle.plan_rules.proofs.Laws.{none-at, or-none, not-passed}
+use Rattle.base.proofs.Booleans.{or-none, not-passed}
+use Rattle.runs.proofs.Searches.{none-at}
 use Rattle.plan_check.proofs.Accepted.{Clean}
 use Rattle.plan_rules.proofs.Causes.{root-parent, parent-group}
 use Rattle.plan_check.proofs.Meaning.{kind-is, kind-of, kind-group, group-is, group-of}
 use Rattle.wait_lengths.specs.Waits.{lengthOf, waitWithin, waitsTo, longestWait}
 use Rattle.wait_lengths.proofs.Greatest.{greatest-le, greatest-least}
-use Rattle.wait_lengths.proofs.Laws.{choice-is, choice-of, child-lower, earlier-child, length-task, length-any}
-use Rattle.wait_lengths.proofs.Laws.{length-all, waits-least}
+use Rattle.wait_lengths.proofs.Lengths.{choice-is, choice-of, child-lower, earlier-child, length-task}
+use Rattle.wait_lengths.proofs.Lengths.{length-any}
+use Rattle.wait_lengths.proofs.Lengths.{length-all, waits-least}
 use Rattle.wait_lengths.proofs.Sums.{sum, sum-grows, sum-le, sum-more, sum-has, sum-balance, sum-none, sum-one}
 use Rattle.wait_lengths.proofs.Sums.{sum-same}
 

@@ -5,7 +5,7 @@ use mathlib.Core.Bool.{Bool, true, false}
 use Prim.Native.Nat.{ℕ, zero, suc, _<_, _≤_}
 use native.Mathlib.Decide.{ℕ-discrete}
 use native.Mathlib.Omega.{arith}
-use Rattle.plan_rules.proofs.Laws.{either}
+use Rattle.base.proofs.Booleans.{either}
 use Rattle.wait_lengths.specs.Waits.{greatest}
 
 -- as far as the numbers that pass go

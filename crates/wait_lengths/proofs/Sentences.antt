@@ -11,14 +11,16 @@ use borrow.Author.Tests.{eqb-true, eq-eqb}
 use Rattle.plan_format.specs.Format.{nodeCount, orderCount, parentOf, kindOf, earlierOf, laterOf, isKind, isChoice}
 use Rattle.plan_rules.specs.Rules.{isChild}
 use Rattle.runs.specs.Tests.{anyBelow}
-use Rattle.plan_rules.proofs.Laws.{either, found-at, none-at}
+use Rattle.base.proofs.Booleans.{either}
+use Rattle.runs.proofs.Searches.{found-at, none-at}
 use Rattle.plan_check.proofs.Accepted.{Clean}
 use Rattle.plan_check.proofs.Meaning.{kind-is, kind-of, kind-group, group-of, child-of}
 use Rattle.wait_lengths.specs.Waits.{greatest, lengthOf, waitWithin, longestWait}
 use Rattle.wait_lengths.specs.Sentences.{Greatest, Child, OrderInto, Times}
 use Rattle.wait_lengths.proofs.Greatest.{greatest-empty, greatest-le}
-use Rattle.wait_lengths.proofs.Laws.{choice-is, choice-of, child-lower, earlier-child, length-task, length-any}
-use Rattle.wait_lengths.proofs.Laws.{length-all, wait-all}
+use Rattle.wait_lengths.proofs.Lengths.{choice-is, choice-of, child-lower, earlier-child, length-task}
+use Rattle.wait_lengths.proofs.Lengths.{length-any}
+use Rattle.wait_lengths.proofs.Lengths.{length-all, wait-all}
 use Rattle.wait_lengths.proofs.Bounds.{group-kind, wait-any, wait-root, longest-root, longest-child, own-child}
 
 -- ---- the computed greatest is the greatest

@@ -26,7 +26,7 @@ use Rattle.table_children.proofs.Listed.{its-children, every-listed}
 use Rattle.wait_lengths.specs.Waits.{lengthOf, waitWithin}
 use Rattle.wait_group.specs.Spread.{GroupOf, Tables, ChildLengths, Spread}
 use Rattle.wait_tree.specs.Filled.{Done, ChildrenTo, Worked, AllWorked}
-use Rattle.wait_lengths.proofs.Laws.{choice-is, choice-of, child-lower}
+use Rattle.wait_lengths.proofs.Lengths.{choice-is, choice-of, child-lower}
 use Rattle.wait_lengths.proofs.Bounds.{own-child, group-kind, wait-any, wait-root}
 
 -- ---- a node that is done stays done while the waits grow, and when a right length is written

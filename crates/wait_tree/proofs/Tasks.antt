@@ -12,7 +12,7 @@ use Rattle.plan_check.proofs.Accepted.{Clean}
 use Rattle.base.specs.Zeros.{Zeros}
 use Rattle.wait_lengths.specs.Waits.{lengthOf}
 use Rattle.wait_group.specs.Spread.{Tables}
-use Rattle.wait_lengths.proofs.Laws.{length-task}
+use Rattle.wait_lengths.proofs.Lengths.{length-task}
 
 -- ---- the lengths of the tasks below t
 pub record TasksTo (b lengths : List ℕ) (t : ℕ) : Type 0 where

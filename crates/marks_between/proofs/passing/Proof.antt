@@ -1,6 +1,6 @@
 -- `passing` meets its contract. Assumes nothing.
 use Rattle.tables.proofs.Turns.{pair-small}
-use Rattle.marks_between.proofs.Laws.{part-of, parts, passing-says}
+use Rattle.marks_between.proofs.Passed.{part-of, parts, passing-says}
 use native.Mathlib.Omega.{arith}
 use borrow.Author.Needs.{needs}
 use Rattle.marks_between.proofs.passing.Statement.{statement}

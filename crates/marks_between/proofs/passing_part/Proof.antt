@@ -4,7 +4,7 @@ use Rattle.tables.specs.Segments.{Reached}
 use Rattle.tables.proofs.Turns.{first-turn, position-small, kid-small, position, next-turn, last-turn}
 use Rattle.marks_siblings.proofs.Sibling.{implied}
 use Rattle.marks_between.specs.Passing.{PassingPart}
-use Rattle.marks_between.proofs.Laws.{part-none, part-more, part-empty}
+use Rattle.marks_between.proofs.Passed.{part-none, part-more, part-empty}
 use native.Mathlib.Omega.{arith}
 use Rattle.marks_between.proofs.passing_part.Statement.{statement}
 use Rattle.marks_between.proofs.passing_part.Tie as tie

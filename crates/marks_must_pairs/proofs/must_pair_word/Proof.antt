@@ -1,8 +1,8 @@
 -- `must_pair_word` meets its contract: a case for each place where it returns. Assumes nothing.
 use Rattle.tables.proofs.Turns.{position-small, pair-small}
-use Rattle.marks_between.proofs.Laws.{passing-kid}
+use Rattle.marks_between.proofs.Passed.{passing-kid}
 use Rattle.marks_between.proofs.Pair.{pair-kid}
-use Rattle.marks_must_pairs.proofs.Laws.{none-shared, shared-passes, not-before}
+use Rattle.marks_must_pairs.proofs.Pairs.{none-shared, shared-passes, not-before}
 use native.Mathlib.Omega.{arith}
 use borrow.Author.Needs.{needs}
 use Rattle.marks_must_pairs.proofs.must_pair_word.Statement.{statement}

@@ -9,9 +9,9 @@ use Rattle.tables.specs.Segments.{Reached, Some}
 use Rattle.marks_row.specs.Musts.{SaysOf}
 use Rattle.tables.proofs.Turns.{first-turn, position-small, kid-small, position, next-turn, last-turn}
 use Rattle.marks_between.specs.Passing.{OfGroups}
-use Rattle.marks_between.proofs.Laws.{kid}
+use Rattle.marks_between.proofs.Passed.{kid}
 use Rattle.marks_must_pairs.specs.MustPairs.{MustPair}
-use Rattle.marks_must_pairs.proofs.Laws.{none-more, child-more, all-more}
+use Rattle.marks_must_pairs.proofs.Pairs.{none-more, child-more, all-more}
 use native.Mathlib.Omega.{arith}
 use Rattle.marks_must_pairs.proofs.must_pairs.Statement.{statement}
 use Rattle.marks_must_pairs.proofs.must_pairs.Tie as tie

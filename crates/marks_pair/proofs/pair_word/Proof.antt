@@ -1,6 +1,6 @@
 -- `pair_word` meets its contract: a case for each place where it returns. Assumes nothing.
 use Rattle.tables.proofs.Turns.{position-small, pair-small}
-use Rattle.marks_between.proofs.Laws.{passing-kid}
+use Rattle.marks_between.proofs.Passed.{passing-kid}
 use Rattle.marks_between.proofs.Pair.{pair-kid}
 use Rattle.marks_pair.proofs.Pairs.{none-shared, shared-passes, apart-both, neither-rule}
 use native.Mathlib.Omega.{arith}

@@ -1,6 +1,6 @@
--- `group`, `all_of`, `any_of` and `groups_under` meet their contracts. Three times the distance from the node to n falls,
--- with two more for a node, and one more for a group of a known kind, than for what is under it. The children before i
--- are worked out, with all under them: the loop is there once. Assumes nothing.
+-- `group`, `all_of`, `any_of` and `groups_under` meet their contracts. Three times the distance from the node to n
+-- falls, with two more for a node, and one more for a group of a known kind, than for what is under it. The children
+-- before i are worked out, with all under them: the loop is there once. Assumes nothing.
 use mathlib.Core.Path.{refl}
 use Prim.Native.Nat.{ℕ, _+_, _*_, _-_, _<_}
 use native.Mathlib.Omega.{arith}

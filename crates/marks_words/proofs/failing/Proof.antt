@@ -1,6 +1,6 @@
 -- `failing` meets its contract. Assumes nothing.
 use mathlib.Core.Path.{refl}
-use Rattle.marks_words.proofs.Laws.{failing-says}
+use Rattle.marks_words.proofs.WordColumns.{failing-says}
 use borrow.Author.Needs.{needs}
 use Rattle.marks_words.proofs.failing.Statement.{statement}
 use Rattle.marks_words.proofs.failing.Tie as tie

@@ -2,7 +2,7 @@
 use mathlib.Core.Path.{sym, _∙_}
 use Prim.Native.Nat.{_%_}
 use native.Mathlib.Omega.{arith}
-use Rattle.marks_words.proofs.Laws.{mark-from, sign-is, mark-is, first-small, column-says}
+use Rattle.marks_words.proofs.WordColumns.{mark-from, sign-is, mark-is, first-small, column-says}
 use borrow.Author.Needs.{needs}
 use Rattle.marks_words.proofs.mark_word.Statement.{statement}
 use Rattle.marks_words.proofs.mark_word.Tie as tie

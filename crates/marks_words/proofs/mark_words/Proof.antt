@@ -6,7 +6,7 @@ use native.Mathlib.Omega.{arith}
 use borrow.Author.Needs.{needs}
 use Rattle.marks_row.proofs.Rows.{filled}
 use Rattle.marks_words.specs.Words.{WordIs, wordIndex}
-use Rattle.marks_words.proofs.Laws.{word-small}
+use Rattle.marks_words.proofs.WordColumns.{word-small}
 use Rattle.marks_words.proofs.mark_words.Statement.{statement}
 use Rattle.marks_words.proofs.mark_words.Tie as tie
 

@@ -1,6 +1,6 @@
 -- `plan_rules_each::broken` meets its contract. Assumes nothing.
 use native.Mathlib.Omega.{arith}
-use Rattle.plan_rules.proofs.Laws.{some-yes, none-more, none-none}
+use Rattle.runs.proofs.Searches.{some-yes, none-more, none-none}
 use Rattle.runs.specs.Tests.{anyBelow}
 use Rattle.plan_rules.specs.Rules.{cause4, cause5, cause6, cause7, cause9, cause10, cause13, cause14}
 use Rattle.plan_rules_each.specs.declared.Rule.{Rule}

@@ -7,7 +7,7 @@ use Rattle.plan_rules_each.specs.Indexed.{countOf}
 use Rattle.plan_rules_each.specs.declared.Rule.{Rule}
 use Rattle.plan_rules_each.specs.declared.Rule.the-variants.{Starts, Names, Entries, Parents, Conditions}
 use Rattle.plan_rules_each.specs.declared.Rule.the-variants.{RisingConditions, Orders, RisingOrders}
-use Rattle.plan_rules.proofs.Laws.{whole-head}
+use Rattle.plan_format.proofs.Whole.{whole-head}
 use Rattle.plan_rules_each.proofs.count.Statement.{statement}
 use Rattle.plan_rules_each.proofs.count.Tie as tie
 

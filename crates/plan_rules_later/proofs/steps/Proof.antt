@@ -2,7 +2,7 @@
 use Prim.Native.Nat.{ℕ}
 use mathlib.Core.List.{List}
 use mathlib.Core.Path.{_≡_, sym, ap, _∙_}
-use Rattle.plan_rules.proofs.Laws.{whole-head}
+use Rattle.plan_format.proofs.Whole.{whole-head}
 use Rattle.plan_rules_later.specs.Passes.{stepsOf}
 use Rattle.plan_rules_later.specs.declared.Pass.{Pass}
 use Rattle.plan_rules_later.specs.declared.Pass.the-variants.{Children, Signs, Posts}

@@ -5,7 +5,7 @@ use Prim.Native.Nat.{_≤_, _-_}
 use denote.Ref.{now}
 use Rattle.plan_format.specs.Format.{condCount}
 use Rattle.runs.specs.Tests.{anyBelow}
-use Rattle.plan_rules.proofs.Laws.{some-yes, none-more, none-none}
+use Rattle.runs.proofs.Searches.{some-yes, none-more, none-none}
 use Rattle.plan_check.proofs.Accepted.{clean}
 use Rattle.node_sets.specs.Sets.{marked}
 use Rattle.run_conditions.specs.Conditions.{unmetAt}

@@ -9,7 +9,7 @@ use denote.Ref.{now}
 use Rattle.base.specs.Count.{countBelow}
 use Rattle.plan_format.specs.Format.{nodeCount}
 use Rattle.base.proofs.Count.{count-le}
-use Rattle.plan_rules.proofs.Laws.{and-both}
+use Rattle.base.proofs.Booleans.{and-both}
 use Rattle.base.proofs.Tally.{tally-start}
 use Rattle.run_starts.specs.Starts.{holders}
 use Rattle.run_starts.proofs.Counts.{holds, HeldTo, held-one, held-none}

@@ -5,7 +5,7 @@ use Prim.Native.Nat.{_≤_, _-_}
 use lib.Dec.{leb}
 use denote.Ref.{now}
 use Rattle.runs.specs.Tests.{anyBelow}
-use Rattle.plan_rules.proofs.Laws.{some-yes, none-more, none-none}
+use Rattle.runs.proofs.Searches.{some-yes, none-more, none-none}
 use Rattle.run_state.specs.State.{badFlag}
 use Rattle.run_state.proofs.Refused.{flag-bad}
 use borrow.Author.Needs.{needs}

@@ -5,7 +5,7 @@ use Prim.Native.Nat.{_≤_, _-_}
 use denote.Ref.{now}
 use Rattle.plan_format.specs.Format.{nodeCount}
 use Rattle.runs.specs.Tests.{anyBelow}
-use Rattle.plan_rules.proofs.Laws.{some-yes, none-more, none-none}
+use Rattle.runs.proofs.Searches.{some-yes, none-more, none-none}
 use Rattle.run_state.specs.Under.{badNodeIn}
 use native.Mathlib.Omega.{arith}
 use Rattle.run_state.proofs.nodes_bad.Statement.{statement}

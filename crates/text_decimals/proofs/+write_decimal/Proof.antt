@@ -2,7 +2,7 @@
 use mathlib.Core.Path.{sym, _∙_}
 use Prim.Native.Nat.{ℕ, _<_}
 use native.Mathlib.Omega.{arith}
-use Rattle.text_decimals.proofs.Laws.{decimal-digit, decimal-more, length-digit, length-more}
+use Rattle.text_decimals.proofs.Decimals.{decimal-digit, decimal-more, length-digit, length-more}
 use Rattle.text_decimals.proofs.Written.{wrote-long, wrote-then, wrote-same}
 use borrow.Fn.Kinds.{In}
 use borrow.Fn.PlainCycle.{Measures, is, falls, and}

@@ -6,7 +6,7 @@ use native.Mathlib.Omega.{arith}
 use lib.Bits.{bitOr}
 use denote.Ref.{now}
 use Rattle.base.specs.Bits.{Says}
-use Rattle.base.proofs.Equations.{one-shl}
+use Rattle.base.proofs.Bits.{one-shl}
 use Rattle.plan_format.specs.Format.{flagCount}
 use Rattle.plan_check.proofs.Accepted.{clean}
 use Rattle.verdict.proofs.Start.{SetBelow, start-none, start-set, start-clear, start-all}

@@ -1,6 +1,7 @@
 -- `plan_rules::tests::bad_pair` meets its contract. Assumes nothing.
 use native.Mathlib.Omega.{arith}
-use Rattle.plan_rules.proofs.Laws.{and-middle}
+use Rattle.base.proofs.Booleans.{and-middle}
+use Rattle.plan_format.proofs.Whole.{whole-head}
 use lib.Dec.{ltb, eqb}
 use mathlib.Core.Bool.{false}
 use mathlib.Core.Path.{_≡_}
@@ -9,7 +10,6 @@ use Rattle.plan_format.specs.Format.{nodeCount, parentOf, isKind}
 use denote.Ref.{now}
 use borrow.Author.Tests.{le-ltb}
 use Rattle.plan_rules.specs.Rules.{badPair, isChild}
-use Rattle.plan_rules.proofs.Laws.{whole-head}
 use Rattle.plan_rules.proofs.tests.bad_pair.Statement.{statement}
 use Rattle.plan_rules.proofs.tests.bad_pair.Tie as tie
 

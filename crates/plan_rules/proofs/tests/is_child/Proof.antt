@@ -5,7 +5,7 @@ use Rattle.plan_format.specs.Format.{nodeCount}
 use denote.Ref.{now}
 use borrow.Author.Tests.{lt-ltb, le-ltb}
 use Rattle.plan_rules.specs.Rules.{isChild}
-use Rattle.plan_rules.proofs.Laws.{whole-head}
+use Rattle.plan_format.proofs.Whole.{whole-head}
 use Rattle.plan_rules.proofs.tests.is_child.Statement.{statement}
 use Rattle.plan_rules.proofs.tests.is_child.Tie as tie
 

@@ -11,7 +11,8 @@ use borrow.Author.Tests.{eqb-true, eq-eqb}
 use Rattle.plan_format.specs.Format.{nodeCount, orderCount, parentOf, kindOf, minutesOf, earlierOf, laterOf, isKind}
 use Rattle.plan_format.specs.Format.{isChoice}
 use Rattle.plan_rules.specs.Rules.{isChild, badOrder, cause13}
-use Rattle.plan_rules.proofs.Laws.{none-at, or-split}
+use Rattle.base.proofs.Booleans.{or-split}
+use Rattle.runs.proofs.Searches.{none-at}
 use Rattle.runs.specs.Plan.{Kind, task, all-of, any-of, optional}
 use Rattle.plan_check.specs.Meaning.{kindAt}
 use Rattle.plan_check.proofs.Accepted.{Clean}

@@ -1,0 +1,2 @@
+-- A whole plan has its head.
+pub mod Whole
