@@ -68,7 +68,13 @@ verdict-told b xs a x q =
           (Iff·trans
           (number-tells verdictNumber verdictIn verdict-back (x .returns ∙ sym (answer-none (refusalUnder b xs) _ acc)) v)
           (x .judged acc v));
+      clear = λ acc. rw q (Iff·trans (tells acc CLEAR) (x .clear acc));
+      doomed = λ acc z. x .doomed acc (tells acc DOOMED .0 (sym q ∙ z));
     }
+  where
+    tells : refusalUnder b xs ≡ 0 → (v : Verdict) → (verdictNumber (said a) ≡ verdictNumber (inr v)) ↔ (said a ≡ inr v)
+    tells acc v =
+        number-tells verdictNumber verdictIn verdict-back (x .returns ∙ sym (answer-none (refusalUnder b xs) _ acc)) v
 
 pub status-told : (b xs s : List ℕ) (a : Progress) {r : ℕ} → Told b xs s a → r ≡ statusNumber (status.said a)
     → StatusNumber b xs s r

@@ -9,7 +9,9 @@ use Rattle.plan_check.specs.Meaning.{planOf, startOf}
 use Rattle.plan_blocked.specs.Blocked.{planUnder, refusalUnder}
 use Rattle.runs.specs.Blocked.{Refused28, Refused29}
 use Rattle.runs.specs.Execution.{Complete}
-use Rattle.runs.specs.Verdict.{Verdict, Judged}
+use Rattle.runs.specs.Verdict.{Verdict, CLEAR, DOOMED, Judged}
+use Rattle.runs.specs.Tests.{listed}
+use Rattle.runs.specs.Demand3.{NeverViolates, NeverCompletes}
 use Rattle.run_state.specs.State.{statusIn}
 use Rattle.run_state.specs.Under.{stateRefusalUnder}
 use Rattle.run_monitor.specs.Status.{COMPLETE, statusAnswer}
@@ -27,6 +29,8 @@ pub record VerdictNumber (b xs : List ℕ) (r : ℕ) : Type 0 where
   pub refused-29 : refusal b ≡ 0 → (r ≡ 29) ↔ ((¬ Refused28 (planOf b) xs) × Refused29 (planOf b) xs)
   pub judged : refusalUnder b xs ≡ 0 → (v : Verdict)
       → (r ≡ verdictNumber (inr v)) ↔ Judged (planUnder b xs) (startOf b) v
+  pub clear : refusalUnder b xs ≡ 0 → (r ≡ verdictNumber (inr CLEAR)) ↔ NeverViolates (planOf b) (listed xs) (startOf b)
+  pub doomed : refusalUnder b xs ≡ 0 → r ≡ verdictNumber (inr DOOMED) → NeverCompletes (planOf b) (listed xs) (startOf b)
 
 -- r is the number of the answer for the state, with the list xs; accepted, it is the number of COMPLETE exactly if the
 -- state shows the root complete

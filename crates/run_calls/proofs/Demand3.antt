@@ -23,7 +23,7 @@ use Rattle.runs.specs.Calls.{Call, World, acceptedStarts}
 use Rattle.runs.specs.Demand3 as plans
 use Rattle.runs.proofs.Calls.Demand3 as proved
 use Rattle.run_starts.specs.Starts.{ordinalIn}
-use Rattle.run_state.specs.State.{ordinalShown, worldOf}
+use Rattle.run_state.specs.State.{ordinalShown, statusIn, worldOf}
 use Rattle.run_calls.specs.Lists.{Listed}
 use Rattle.run_calls.specs.Demand3.{Bytes, Demand3Of, Demand3}
 use Rattle.run_calls.proofs.Followed.{list-follows, list-made, list-each}
@@ -69,12 +69,23 @@ module _ (b xs : List ℕ) (h : Bytes b) (acc : refusalUnder b xs ≡ 0) where
         each = list-each b xs h;
         follows = list-follows b xs h;
         ordinals = positions;
+        unique = λ x y. on-plans .unique x y;
+        complete = λ s cs rs z l t k a w.
+            let f = list-follows b xs h s cs rs z l in
+            let e : statusIn b z ≡ a .status =
+            ap (λ (y : World). y .status) (f .shown .states ∙ on-plans .unique (f .worked) w .1) in
+            (λ c. rw e at (k .complete .0 c .1), λ c. k .complete .1 (f .shown .well-formed, rw (sym e) at c));
         answer = λ r x. let (v, j, u) = on-plans .judged in (v, x .judged acc v .1 j, j, u);
         clear = λ r x. (
           λ q s cs rs z l. let f = list-follows b xs h s cs rs z l in
               on-plans .clear .0 (x .judged acc CLEAR .0 q) cs rs (f .after) (f .worked),
           λ g. x .judged acc CLEAR .1 (on-plans .clear .1 (never-worked g)),
         );
+        violated = λ r x k s room.
+            let v = on-plans .violated (λ c. k (x .judged acc CLEAR .1 c)) in
+            let m = list-made b xs acc s room (v .calls) in
+            let f = list-follows b xs h s (v .calls) (m .0) (m .1) (m .2) in
+            (v .calls, m .0, m .1, m .2, rw (on-plans .unique (v .worked) (f .worked) .0) at (v .violation));
         doomed = λ r x q s cs rs z l.
             let f = list-follows b xs h s cs rs z l in
             let d = x .judged acc DOOMED .0 q in (

@@ -14,6 +14,7 @@ use Rattle.plan_check.specs.Meaning.{planOf, startOf}
 use Rattle.runs.specs.Execution.{Complete}
 use Rattle.runs.specs.Verdict.{Verdict, CLEAR, DOOMED, Judged}
 use Rattle.runs.specs.Calls.{Call, World, fresh, Answered, Worked, acceptedStarts}
+use Rattle.runs.specs.Demand3.{Violation}
 use Rattle.run_starts.specs.Starts.{nodeByte, ordinalIn}
 use Rattle.run_state.specs.State.{worldOf}
 use Rattle.run_state.specs.Under.{stateRefusalUnder}
@@ -83,6 +84,14 @@ pub record Demand3Of (b xs : List ℕ) : Type 0 where
   pub ordinals : (s : List ℕ) (cs : List Call) (rs z : List ℕ) → Listed b xs s cs rs z → (n : ℕ) → n < nodeCount b
       → (k : ℕ) → (ordinalIn b z n ≡ suc k)
       ↔ ((k < length (acceptedStarts cs rs)) × (getD (acceptedStarts cs rs) k 0 ≡ n))
+  -- what 01 works out is one: of one list of calls no other returns, no other states
+  pub unique : {cs : List Call} {ns ms : List ℕ} {a c : World}
+      → Worked (planOf b) (planUnder b xs) (fresh (startOf b)) cs ns a
+      → Worked (planOf b) (planUnder b xs) (fresh (startOf b)) cs ms c → (ns ≡ ms) × (a ≡ c)
+  -- after every list `status` says COMPLETE exactly if the root is complete in the states worked out
+  pub complete : (s : List ℕ) (cs : List Call) (rs z : List ℕ) → Listed b xs s cs rs z → (t : Progress)
+      → Told b xs z t → (a : World) → Worked (planOf b) (planUnder b xs) (fresh (startOf b)) cs rs a
+      → (status.said t ≡ inr COMPLETE) ↔ Complete (planUnder b xs) (a .status) 0
   -- the answer is the one that 01 defines
   pub answer : (r : Answer) → Assessed b xs r
       → (v : Verdict) × (said r ≡ inr v) × Judged (planUnder b xs) (startOf b) v
@@ -92,6 +101,10 @@ pub record Demand3Of (b xs : List ℕ) : Type 0 where
       → (said r ≡ inr CLEAR) ↔ ((s : List ℕ) (cs : List Call) (rs z : List ℕ) → Listed b xs s cs rs z → (n : ℕ)
       → Among n rs
       → (n ≢ 21) × (n ≢ 22) × (n ≢ 26))
+  -- if it is not, some list of calls has such a return (02: "a book that is not CLEAR has one"), on any bytes that have
+  -- room for a state
+  pub violated : (r : Answer) → Assessed b xs r → said r ≢ inr CLEAR → (s : List ℕ) → 8 + 3 * nodeCount b ≤ length s
+      → (cs : List Call) × (rs : List ℕ) × (z : List ℕ) × Listed b xs s cs rs z × Violation rs
   -- if it is DOOMED, the root is complete after no list: not in the states worked out, and `status` never says so
   pub doomed : (r : Answer) → Assessed b xs r → said r ≡ inr DOOMED
       → (s : List ℕ) (cs : List Call) (rs z : List ℕ) → Listed b xs s cs rs z

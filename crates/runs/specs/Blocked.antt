@@ -93,6 +93,11 @@ pub record Keeps (p q : Plan) : Type 0 where
   pub clear : (F : ℕ → Bool) → Clear p F → Clear q F
   pub doomed : (F : ℕ → Bool) → Doomed p F → Doomed q F
 
+-- 02's "striking more branches": each node that S blocks is blocked or under a blocked node where the nodes in R are
+-- (blocking a choice above it will do as well as blocking it)
+abbrev pub BlocksMore : Plan → (ℕ → Bool) → (ℕ → Bool) → Type 0
+BlocksMore p S R = (s : ℕ) → T (S s) → ¬ Stands p R s
+
 -- r is p with orders added. (Kinds and parents are compared at the nodes: past them plans may say anything.)
 pub record OrdersAdded (p r : Plan) : Type 0 where
   pub same-nodes : (i : ℕ) → p .tree .here i ≡ r .tree .here i

@@ -16,6 +16,12 @@ use Rattle.runs.specs.Blocked.{without}
 abbrev pub NoViolation : List ℕ → Type 0
 NoViolation ns = (r : ℕ) → Among r ns → (r ≢ 21) × (r ≢ 22) × (r ≢ 26)
 
+-- some return is 21, 22 or 26
+pub record Violation (ns : List ℕ) : Type 0 where
+  pub return : ℕ
+  pub returned : Among return ns
+  pub violates : (return ≡ 21) ⊎ ((return ≡ 22) ⊎ (return ≡ 26))
+
 -- Starts in the order of the list l: the ordinal of x is k + 1 exactly if x stands in l after k others, and 0 exactly
 -- while x waits or is no task.
 pub record Numbered (p : Plan) (l : List ℕ) (a : World) : Type 0 where
@@ -34,6 +40,14 @@ module _ (p : Plan) (S : ℕ → Bool) (F : ℕ → Bool) where
   -- or 26"; the lists have skips too)
   abbrev pub NeverViolates : Type 0
   NeverViolates = (cs : List Call) (ns : List ℕ) (a : World) → Calls cs ns a → NoViolation ns
+
+  -- 02's "a book that is not CLEAR has one": a list of calls in which one returns 21, 22 or 26
+  pub record Violated : Type 0 where
+    pub calls : List Call
+    pub returns : List ℕ
+    pub after : World
+    pub worked : Calls calls returns after
+    pub violation : Violation returns
 
   -- the root is complete after no list
   abbrev pub NeverCompletes : Type 0
@@ -62,5 +76,7 @@ pub record Demand3 (p : Plan) (S : ℕ → Bool) (F : ℕ → Bool) : Type 0 whe
   pub judged : (v : Verdict) × Judged (without p S) F v × ((u : Verdict) → Judged (without p S) F u → u ≡ v)
   -- CLEAR exactly if no call in any list returns 21, 22 or 26
   pub clear : Clear (without p S) F ↔ NeverViolates p S F
+  -- and where it is not CLEAR, a call in some list does
+  pub violated : ¬ Clear (without p S) F → Violated p S F
   -- DOOMED: the root is complete after no list
   pub doomed : Doomed (without p S) F → NeverCompletes p S F

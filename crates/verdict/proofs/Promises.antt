@@ -20,11 +20,11 @@ use Rattle.plan_check.proofs.Nodes.{node-is}
 use Rattle.plan_blocked.specs.Blocked.{planUnder, refusalUnder}
 use Rattle.plan_blocked.proofs.Refused.{plan-accepted, strictly-rises, blocks, list-passes}
 use Rattle.runs.specs.Tests.{anyBelow, listed}
-use Rattle.runs.specs.Plan.{Place, placeNumber}
+use Rattle.runs.specs.Plan.{itself, Place, placeNumber}
 use Rattle.runs.specs.Verdict.{CLEAR, DOOMED}
 use Rattle.runs.specs.Blocked as plans
 use Rattle.runs.proofs.Calls.Listed.{r-listed}
-use Rattle.runs.proofs.Blocked.Branches.{blocks-out, blocking-keeps, orders-keep}
+use Rattle.runs.proofs.Blocked.Branches.{blocks-out, more-keeps, orders-keep}
 use Rattle.verdict.specs.declared.Answer.{Answer}
 use Rattle.verdict.specs.Verdict.{Assessed}
 use Rattle.verdict.specs.Promises.{Keeps, BlockingKeeps, OrdersAdded, OrdersKeep}
@@ -39,8 +39,12 @@ answers-keep b c xs ys okb okc s k a d x y = record {
 
 pub blocking-promise : BlockingKeeps
 blocking-promise b xs ys okx oky h a c x y = answers-keep b b xs ys okx oky refl
-    (blocking-keeps (planOf b) (means-well-formed b (plan-accepted b xs okx)) (listed xs) (listed ys) (blocks b xs okx)
-    (blocks b ys oky) (λ s t. (r-listed ys s) .from (h s ((r-listed xs s) .to t)))) a c x y
+    (more-keeps (planOf b) (means-well-formed b (plan-accepted b xs okx)) (listed xs) (listed ys) (blocks b xs okx)
+    (blocks b ys oky) (λ s t. h s ((r-listed xs s) .to t))) a c x y
+
+pub included-more : (b xs ys : List ℕ) → ((s : ℕ) → Among s xs → Among s ys) → (s : ℕ) → Among s xs
+    → ¬ plans.Stands (planOf b) (listed ys) s
+included-more b xs ys h s i x = x .outside s ((r-listed ys s) .from (h s i)) itself
 
 -- ---- orders added
 module _ (b c : List ℕ) (okb : refusal b ≡ 0) (h : OrdersAdded b c) where

@@ -6,8 +6,10 @@ use mathlib.Core.List.{List, List·Memᴰ as Among}
 use Prim.Native.Nat.{ℕ, _<_}
 use Rattle.plan_format.specs.Format.{nodeCount, condCount, flagCount, parentOf, kindOf, condNode, condValue, startFlag}
 use Rattle.plan_rules.specs.Rules.{refusal}
-use Rattle.plan_check.specs.Meaning.{OrderPair}
+use Rattle.plan_check.specs.Meaning.{planOf, OrderPair}
 use Rattle.plan_blocked.specs.Blocked.{refusalUnder}
+use Rattle.runs.specs.Tests.{listed}
+use Rattle.runs.specs.Blocked.{Stands}
 use Rattle.runs.specs.Verdict.{CLEAR, DOOMED}
 use Rattle.verdict.specs.declared.Answer.{Answer}
 use Rattle.verdict.specs.Verdict.{said, Assessed}
@@ -17,10 +19,13 @@ pub record Keeps (a c : Answer) : Type 0 where
   pub clear : said a ≡ inr CLEAR → said c ≡ inr CLEAR
   pub doomed : said a ≡ inr DOOMED → said c ≡ inr DOOMED
 
--- more branches are blocked: every number of xs is in ys
+-- more branches are blocked: what xs blocks is blocked or under a blocked node with ys. (It need not be in ys: blocking
+-- a choice blocks more than blocking a branch of it. `included-more` in proofs/Promises: it is so if every number of xs
+-- is in ys.)
 abbrev pub BlockingKeeps : Type 0
 BlockingKeeps = (b xs ys : List ℕ) → refusalUnder b xs ≡ 0 → refusalUnder b ys ≡ 0
-    → ((s : ℕ) → Among s xs → Among s ys) → (a c : Answer) → Assessed b xs a → Assessed b ys c → Keeps a c
+    → ((s : ℕ) → Among s xs → ¬ Stands (planOf b) (listed ys) s) → (a c : Answer) → Assessed b xs a
+    → Assessed b ys c → Keeps a c
 
 -- the bytes c say what the bytes b say, and more orders. (Names and minutes are no matter here.)
 pub record OrdersAdded (b c : List ℕ) : Type 0 where

@@ -8,13 +8,14 @@ use Rattle.runs.specs.Tests.{either, anyIn, listed}
 use Rattle.runs.specs.Calls.{SomeOf, Rising, empty}
 use Rattle.runs.specs.Blocked.{over, Keeps, Stands, stands, without, MarkedUnder, markedUnderB, OrdersAdded}
 use Rattle.runs.specs.Blocked.{Refused28, not-rising, names-root, no-node, no-choice, Refused29, no-branch, Blocks}
-use Rattle.runs.specs.Blocked.{unblockableB, refused28B, refused29B, blockedRefusal}
+use Rattle.runs.specs.Blocked.{BlocksMore, unblockableB, refused28B, refused29B, blockedRefusal}
 use Rattle.runs.proofs.Reflect.{clash, Reflects, decided, force, r-map, r-T, r-both, r-either, r-negate, r-guarded, r-eq}
 use Rattle.runs.proofs.Reflect.{r-lt, r-any, T-true, true-T}
 use Rattle.runs.proofs.Plan.{under-node, r-kind, r-picks, r-some-child}
 use Rattle.runs.proofs.Summary.{marks-exact}
 use Rattle.runs.proofs.Calls.Listed.{r-rising, r-some-of, r-listed}
-use Rattle.runs.proofs.Blocked.Standing.{r-stands, r-standing-order, stands-up, stands-down, standing-child, child-stands}
+use Rattle.runs.proofs.Blocked.Standing.{r-stands, r-standing-order, stands-up, stands-down, stands-above, standing-child}
+use Rattle.runs.proofs.Blocked.Standing.{child-stands}
 use Rattle.runs.proofs.Blocked.Standing.{without-well-formed, nothing-absent}
 use Rattle.runs.proofs.Blocked.Thinner.{Thinner, thinner-keeps}
 
@@ -232,8 +233,8 @@ module _ (p r : Plan) (w : WellFormed p) (wr : WellFormed r) (added : OrdersAdde
         (c, standing-child r wr S (child-out h) (stands-down r wr S (child-out h) (λ b. y .outside c b itself) xr));
   }
 
-  -- the nodes in R are blocked where those in S were
-  module _ (S R : ℕ → Bool) (okS : Blocks p S) (okR : Blocks r R) (more : (s : ℕ) → T (S s) → T (R s)) where
+  -- fewer nodes stand where the nodes in R are blocked than where those in S are
+  module _ (S R : ℕ → Bool) (okS : Blocks p S) (okR : Blocks r R) (fewer : (i : ℕ) → Stands r R i → Stands p S i) where
     wq : WellFormed (without r R)
     wq = blocked-well-formed r wr R okR
 
@@ -246,7 +247,7 @@ module _ (p r : Plan) (w : WellFormed p) (wr : WellFormed r) (added : OrdersAdde
       present = wq .root-node;
       same-kind = λ i l. added .same-kind i (node-in i (standing i l .node));
       same-parent = λ i z l. added .same-parent i z (node-in i (standing i l .node));
-      no-other = λ g c ug hc. let (h, x) = child-stands r wr R hc in standing-child p w S (child-in h) (stood S R more x);
+      no-other = λ g c ug hc. let (h, x) = child-stands r wr R hc in standing-child p w S (child-in h) (fewer c x);
       all-parts = λ g c ug k hc. let h : Child r g c = child-out (child-stands p w S hc .0) in
           standing-child r wr R h (parts-stand r wr R okR k h (standing g (under-node (without r R) (wq .root-node) ug)));
       all-orders = λ g a b ug ha hb x. (r-standing-order r wr R a b) .from
@@ -260,16 +261,32 @@ module _ (p r : Plan) (w : WellFormed p) (wr : WellFormed r) (added : OrdersAdde
         same : over p (without r R .tree) (without r R .order) ≡ without r R
         same = ap (λ c. record { tree = without r R .tree; cond = c; order = without r R .order }) (added .same-conditions)
 
--- and one by one: blocking more branches where 28 and 29 pass; adding orders that the rules accept, under the same blocked nodes
-pub blocking-keeps : (p : Plan) → WellFormed p → (S R : ℕ → Bool) → Blocks p S → Blocks p R → ((s : ℕ) → T (S s) → T (R s))
-    → Keeps (without p S) (without p R)
-blocking-keeps p w = promises p p w w (record {
+-- no order need be added
+none-added : (p : Plan) → OrdersAdded p p
+none-added p = record {
   same-nodes = λ i. refl;
   same-kind = λ i l. refl;
   same-parent = λ i z l. refl;
   same-conditions = refl;
   no-order-lost = λ a b x. x;
-})
+}
+
+-- each blocked node of S is absent under R (it or a node above it is blocked) exactly if fewer nodes stand
+pub more-blocked : (p : Plan) → WellFormed p → (S R : ℕ → Bool) → BlocksMore p S R ↔ ((i : ℕ) → Stands p R i → Stands p S i)
+more-blocked p w S R = (
+  λ m i x. record { node = x .node; outside = λ s y u. m s y (stands-above p w R u x) },
+  λ f s y x. f s x .outside s y itself,
+)
+
+-- and one by one: blocking more branches where 28 and 29 pass; adding orders that the rules accept, under the same blocked nodes
+pub more-keeps : (p : Plan) → WellFormed p → (S R : ℕ → Bool) → Blocks p S → Blocks p R → BlocksMore p S R
+    → Keeps (without p S) (without p R)
+more-keeps p w S R okS okR more = promises p p w w (none-added p) S R okS okR ((more-blocked p w S R) .0 more)
+
+pub blocking-keeps : (p : Plan) → WellFormed p → (S R : ℕ → Bool) → Blocks p S → Blocks p R → ((s : ℕ) → T (S s) → T (R s))
+    → Keeps (without p S) (without p R)
+blocking-keeps p w S R okS okR more = more-keeps p w S R okS okR (λ s y x. x .outside s (more s y) itself)
 
 pub orders-keep : (p r : Plan) → WellFormed p → WellFormed r → OrdersAdded p r → (S : ℕ → Bool) → Blocks p S → Keeps (without p S) (without r S)
-orders-keep p r w wr added S ok = promises p r w wr added S S ok (blocks-out p r w wr added S ok) (λ s x. x)
+orders-keep p r w wr added S ok = promises p r w wr added S S ok (blocks-out p r w wr added S ok)
+    (λ i x. stood p r w wr added S S (λ s y. y) x)

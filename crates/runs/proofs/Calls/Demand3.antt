@@ -7,7 +7,7 @@ use Rattle.runs.specs.Execution.{Complete, lastAssertedOf, asserts, Exec
 use Rattle.runs.specs.Verdict.{Clear, Doomed}
 use Rattle.runs.specs.Calls.{Call, World, fresh, Refusal, pre-unmet, inc-broken, post-opposed, number, Task}
 use Rattle.runs.specs.Calls.{Optional}
-use Rattle.runs.specs.Demand3.{Calls, NoViolation, WaitsOrSkipped, Demand3}
+use Rattle.runs.specs.Demand3.{Calls, NoViolation, Violation, Violated, WaitsOrSkipped, Demand3}
 use Rattle.runs.specs.Blocked.{without, Blocks}
 use Rattle.runs.specs.Model.Monitor.{returns, states}
 use Rattle.runs.specs.Model.Verdicts.{verdict}
@@ -51,6 +51,20 @@ module _ (whole p : Plan) (part : LeftOf whole p) (w : WellFormed p) (F : ℕ �
       from : ((cs : List Call) → NoViolation (returns whole p (fresh F) cs)) → Clear p F ⊎ FirstViolation p F → Clear p F
       from g (inl c) = c
       from g (inr x) = absurd (no-list g (violating-list whole p part w F x))
+
+  -- and where it is not CLEAR, a call in some list does
+  pub violated : ¬ Clear p F → (cs : List Call) × Violation (returns whole p (fresh F) cs)
+  violated k = from (clear-or-first-violation p w F)
+    where
+      number-of : (r : Refusal) → Violating r → (number r ≡ 21) ⊎ ((number r ≡ 22) ⊎ (number r ≡ 26))
+      number-of r (inl q) = inl (ap number q)
+      number-of r (inr (inl q)) = inr (inl (ap number q))
+      number-of r (inr (inr q)) = inr (inr (ap number q))
+
+      from : Clear p F ⊎ FirstViolation p F → (cs : List Call) × Violation (returns whole p (fresh F) cs)
+      from (inl c) = absurd (k c)
+      from (inr x) = let y = violating-list whole p part w F x in
+          (y .calls, record { return = number (y .refusal); returned = y .hit; violates = number-of (y .refusal) (y .violating) })
 
   -- DOOMED: the root is complete after no list
   pub doomed-never-complete : Doomed p F → (cs : List Call) → ¬ Complete p (states whole p (fresh F) cs .status) 0
@@ -132,6 +146,13 @@ module _ (p : Plan) (w : WellFormed p) (S : ℕ → Bool) (ok : Blocks p S) (F :
       λ g. (clear-exact p q part wq F) .1
           (λ cs. g cs (returns p q (fresh F) cs) (states p q (fresh F) cs) (worked p q wq (fresh F) cs)),
     );
+    violated = λ k. let (cs, x) = violated p q part wq F k in record {
+      calls = cs;
+      returns = returns p q (fresh F) cs;
+      after = states p q (fresh F) cs;
+      worked = worked p q wq (fresh F) cs;
+      violation = x;
+    };
     doomed = λ d cs ns a x. doomed d x;
   }
     where
