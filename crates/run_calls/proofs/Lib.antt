@@ -2,4 +2,3 @@ pub mod Bytes
 pub mod Kept
 pub mod Followed
 pub mod Demand3
-pub mod Partly

@@ -1,4 +1,3 @@
 pub mod Shown
 pub mod Lists
 pub mod Demand3
-pub mod Replay

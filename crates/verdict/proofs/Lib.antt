@@ -1,4 +1,3 @@
 -- Laws of the verdict.
 pub mod Start
 pub mod Judging
-pub mod Promises

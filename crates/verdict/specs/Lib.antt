@@ -1,3 +1,2 @@
--- What the call for a verdict answers, and what its answers keep.
+-- What the call for a verdict answers.
 pub mod Verdict
-pub mod Promises

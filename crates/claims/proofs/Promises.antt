@@ -25,9 +25,9 @@ use Rattle.runs.specs.Verdict.{CLEAR, DOOMED}
 use Rattle.runs.specs.Blocked as plans
 use Rattle.runs.proofs.Calls.Listed.{r-listed}
 use Rattle.runs.proofs.Blocked.Branches.{blocks-out, more-keeps, orders-keep}
 use Rattle.verdict.specs.declared.Answer.{Answer}
 use Rattle.verdict.specs.Verdict.{Assessed}
-use Rattle.verdict.specs.Promises.{Keeps, BlockingKeeps, OrdersAdded, OrdersKeep}
+use Rattle.claims.specs.Promises.{Keeps, BlockingKeeps, OrdersAdded, OrdersKeep}
 
 -- what holds of the plans holds of the answers
 answers-keep : (b c xs ys : List ℕ) → refusalUnder b xs ≡ 0 → refusalUnder c ys ≡ 0 → startOf b ≡ startOf c

@@ -1,0 +1,2 @@
+-- `blocking-promise` and `orders-promise`: 02's two promises hold.
+pub mod Promises

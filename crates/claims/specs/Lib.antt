@@ -1,0 +1,2 @@
+-- Claims that take the promises of the calls as their hypotheses.
+pub mod Promises

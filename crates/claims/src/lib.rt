@@ -1,0 +1,1 @@
+// Closed claims over what the calls answer. No code.
