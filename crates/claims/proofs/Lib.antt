@@ -1,2 +1,4 @@
+-- `lists-read`: what is left of a plan, 28 and 29, are what 02 says.
+pub mod Left
 -- `blocking-promise` and `orders-promise`: 02's two promises hold.
 pub mod Promises

@@ -1,2 +1,3 @@
--- Claims that take the promises of the calls as their hypotheses.
+-- Claims that take the promises of the calls as their hypotheses, and what these promises say of blocked nodes.
+pub mod Left
 pub mod Promises
