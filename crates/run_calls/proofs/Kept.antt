@@ -27,11 +27,12 @@ use Rattle.run_state.proofs.Passed.{passed, has-room, is-well, byte-rests, byte
 use Rattle.run_starts.proofs.Numbers.{unstarted-none, ordinal-small}
 use Rattle.node_sets.specs.Sets.{only}
 use Rattle.run_refusals.specs.Events.{eventPlace, callRefusal}
-use Rattle.run_monitor.specs.Events.{afterAll, callState}
+use Rattle.run_step.specs.Steps.{afterAll}
+use Rattle.run_monitor.specs.Events.{callState}
 use Rattle.run_monitor.proofs.Events.{Going, nothing, going, goes-under, call-goes}
 use Rattle.run_monitor.proofs.Equations.{refused-22, accepted}
-use Rattle.run_monitor.proofs.Written.{byte-flags}
-use Rattle.run_monitor.proofs.After.{Fit, after, inside, after-length, after-past, after-flags, event-written}
+use Rattle.run_step.proofs.Written.{byte-flags}
+use Rattle.run_step.proofs.After.{Fit, after, inside, after-length, after-past, after-flags, event-written}
 use Rattle.run_calls.specs.Shown.{numberByte, shownByte}
 use Rattle.run_calls.specs.Demand3.{Bytes, GroupByte}
 use Rattle.run_calls.proofs.Bytes.{flag-byte, made-small}

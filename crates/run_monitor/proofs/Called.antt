@@ -18,7 +18,8 @@ use Rattle.run_state.proofs.Passed.{list-passed}
 use Rattle.plan_blocked.specs.Blocked.{planUnder}
 use Rattle.plan_blocked.proofs.Refused.{under-well-formed}
 use Rattle.run_refusals.specs.Events.{callRefusal}
-use Rattle.run_monitor.specs.Events.{afterAll, callReturn, callState, Called}
+use Rattle.run_step.specs.Steps.{afterAll}
+use Rattle.run_monitor.specs.Events.{callReturn, callState, Called}
 use Rattle.run_monitor.proofs.Equations.{refused-16, refused-22, accepted}
 use Rattle.run_monitor.proofs.Events.{call-steps}
 

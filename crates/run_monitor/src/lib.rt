@@ -1,32 +1,22 @@
 // The monitor (01: keeper): whether the root is complete, the start and the finish of a task, the skip of an optional
 // group, the finishes of several tasks in one step.
-use base::places::POST;
 use base::statuses::DONE;
-use base::statuses::RUNNING;
 use node_sets::all_nodes;
-use node_sets::mark_all;
-use node_sets::mark_one;
-use run_conditions::with_literals;
-use run_flags::load;
-use run_flags::store;
 use run_progress::Tally;
 use run_progress::children;
 use run_progress::is_complete;
 use run_refusals::Move;
-use run_refusals::place_of;
 use run_refusals::refused;
 use run_refusals::skip_refused;
 use run_refusals::together_refused;
-use run_starts::started;
-use run_starts::write_ordinal;
 use run_state::check_state;
-ghost use mathlib.Core.Path.{_≡_};
+use run_step::write_finishes;
+use run_step::write_move;
 ghost use Rattle.runs.specs.Execution as execution;
-ghost use Rattle.runs.specs.Calls.{one, together, finishes};
-ghost use Rattle.run_state.specs.State.{AtEvent};
+ghost use Rattle.runs.specs.Calls.{one, together};
 ghost use Rattle.run_refusals.specs.Events.{eventOf};
 ghost use Rattle.run_monitor.specs.Status.{Told};
-ghost use Rattle.run_monitor.specs.Events.{withEvent, afterEvent, afterAll, Finishing, Called};
+ghost use Rattle.run_monitor.specs.Events.{Called};
 
 pub enum Progress {
     Refused(u32),
@@ -48,34 +38,6 @@ pub fn status(plan: &[u8], blocked: &[usize], state: &[u8]) -> Progress
         return Progress::Complete;
     }
     Progress::Unfinished
-}
-
-// Writes the literals of the task at the place, and its byte.
-fn write_event(plan: &[u8], state: &mut [u8], place: u16, task: usize, byte: u8)
-    requires { ⌜ AtEvent (now plan) (now state) task ⌝ }
-    ensures { λ _. ⌜ now (state .exit) ≡ withEvent (now (plan .entry)) place task byte (now (state .entry)) ⌝ }
-{
-    let own = mark_one(task);
-    let next = with_literals(plan, place, &own, load(state));
-    store(state, next);
-    state[8 + task] = byte;
-}
-
-// Writes all that a move changes: the literals, the byte, and the ordinal of a start.
-fn write_move(plan: &[u8], state: &mut [u8], m: Move, task: usize)
-    requires { ⌜ AtEvent (now plan) (now state) task ⌝ }
-    ensures { λ _. ⌜ now (state .exit) ≡ afterEvent (now (plan .entry)) (now (state .entry)) (eventOf m task) ⌝ }
-{
-    match m {
-        Move::Start => {
-            let k = started(plan, state) + 1;
-            write_event(plan, state, place_of(m), task, RUNNING);
-            write_ordinal(plan, state, task, k);
-        }
-        Move::Finish => {
-            write_event(plan, state, place_of(m), task, DONE);
-        }
-    }
 }
 
 // The task moves on: what its move changes is written. Refused, nothing changes.
@@ -129,22 +91,6 @@ pub fn skip(plan: &[u8], blocked: &[usize], state: &mut [u8], group: usize) -> u
     }
     state[8 + group] = DONE;
     0
-}
-
-// Writes the postconditions of the tasks, and their bytes.
-fn write_finishes(plan: &[u8], state: &mut [u8], tasks: &[usize])
-    requires { ⌜ Finishing (now plan) (now state) (now tasks) ⌝ }
-    ensures { λ _. ⌜ now (state .exit) ≡ afterAll (now (plan .entry)) (now (state .entry))
-        (finishes (now (tasks .entry))) ⌝ }
-{
-    let marks = mark_all(tasks);
-    let next = with_literals(plan, POST, &marks, load(state));
-    store(state, next);
-    let mut i = tasks.len();
-    while 0 < i {
-        i -= 1;
-        state[8 + tasks[i]] = DONE;
-    }
 }
 
 // The tasks finish in one step: their bytes say done and their postconditions are made true. Refused, nothing changes.

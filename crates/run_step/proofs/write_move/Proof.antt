@@ -9,9 +9,9 @@ use Rattle.run_state.proofs.Refused.{fits}
 use Rattle.run_state.proofs.Passed.{has-room}
 use Rattle.run_starts.proofs.Counts.{started-le}
 use Rattle.run_refusals.specs.declared.Move.the-variants.{Start, Finish}
-use Rattle.run_monitor.proofs.Equations.{start-written, finish-written}
-use Rattle.run_monitor.proofs.write_move.Statement.{statement}
-use Rattle.run_monitor.proofs.write_move.Tie as tie
+use Rattle.run_step.proofs.Moves.{start-written, finish-written}
+use Rattle.run_step.proofs.write_move.Statement.{statement}
+use Rattle.run_step.proofs.write_move.Tie as tie
 
 started-requires : tie.Need-started-requires
 started-requires c κs = fits _ _ (has-room _ _ (c .before .before .before .before .before .pre .passed))

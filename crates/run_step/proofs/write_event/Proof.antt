@@ -1,10 +1,10 @@
 -- `write_event` meets its contract. Assumes nothing.
-use Rattle.run_monitor.specs.Events.{withEvent}
+use Rattle.run_step.specs.Steps.{withEvent}
 use borrow.Author.Needs.{needs}
 use native.Mathlib.Omega.{arith}
 use Rattle.run_state.proofs.Passed.{has-room}
-use Rattle.run_monitor.proofs.write_event.Statement.{statement}
-use Rattle.run_monitor.proofs.write_event.Tie as tie
+use Rattle.run_step.proofs.write_event.Statement.{statement}
+use Rattle.run_step.proofs.write_event.Tie as tie
 
 mark-one-requires : tie.Need-mark-one-requires
 mark-one-requires c κs = let s = c .before .before in

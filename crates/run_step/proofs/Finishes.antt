@@ -13,7 +13,7 @@ use Rattle.run_state.specs.Made.{made}
 use Rattle.runs.specs.Tests.{listed}
 use Rattle.node_sets.specs.Sets.{only}
 use Rattle.run_conditions.proofs.Laws.{made-nil, made-cons, made-length}
-use Rattle.run_monitor.specs.Events.{withEvent, afterAll}
+use Rattle.run_step.specs.Steps.{withEvent, afterAll}
 
 -- z with a 2 at each number of a list
 unfoldable pub allDone : List ℕ → List ℕ → List ℕ

@@ -28,9 +28,9 @@ use Rattle.run_starts.proofs.Ordinals.{ordinal-length, ordinal-before, ordinal-
 use Rattle.run_starts.proofs.Numbering.{Numbering, start-numbering, same-numbering}
 use Rattle.run_refusals.specs.Events.{eventPlace}
 use Rattle.run_refusals.proofs.Chain.{eventKind}
-use Rattle.run_monitor.specs.Events.{withEvent, afterEvent}
-use Rattle.run_monitor.proofs.Written.{next-length, byte-own, byte-other, byte-past, flag-next}
-use Rattle.run_monitor.proofs.Written.{no-sign, only-byte}
+use Rattle.run_step.specs.Steps.{withEvent, afterEvent}
+use Rattle.run_step.proofs.Written.{next-length, byte-own, byte-other, byte-past, flag-next}
+use Rattle.run_step.proofs.Written.{no-sign, only-byte}
 
 -- ---- an ordinal written if the event is a start
 abbrev withStart : List ℕ → ℕ → Event → List ℕ → List ℕ

@@ -23,7 +23,7 @@ use Rattle.run_state.proofs.Passed.{has-room}
 use Rattle.run_state.specs.Made.{made}
 use Rattle.node_sets.specs.Sets.{only}
 use Rattle.run_conditions.proofs.Laws.{literals-idle, made-length, made-flag, of-is, on-task}
-use Rattle.run_monitor.specs.Events.{withEvent}
+use Rattle.run_step.specs.Steps.{withEvent}
 
 module _ (b s : List ℕ) (ok : stateRefusal b s ≡ 0) (k : Place) (t x : ℕ) (inside : t < nodeCount b) where
   abbrev flags : List ℕ

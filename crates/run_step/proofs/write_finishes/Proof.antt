@@ -12,11 +12,11 @@ use Rattle.run_state.proofs.Passed.{has-room}
 use Rattle.runs.specs.Tests.{listed}
 use Rattle.node_sets.specs.Sets.{Each}
 use Rattle.node_sets.proofs.Lists.{among-at, drop-none}
-use Rattle.run_monitor.proofs.Finishes.{allDone, nothing-done, done-more, all-written}
+use Rattle.run_step.proofs.Finishes.{allDone, nothing-done, done-more, all-written}
 use borrow.Author.Needs.{needs}
 use native.Mathlib.Omega.{arith}
-use Rattle.run_monitor.proofs.write_finishes.Statement.{statement}
-use Rattle.run_monitor.proofs.write_finishes.Tie as tie
+use Rattle.run_step.proofs.write_finishes.Statement.{statement}
+use Rattle.run_step.proofs.write_finishes.Tie as tie
 
 -- the tasks from i on are done
 abbrev Inv-loop : tie.InvT-loop
