@@ -18,7 +18,11 @@ use Rattle.run_conditions.proofs.broken_at.Tie as tie
 room : (c : tie.Start) → Roomy (now (c .args .plan)) (now (c .args .state))
 room c = has-room _ _ (c .pre .1)
 
-node-below : (c : tie.After-wide) → c .wide .result < nodeCount (now (c .before .before .before .before .args .plan))
+-- what the call was given
+abbrev entry : tie.After-wide → tie.Start
+entry c = c .before .before .before .before
+
+node-below : (c : tie.After-wide) → c .wide .result < nodeCount (now (entry c .args .plan))
 node-below c =
     let s = c .before .before .before .before in
     omega (
@@ -28,10 +32,8 @@ node-below c =
       on-task _ (room s .accepted) (s .args .i) (s .pre .0) .0,
     )
 
-kept : (c : tie.Joined1) → c .if1 .kept
-    ≡ flagIn (cond (c .before .set-at .result)
-    (c .before .before .before .before .before .before .before .args .set .bytes)
-    (c .before .before .before .before .before .before .before .args .clear .bytes))
+kept : (c : tie.Joined1) → let a = entry (c .before .before .before) .args in
+    c .if1 .kept ≡ flagIn (cond (c .before .set-at .result) (a .set .bytes) (a .clear .bytes))
     (c .before .before .flag-at .result)
 kept c =
     ⊎-elim

@@ -25,20 +25,21 @@ Inv-loop plan state place tasks clear set n i₀ i = (i ≤ n)
 abbrev μ-loop : tie.MeasureT-loop
 μ-loop plan state place tasks clear set n i₀ i = n - i
 
-clear-is : (c : tie.After-all2 Inv-loop μ-loop)
-    → c .before .with-literals .result .bytes ≡ made (now (c .before .before .before .before .before .args .plan))
-    (c .before .before .before .before .before .args .place)
-    (marked (now (c .before .before .before .before .before .args .tasks))) (replicate 8 (allByte false))
+-- what the call was given
+abbrev entry : tie.After-all2 Inv-loop μ-loop → tie.Start Inv-loop μ-loop
+entry c = c .before .before .before .before .before
+
+clear-is : (c : tie.After-all2 Inv-loop μ-loop) → let a = entry c .args in
+    c .before .with-literals .result .bytes ≡ made (now (a .plan)) (a .place) (marked (now (a .tasks)))
+    (replicate 8 (allByte false))
 clear-is c =
     let a = c .before .before .before .before .before .args in
     c .before .with-literals .ensures
     ∙ ap (λ (x : List ℕ). made (now (a .plan)) (a .place) (marked (now (a .tasks))) x) (c .before .before .all .ensures)
 
-set-is : (c : tie.After-with-literals2 Inv-loop μ-loop)
-    → c .with-literals2 .result .bytes
-    ≡ made (now (c .before .before .before .before .before .before .args .plan))
-    (c .before .before .before .before .before .before .args .place)
-    (marked (now (c .before .before .before .before .before .before .args .tasks))) (replicate 8 (allByte true))
+set-is : (c : tie.After-with-literals2 Inv-loop μ-loop) → let a = entry (c .before) .args in
+    c .with-literals2 .result .bytes ≡ made (now (a .plan)) (a .place) (marked (now (a .tasks)))
+    (replicate 8 (allByte true))
 set-is c =
     let a = c .before .before .before .before .before .before .args in
     c .with-literals2 .ensures ∙ ap (λ (x : List ℕ). made (now (a .plan)) (a .place) (marked (now (a .tasks))) x)

@@ -30,8 +30,11 @@ parent-below c = omega (
 parent-small : (c : tie.Start) → c .args .g < 128
 parent-small c = omega (arith, parent-below c, room c .plan .fits .limits .nodes)
 
-no-all : (c : tie.Else1) → isKind (now (c .before .before .before .before .args .plan))
-    (c .before .before .before .before .args .g) 1 ≡ false
+-- what the call was given
+abbrev entry : tie.Else1 → tie.Start
+entry c = c .before .before .before .before
+
+no-all : (c : tie.Else1) → isKind (now (entry c .args .plan)) (entry c .args .g) 1 ≡ false
 no-all c = sym (c .before .is-kind .ensures) ∙ c .if1 .left
 
 returns : tie.Need-returns

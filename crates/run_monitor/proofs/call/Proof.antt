@@ -13,17 +13,25 @@ use borrow.Author.Needs.{needs}
 use Rattle.run_monitor.proofs.call.Statement.{statement}
 use Rattle.run_monitor.proofs.call.Tie as tie
 
-passed : (c : tie.Else1) → stateRefusalUnder (now (c .before .before .before .before .before .before .before .before .args .plan)) (now (c .before .before .before .before .before .before .before .before .args .blocked))
-    (now (c .before .before .before .before .before .before .before .before .args .state)) ≡ 0
+-- what the call was given
+abbrev entry : tie.Else1 → tie.Start
+entry c = c .before .before .before .before .before .before .before .before
+
+-- from a later place back to that one
+abbrev back : tie.Else2 → tie.Else1
+back c = c .before .before .before .before
+
+passed : (c : tie.Else1) → let a = entry c .args in
+    stateRefusalUnder (now (a .plan)) (now (a .blocked)) (now (a .state)) ≡ 0
 passed c = sym (c .before .check-state .ensures .returns) ∙ c .if1 .left
 
-refusal-is : (c : tie.After-refused) → c .refused .result ≡ eventRefusal (now (c .before .before .before .before .before .before .before .before .before .before .before .args .plan))
-    (now (c .before .before .before .before .before .before .before .before .before .before .before .args .blocked)) (now (c .before .before .before .before .before .before .before .before .before .before .before .args .state)) (eventOf (c .before .before .before .before .before .before .before .before .before .before .before .args .m) (c .before .before .before .before .before .before .before .before .before .before .before .args .task))
+refusal-is : (c : tie.After-refused) → let a = entry (c .before .before .before) .args in
+    c .refused .result ≡ eventRefusal (now (a .plan)) (now (a .blocked)) (now (a .state)) (eventOf (a .m) (a .task))
 refusal-is c = let e = c .before .before .before in
     c .refused .ensures _ (passed e) (e .before .check-state .ensures .standing (e .if1 .left))
 
-none : (c : tie.Else2) → eventRefusal (now (c .before .before .before .before .before .before .before .before .before .before .before .before .args .plan)) (now (c .before .before .before .before .before .before .before .before .before .before .before .before .args .blocked)) (now (c .before .before .before .before .before .before .before .before .before .before .before .before .args .state))
-    (eventOf (c .before .before .before .before .before .before .before .before .before .before .before .before .args .m) (c .before .before .before .before .before .before .before .before .before .before .before .before .args .task)) ≡ 0
+none : (c : tie.Else2) → let a = entry (back c) .args in
+    eventRefusal (now (a .plan)) (now (a .blocked)) (now (a .state)) (eventOf (a .m) (a .task)) ≡ 0
 none c = sym (refusal-is (c .before)) ∙ c .if2 .left
 
 returns-2 : tie.Need-returns-2

@@ -11,16 +11,21 @@ use borrow.Author.Needs.{needs}
 use Rattle.run_monitor.proofs.finish_together.Statement.{statement}
 use Rattle.run_monitor.proofs.finish_together.Tie as tie
 
-passed : (c : tie.Else1) → stateRefusalUnder (now (c .before .before .before .before .before .before .before .before .before .args .plan)) (now (c .before .before .before .before .before .before .before .before .before .args .blocked))
-    (now (c .before .before .before .before .before .before .before .before .before .args .state)) ≡ 0
+-- what the call was given
+abbrev entry : tie.Else1 → tie.Start
+entry c = c .before .before .before .before .before .before .before .before .before
+
+passed : (c : tie.Else1) → let a = entry c .args in
+    stateRefusalUnder (now (a .plan)) (now (a .blocked)) (now (a .state)) ≡ 0
 passed c = sym (c .before .check-state .ensures .returns) ∙ c .if1 .left
 
-refusal-is : (c : tie.After-together-refused) → c .together-refused .result ≡ callRefusal (now (c .before .before .before .before .before .before .before .before .before .before .before .args .plan))
-    (now (c .before .before .before .before .before .before .before .before .before .before .before .args .blocked)) (now (c .before .before .before .before .before .before .before .before .before .before .before .args .state)) (together (now (c .before .before .before .before .before .before .before .before .before .before .before .args .tasks)))
+refusal-is : (c : tie.After-together-refused) → let a = entry (c .before .before) .args in
+    c .together-refused .result ≡ callRefusal (now (a .plan)) (now (a .blocked)) (now (a .state))
+    (together (now (a .tasks)))
 refusal-is c = c .together-refused .ensures _ (passed (c .before .before))
 
-none : (c : tie.Else2) → callRefusal (now (c .before .before .before .before .before .before .before .before .before .before .before .before .args .plan)) (now (c .before .before .before .before .before .before .before .before .before .before .before .before .args .blocked)) (now (c .before .before .before .before .before .before .before .before .before .before .before .before .args .state))
-    (together (now (c .before .before .before .before .before .before .before .before .before .before .before .before .args .tasks))) ≡ 0
+none : (c : tie.Else2) → let a = entry (c .before .before .before) .args in
+    callRefusal (now (a .plan)) (now (a .blocked)) (now (a .state)) (together (now (a .tasks))) ≡ 0
 none c = sym (refusal-is (c .before)) ∙ c .if2 .left
 
 write-finishes-requires : tie.Need-write-finishes-requires

@@ -16,23 +16,33 @@ use Rattle.run_monitor.proofs.Called.{called-16, called-22, called-0}
 use Rattle.run_monitor.proofs.skip.Statement.{statement}
 use Rattle.run_monitor.proofs.skip.Tie as tie
 
-passed : (c : tie.Else1) → stateRefusalUnder (now (c .before .before .before .before .before .before .before .before .args .plan)) (now (c .before .before .before .before .before .before .before .before .args .blocked))
-    (now (c .before .before .before .before .before .before .before .before .args .state)) ≡ 0
+-- what the call was given
+abbrev entry : tie.Else1 → tie.Start
+entry c = c .before .before .before .before .before .before .before .before
+
+-- from a later place back to that one
+abbrev back : tie.Else2 → tie.Else1
+back c = c .before .before .before .before
+
+passed : (c : tie.Else1) → let a = entry c .args in
+    stateRefusalUnder (now (a .plan)) (now (a .blocked)) (now (a .state)) ≡ 0
 passed c = sym (c .before .check-state .ensures .returns) ∙ c .if1 .left
 
-room : (c : tie.Else1) → Roomy (now (c .before .before .before .before .before .before .before .before .args .plan)) (now (c .before .before .before .before .before .before .before .before .args .state))
+room : (c : tie.Else1) → Roomy (now (entry c .args .plan)) (now (entry c .args .state))
 room c = checks.has-room _ _ (checks.passed _ _ _ (passed c))
 
-refusal-is : (c : tie.After-skip-refused) → c .skip-refused .result ≡ eventRefusal (now (c .before .before .before .before .before .before .before .before .before .before .before .args .plan))
-    (now (c .before .before .before .before .before .before .before .before .before .before .before .args .blocked)) (now (c .before .before .before .before .before .before .before .before .before .before .before .args .state)) (execution.skip (c .before .before .before .before .before .before .before .before .before .before .before .args .group))
+refusal-is : (c : tie.After-skip-refused) → let a = entry (c .before .before .before) .args in
+    c .skip-refused .result ≡ eventRefusal (now (a .plan)) (now (a .blocked)) (now (a .state))
+    (execution.skip (a .group))
 refusal-is c = let e = c .before .before .before in
     c .skip-refused .ensures _ (passed e) (e .before .check-state .ensures .standing (e .if1 .left))
 
-none : (c : tie.Else2) → eventRefusal (now (c .before .before .before .before .before .before .before .before .before .before .before .before .args .plan)) (now (c .before .before .before .before .before .before .before .before .before .before .before .before .args .blocked)) (now (c .before .before .before .before .before .before .before .before .before .before .before .before .args .state))
-    (execution.skip (c .before .before .before .before .before .before .before .before .before .before .before .before .args .group)) ≡ 0
+none : (c : tie.Else2) → let a = entry (back c) .args in
+    eventRefusal (now (a .plan)) (now (a .blocked)) (now (a .state)) (execution.skip (a .group)) ≡ 0
 none c = sym (refusal-is (c .before)) ∙ c .if2 .left
 
-group-below : (c : tie.Else2) → c .before .before .before .before .before .before .before .before .before .before .before .before .args .group < nodeCount (now (c .before .before .before .before .before .before .before .before .before .before .before .before .args .plan))
+group-below : (c : tie.Else2) → let a = entry (back c) .args in
+    a .group < nodeCount (now (a .plan))
 group-below c = kind-is _ _ 3 (skip-optional _ _ _ (passed (c .before .before .before .before)) _ (none c)) .0
 
 returns-2 : tie.Need-returns-2

@@ -9,11 +9,15 @@ use native.Mathlib.Omega.{arith}
 use Rattle.run_monitor.proofs.status.Statement.{statement}
 use Rattle.run_monitor.proofs.status.Tie as tie
 
-passed : (c : tie.Else1) → stateRefusalUnder (now (c .before .before .before .before .before .before .before .args .plan)) (now (c .before .before .before .before .before .before .before .args .blocked))
-    (now (c .before .before .before .before .before .before .before .args .state)) ≡ 0
+-- what the call was given
+abbrev entry : tie.Else1 → tie.Start
+entry c = c .before .before .before .before .before .before .before
+
+passed : (c : tie.Else1) → let a = entry c .args in
+    stateRefusalUnder (now (a .plan)) (now (a .blocked)) (now (a .state)) ≡ 0
 passed c = sym (c .before .check-state .ensures .returns) ∙ c .if1 .left
 
-whole : (c : tie.Else1) → stateRefusal (now (c .before .before .before .before .before .before .before .args .plan)) (now (c .before .before .before .before .before .before .before .args .state)) ≡ 0
+whole : (c : tie.Else1) → stateRefusal (now (entry c .args .plan)) (now (entry c .args .state)) ≡ 0
 whole c = checks.passed _ _ _ (passed c)
 
 is-complete-requires : tie.Need-is-complete-requires

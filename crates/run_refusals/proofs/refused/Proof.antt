@@ -23,36 +23,34 @@ use native.Mathlib.Omega.{arith}
 use Rattle.run_refusals.proofs.refused.Statement.{statement}
 use Rattle.run_refusals.proofs.refused.Tie as tie
 
-is-task : (c : tie.Else1) → isKind (now (c .before .before .before .before .args .plan))
-    (c .before .before .before .before .args .task) 0 ≡ true
+-- what the call was given
+abbrev entry : tie.Else1 → tie.Start
+entry c = c .before .before .before .before
+
+-- from a later place back to that one
+abbrev back : tie.Else3 → tie.Else1
+back c = c .before .before .before .before .before
+
+is-task : (c : tie.Else1) → isKind (now (entry c .args .plan)) (entry c .args .task) 0 ≡ true
 is-task c = sym (c .before .is-kind .ensures) ∙ not-false _ (c .if1 .left)
 
-task-below : (c : tie.Else1) → c .before .before .before .before .args .task < nodeCount
-    (now (c .before .before .before .before .args .plan))
+task-below : (c : tie.Else1) → entry c .args .task < nodeCount (now (entry c .args .plan))
 task-below c = kind-is _ _ 0 (is-task c) .0
 
-asked-is : (c : tie.After-asked)
-    → c .asked .result ≡ statusByte
-    (asks (eventOf (c .before .before .before .before .before .before .args .m)
-    (c .before .before .before .before .before .before .args .task)))
+asked-is : (c : tie.After-asked) → let a = entry (c .before .before) .args in
+    c .asked .result ≡ statusByte (asks (eventOf (a .m) (a .task)))
 asked-is c = c .asked .ensures ∙ ap (λ (a : Status). statusByte a)
     (asks-of (c .before .before .before .before .before .before .args .m)
     (c .before .before .before .before .before .before .args .task))
 
-as-asked : (c : tie.Else2) → nodeByte (now (c .before .before .before .before .before .before .before .args .state))
-    (c .before .before .before .before .before .before .before .args .task)
-    ≡ statusByte (asks (eventOf (c .before .before .before .before .before .before .before .args .m)
-    (c .before .before .before .before .before .before .before .args .task)))
+as-asked : (c : tie.Else2) → let a = entry (c .before .before .before) .args in
+    nodeByte (now (a .state)) (a .task) ≡ statusByte (asks (eventOf (a .m) (a .task)))
 unfolding nodeByte
 as-asked c = c .if2 .left ∙ asked-is (c .before)
 
-begun : (c : tie.Else3) → beginRefusal
-    (now (c .before .before .before .before .before .before .before .before .before .args .plan))
-    (now (c .before .before .before .before .before .before .before .before .before .args .state))
-    (eventOf (c .before .before .before .before .before .before .before .before .before .args .m)
-    (c .before .before .before .before .before .before .before .before .before .args .task))
-    (marked (now (c .before .before .before .before .before .before .before .before .before .args .standing))
-    (c .before .before .before .before .before .before .before .before .before .args .task)) ≡ 0
+begun : (c : tie.Else3) → let a = entry (back c) .args in
+    beginRefusal (now (a .plan)) (now (a .state)) (eventOf (a .m) (a .task)) (marked (now (a .standing)) (a .task))
+    ≡ 0
 begun c = sym (c .before .begin-refused .ensures) ∙ c .if3 .left
 
 abbrev start : tie.After-inc-broken → tie.Start

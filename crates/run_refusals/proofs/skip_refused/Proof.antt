@@ -11,8 +11,11 @@ use Rattle.run_refusals.proofs.Chain.{skip-27, skip-18, skip-tree}
 use Rattle.run_refusals.proofs.skip_refused.Statement.{statement}
 use Rattle.run_refusals.proofs.skip_refused.Tie as tie
 
-is-optional : (c : tie.Else1) → isKind (now (c .before .before .before .before .args .plan))
-    (c .before .before .before .before .args .group) 3 ≡ true
+-- what the call was given
+abbrev entry : tie.Else1 → tie.Start
+entry c = c .before .before .before .before
+
+is-optional : (c : tie.Else1) → isKind (now (entry c .args .plan)) (entry c .args .group) 3 ≡ true
 is-optional c = sym (c .before .is-kind .ensures) ∙ not-false _ (c .if1 .left)
 
 returns : tie.Need-returns

@@ -11,12 +11,12 @@ use borrow.Author.Needs.{needs}
 use Rattle.run_refusals.proofs.tree_refused.Statement.{statement}
 use Rattle.run_refusals.proofs.tree_refused.Tie as tie
 
-opens : (c : tie.After-order-open)
-    → c .order-open .result ≡ orderOpenB
-    (planOf (now (c .before .before .before .before .before .before .before .before .before .before .before .args .plan)))
-    (statusIn (now (c .before .before .before .before .before .before .before .before .before .before .before .args .plan))
-    (now (c .before .before .before .before .before .before .before .before .before .before .before .args .state)))
-    (c .before .before .before .before .before .before .before .before .before .before .before .args .node)
+-- what the call was given
+abbrev entry : tie.After-order-open → tie.Start
+entry c = c .before .before .before .before .before .before .before .before .before .before .before
+
+opens : (c : tie.After-order-open) → let a = entry c .args in
+    c .order-open .result ≡ orderOpenB (planOf (now (a .plan))) (statusIn (now (a .plan)) (now (a .state))) (a .node)
 opens c = c .order-open .ensures ∙ open-is _ _
     (c .before .before .before .before .before .before .before .before .before .before .before .pre .0 .passed) _
     _ (c .before .before .before .path .ensures .1)

@@ -35,10 +35,13 @@ below c =
       s .pre .plan .limits .nodes,
     )
 
+-- what the call was given
+abbrev entry : tie.In-loop Inv-loop μ-loop → tie.Start Inv-loop μ-loop
+entry c = c .before .before .before .before .before .before
+
 -- an element of the table, by its number
 held : (c : tie.In-loop Inv-loop μ-loop) → getD (c .before .before .holders .result) (c .before .loop .k + 1) 0
-    ≡ holders (now (c .before .before .before .before .before .before .args .plan))
-    (now (c .before .before .before .before .before .before .args .state)) (suc (c .before .loop .k))
+    ≡ holders (now (entry c .args .plan)) (now (entry c .args .state)) (suc (c .before .loop .k))
 held c = let l = below c in rw (add-one (c .before .loop .k))
     (c .before .before .holders .ensures .1 (suc (c .before .loop .k)) (omega arith))
 

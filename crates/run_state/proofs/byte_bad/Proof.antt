@@ -17,9 +17,12 @@ returns-2 : tie.Need-returns-2
 unfolding nodeByte
 returns-2 c = byte-absent _ _ _ _ (c .before .before .if1 .left) (c .if2 .taken)
 
+-- what the call was given
+abbrev entry : tie.Else2 → tie.Start
+entry c = c .before .before .before .before .before .before
+
 -- past the second test the node stands
-stands : (c : tie.Else2) → getD (now (c .before .before .before .before .before .before .args .standing))
-    (c .before .before .before .before .before .before .args .n) 0 ≡ 1
+stands : (c : tie.Else2) → getD (now (entry c .args .standing)) (entry c .args .n) 0 ≡ 1
 stands c = c .if2 .left
 
 returns-3 : tie.Need-returns-3

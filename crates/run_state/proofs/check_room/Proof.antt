@@ -9,11 +9,14 @@ use native.Mathlib.Omega.{arith}
 use Rattle.run_state.proofs.check_room.Statement.{statement}
 use Rattle.run_state.proofs.check_room.Tie as tie
 
-sound : (c : tie.Else1) → refusalUnder (now (c .before .before .before .before .before .before .args .plan))
-    (now (c .before .before .before .before .before .before .args .blocked)) ≡ 0
+-- what the call was given
+abbrev entry : tie.Else1 → tie.Start
+entry c = c .before .before .before .before .before .before
+
+sound : (c : tie.Else1) → refusalUnder (now (entry c .args .plan)) (now (entry c .args .blocked)) ≡ 0
 sound c = sym (c .before .check-blocked .ensures .returns) ∙ c .if1 .left
 
-accepted : (c : tie.Else1) → Clean (now (c .before .before .before .before .before .before .args .plan))
+accepted : (c : tie.Else1) → Clean (now (entry c .args .plan))
 accepted c = clean _ (plan-accepted _ _ (sound c))
 
 returns-3 : tie.Need-returns-3

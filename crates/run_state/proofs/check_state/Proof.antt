@@ -9,20 +9,24 @@ use native.Mathlib.Omega.{arith}
 use Rattle.run_state.proofs.check_state.Statement.{statement}
 use Rattle.run_state.proofs.check_state.Tie as tie
 
-passed : (c : tie.Else1) → roomRefusalUnder (now (c .before .before .before .before .before .before .args .plan))
-    (now (c .before .before .before .before .before .before .args .blocked))
-    (now (c .before .before .before .before .before .before .args .state)) ≡ 0
+-- what the call was given
+abbrev entry : tie.Else1 → tie.Start
+entry c = c .before .before .before .before .before .before
+
+-- from a later place back to that one
+abbrev back : tie.After-ordinals-bad → tie.Else1
+back c = c .before .before .before .before
+
+passed : (c : tie.Else1) → let a = entry c .args in
+    roomRefusalUnder (now (a .plan)) (now (a .blocked)) (now (a .state)) ≡ 0
 passed c = sym (c .before .check-room .ensures .returns) ∙ c .if1 .left
 
-enough : (c : tie.Else1) → Roomy (now (c .before .before .before .before .before .before .args .plan))
-    (now (c .before .before .before .before .before .before .args .state))
+enough : (c : tie.Else1) → Roomy (now (entry c .args .plan)) (now (entry c .args .state))
 enough c = roomy _ _ (room-passed _ _ _ (passed c))
 
-tested : (c : tie.After-ordinals-bad) → (c .before .before .before .flags-bad .result || c .before .nodes-bad .result || c
-    .ordinals-bad .result)
-    ≡ malformedUnder (now (c .before .before .before .before .before .before .before .before .before .before .args .plan))
-    (now (c .before .before .before .before .before .before .before .before .before .before .args .blocked))
-    (now (c .before .before .before .before .before .before .before .before .before .before .args .state))
+tested : (c : tie.After-ordinals-bad) → let a = entry (back c) .args in
+    (c .before .before .before .flags-bad .result || c .before .nodes-bad .result || c .ordinals-bad .result) ≡
+    malformedUnder (now (a .plan)) (now (a .blocked)) (now (a .state))
 tested c =
     let e = c .before .before .before .before in
     bad-parts _ _ _ (e .before .check-room .ensures .standing (e .if1 .left)) _ _ _

@@ -20,15 +20,15 @@ Inv-loop plan blocked state₀ r n k₀ state k = (k ≤ n) × (state ≡ overla
 abbrev μ-loop : tie.MeasureT-loop
 μ-loop plan blocked state₀ r n k₀ state k = n - k
 
-passed : (c : tie.Else1 Inv-loop μ-loop)
-    → roomRefusalUnder (now (c .before .before .before .before .before .before .before .before .args .plan))
-    (now (c .before .before .before .before .before .before .before .before .args .blocked))
-    (now (c .before .before .before .before .before .before .before .before .args .state)) ≡ 0
+-- what the call was given
+abbrev entry : tie.Else1 Inv-loop μ-loop → tie.Start Inv-loop μ-loop
+entry c = c .before .before .before .before .before .before .before .before
+
+passed : (c : tie.Else1 Inv-loop μ-loop) → let a = entry c .args in
+    roomRefusalUnder (now (a .plan)) (now (a .blocked)) (now (a .state)) ≡ 0
 passed c = sym (c .before .check-room .ensures .returns) ∙ c .if1 .left
 
-enough : (c : tie.Else1 Inv-loop μ-loop)
-    → Roomy (now (c .before .before .before .before .before .before .before .before .args .plan))
-    (now (c .before .before .before .before .before .before .before .before .args .state))
+enough : (c : tie.Else1 Inv-loop μ-loop) → Roomy (now (entry c .args .plan)) (now (entry c .args .state))
 enough c = roomy _ _ (room-passed _ _ _ (passed c))
 
 returns : tie.Need-returns Inv-loop μ-loop
