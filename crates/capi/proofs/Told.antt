@@ -9,7 +9,7 @@ use lib.Dec.{eqb}
 use Rattle.base.proofs.First.{answer-none}
 use Rattle.plan_blocked.specs.Blocked.{refusalUnder}
 use Rattle.runs.specs.Verdict.{Verdict, CLEAR, DOOMED, OPEN}
-use Rattle.run_state.specs.Under.{stateRefusalUnder}
+use Rattle.run_state.specs.State.{stateRefusalUnder}
 use Rattle.run_monitor.specs.declared.Progress.{Progress}
 use Rattle.run_monitor.specs.Status as status
 use Rattle.run_monitor.specs.Status.{Word, COMPLETE, UNFINISHED, Told, statusAnswer}

@@ -12,8 +12,7 @@ use Rattle.runs.specs.Execution.{Complete}
 use Rattle.runs.specs.Verdict.{Verdict, CLEAR, DOOMED, Judged}
 use Rattle.runs.specs.Tests.{listed}
 use Rattle.runs.specs.Demand3.{NeverViolates, NeverCompletes}
-use Rattle.run_state.specs.State.{statusIn}
-use Rattle.run_state.specs.Under.{stateRefusalUnder}
+use Rattle.run_state.specs.State.{statusIn, stateRefusalUnder}
 use Rattle.run_monitor.specs.Status.{COMPLETE, statusAnswer}
 use Rattle.verdict.specs.Verdict.{answerOf}
 use Rattle.listing.specs.Text.{textOf}

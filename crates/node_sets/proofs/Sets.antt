@@ -14,7 +14,8 @@ use Rattle.base.specs.Zeros.{Zeros}
 use Rattle.runs.specs.Tests.{either, anyIn, listed}
 use Rattle.runs.proofs.Reflect.{true-T, T-true}
 use Rattle.runs.proofs.Calls.Listed.{r-listed}
-use Rattle.node_sets.specs.Sets.{only, marked}
+use Rattle.node_sets.specs.Sets.{marked}
+use Rattle.node_sets.specs.One.{only}
 
 pub listed-among : (ts : List ℕ) (x : ℕ) → listed ts x ≡ true → Among x ts
 listed-among ts x y = (r-listed ts x) .to (true-T _ y)

@@ -1,2 +1,3 @@
--- Sets of nodes.
+-- Sets of nodes: one node; by tables and lists.
+pub mod One
 pub mod Sets

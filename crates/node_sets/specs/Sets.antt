@@ -1,13 +1,10 @@
--- Sets of nodes: one, those with a 1 in a table. (Those of a list are `listed` of runs.) Definitions only.
+-- Inner contracts: sets of nodes, those with a 1 in a table. (Those of a list are `listed` of runs.) Definitions only.
 use mathlib.Core.Path.{_≡_}
 use Prim.Native.Nat.{ℕ, _<_}
 use mathlib.Core.Bool.{Bool}
 use mathlib.Core.List.{List, List·Memᴰ as Among}
 use lib.ListN.{length, getD}
 use lib.Dec.{eqb}
-
-abbrev pub only : ℕ → ℕ → Bool
-only t x = eqb x t
 
 unfoldable pub marked : List ℕ → ℕ → Bool
 marked table x = eqb (getD table x 0) 1

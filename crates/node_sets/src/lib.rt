@@ -4,7 +4,8 @@ ghost use mathlib.Core.Path.{_≡_};
 ghost use Prim.Native.Nat.{_<_};
 ghost use Rattle.runs.specs.Tests.{listed};
 ghost use Rattle.runs.specs.Model.Monitor.{risingB};
-ghost use Rattle.node_sets.specs.Sets.{only, marked, AllMarked, Each};
+ghost use Rattle.node_sets.specs.Sets.{marked, AllMarked, Each};
+ghost use Rattle.node_sets.specs.One.{only};
 
 // A table with one node marked.
 pub fn mark_one(node: usize) -> [u8; 128]

@@ -1,15 +1,7 @@
--- The value of a condition.
+-- The value of a condition. Definitions only.
 use Prim.Native.Nat.{ℕ, _+_, _*_, _/_, _%_}
-use mathlib.Core.Bool.{Bool, true, false, cond, _||_}
-use lib.Dec.{eqb, leb, ltb}
-use Rattle.runs.specs.Plan.{pre, inc, post, placeNumber, signNumber}
-use Rattle.plan_codes.specs.declared.value.Place.{Place}
-use Rattle.plan_codes.specs.declared.value.Place.the-variants.{Pre, Inc, Post}
-use Rattle.plan_codes.specs.declared.value.Sign.{Sign}
-use Rattle.plan_codes.specs.declared.value.Sign.the-variants.{Clear, Set}
-use Rattle.plan_codes.specs.declared.value.Condition.{Condition}
-use Rattle.plan_codes.specs.declared.value.Parsed.{Parsed}
-use Rattle.plan_codes.specs.declared.value.Parsed.the-variants as parsed
+use mathlib.Core.Bool.{Bool, _||_}
+use lib.Dec.{leb, ltb}
 
 -- the value of a flag, a sign and a place, by 01's numbers
 abbrev pub valueOf : ℕ → ℕ → ℕ → ℕ
@@ -24,32 +16,6 @@ signOf v = v / 64 % 2
 
 unfoldable pub placeOf : ℕ → ℕ
 placeOf v = v / 128
-
--- 01's numbers of the enums' cases
-abbrev pub placeNum : Place → ℕ
-placeNum Pre = placeNumber pre
-placeNum Inc = placeNumber inc
-placeNum Post = placeNumber post
-
-abbrev pub signNum : Sign → ℕ
-signNum Clear = signNumber false
-signNum Set = signNumber true
-
-abbrev pub valueNum : Condition → ℕ
-valueNum c = valueOf (c .flag) (signNum (c .sign)) (placeNum (c .place))
-
--- and the cases of these numbers
-abbrev pub placeAt : ℕ → Place
-placeAt p = cond (eqb p 0) Pre (cond (eqb p 1) Inc Post)
-
-abbrev pub signAt : ℕ → Sign
-signAt s = cond (eqb s 0) Clear Set
-
--- what a value says; over 383 it is refused
-unfoldable pub parsedOf : ℕ → Parsed
-parsedOf v =
-    cond (leb v 383) (parsed.Accepted
-    (record { place = placeAt (placeOf v); sign = signAt (signOf v); flag = flagOf v })) parsed.Refused
 
 -- the value is over 383, or its flag is none of the first `flags`
 unfoldable pub valueBad : ℕ → ℕ → Bool

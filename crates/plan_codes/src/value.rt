@@ -4,7 +4,8 @@ use base::places::POST;
 use base::places::PRE;
 ghost use mathlib.Core.Path.{_≡_};
 ghost use Prim.Native.Nat.{_≤_};
-ghost use Rattle.plan_codes.specs.Values.{parsedOf, placeOf, signOf, flagOf, placeNum, signNum, valueBad};
+ghost use Rattle.plan_codes.specs.Values.{placeOf, signOf, flagOf, valueBad};
+ghost use Rattle.plan_codes.specs.Cases.{parsedOf, placeNum, signNum};
 
 // 01: need, hold, leaving
 pub enum Place {

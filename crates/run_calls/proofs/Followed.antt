@@ -10,8 +10,7 @@ use Rattle.plan_check.specs.Meaning.{planOf, startOf}
 use Rattle.runs.specs.Plan.{Plan}
 use Rattle.runs.specs.Calls.{Call, World, Answered, Worked}
 use Rattle.runs.specs.Calls as runs
-use Rattle.run_state.specs.State.{worldOf}
-use Rattle.run_state.specs.Under.{roomRefusalUnder, stateRefusalUnder}
+use Rattle.run_state.specs.State.{worldOf, roomRefusalUnder, stateRefusalUnder}
 use Rattle.run_state.specs.Fresh.{freshState, Freshened}
 use Rattle.run_state.proofs.Refused.{room-enough}
 use Rattle.run_state.proofs.Passed.{passed}

@@ -16,17 +16,18 @@ use Rattle.runs.specs.Plan.{placeNumber}
 use Rattle.runs.specs.Execution.{Event, History, nodeOf, statusOf}
 use Rattle.runs.specs.Calls.{Call, statusByte}
 use Rattle.run_starts.specs.Starts.{nodeByte, ordinalAt, ordinalIn, startedIn}
-use Rattle.run_state.specs.State.{stateRefusal, moves, ordinalShown, worldOf}
-use Rattle.run_state.specs.Under.{roomRefusalUnder, stateRefusalUnder}
+use Rattle.run_state.specs.State.{moves, ordinalShown, worldOf, roomRefusalUnder, stateRefusalUnder}
+use Rattle.run_state.specs.Inner.{stateRefusal}
 use Rattle.run_state.specs.Fresh.{freshByte, freshState}
 use Rattle.base.specs.Answers.{overlay}
-use Rattle.run_state.proofs.Refused.{roomy, room-passed}
+use Rattle.run_state.proofs.Refused.{room-passed}
 use Rattle.base.proofs.Overlay.{length-overlay, at-overlay, past-overlay}
 use Rattle.run_state.proofs.Left.{fresh-accepted}
 use Rattle.run_state.proofs.Passed.{passed, has-room, is-well, byte-rests, byte-optional, byte-shown}
 use Rattle.run_starts.proofs.Numbers.{unstarted-none, ordinal-small}
-use Rattle.node_sets.specs.Sets.{only}
-use Rattle.run_refusals.specs.Events.{eventPlace, callRefusal}
+use Rattle.node_sets.specs.One.{only}
+use Rattle.run_refusals.specs.Events.{callRefusal}
+use Rattle.run_refusals.specs.Inner.{eventPlace}
 use Rattle.run_step.specs.Steps.{afterAll}
 use Rattle.run_monitor.specs.Events.{callState}
 use Rattle.run_monitor.proofs.Events.{Going, nothing, going, goes-under, call-goes}
@@ -51,7 +52,7 @@ fresh-kept b xs s h e =
     (record {
       same-length = length-overlay (freshByte b) s n;
       later = λ k l. past-overlay (freshByte b) s n k l;
-      small = λ k l. rw (at-overlay (freshByte b) s n k (roomy b s (room-passed b xs s e) .room) (omega arith), lt-ltb k 8 l) (h (8 + k));
+      small = λ k l. rw (at-overlay (freshByte b) s n k (room-passed b xs s e .room) (omega arith), lt-ltb k 8 l) (h (8 + k));
     })
 
 -- ---- events

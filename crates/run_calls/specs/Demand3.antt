@@ -16,8 +16,7 @@ use Rattle.runs.specs.Verdict.{Verdict, CLEAR, DOOMED, Judged}
 use Rattle.runs.specs.Calls.{Call, World, fresh, Answered, Worked, acceptedStarts}
 use Rattle.runs.specs.Demand3.{Violation}
 use Rattle.run_starts.specs.Starts.{nodeByte, ordinalIn}
-use Rattle.run_state.specs.State.{worldOf}
-use Rattle.run_state.specs.Under.{stateRefusalUnder}
+use Rattle.run_state.specs.State.{worldOf, stateRefusalUnder}
 use Rattle.base.specs.Answers.{overlay}
 use Rattle.run_monitor.specs.declared.Progress.{Progress}
 use Rattle.run_monitor.specs.Status as status

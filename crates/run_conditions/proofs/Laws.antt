@@ -24,14 +24,13 @@ use Rattle.plan_rules.proofs.Causes.{Usable, usable, condition-fits}
 use Rattle.plan_check.proofs.Meaning.{is, has, sign-is, sign-has, kind-is}
 use Rattle.runs.specs.Plan.{Place, post, placeNumber, signNumber}
 use Rattle.runs.specs.Calls.{finishes, Rising, World, happenAll}
-use Rattle.runs.specs.Tests.{sameB, anyIn}
+use Rattle.runs.specs.Tests.{sameB, anyIn, listed}
 use Rattle.runs.specs.Tests as tests
 use Rattle.runs.proofs.Reflect.{clash}
 use Rattle.runs.proofs.Calls.Listed.{rising-above, rising-tail}
 use Rattle.run_starts.specs.Starts.{nodeByte}
 use Rattle.run_state.specs.Made.{isOf, setAt, literals, made}
-use Rattle.runs.specs.Tests.{listed}
-use Rattle.node_sets.specs.Sets.{only}
+use Rattle.node_sets.specs.One.{only}
 use Rattle.run_conditions.specs.Conditions.{brokenAt}
 use Rattle.node_sets.proofs.Sets.{listed-among, nothing-listed}
 

@@ -10,7 +10,8 @@ use lib.Seq.{length-take-le}
 use lib.Dec.{T, eqb}
 use borrow.Author.Tests.{eqb-true, eqb-false, eq-eqb, ne-eqb, lt-ltb, not-true}
 use Rattle.plan_codes.specs.Values.{flagOf, placeOf}
-use Rattle.run_flags.specs.Flags.{flagIn, allByte}
+use Rattle.run_flags.specs.Flags.{flagIn}
+use Rattle.run_flags.specs.Inner.{allByte}
 use Rattle.run_flags.proofs.Laws.{in-first, all-flags}
 use Rattle.plan_format.specs.Format.{condCount, condNode, condValue}
 use Rattle.plan_rules.specs.Rules.{refusal}
@@ -20,17 +21,17 @@ use Rattle.plan_check.specs.Meaning.{planOf, signIn}
 use Rattle.runs.specs.Plan.{Place, pre, inc, post, placeNumber}
 use Rattle.runs.specs.Execution.{Event, start, nodeOf, asserts, running}
 use Rattle.runs.specs.Calls.{together, finishes, Rising, fresh, happenAll, inc-broken, PreUnmet, IncBroken, PostOpposed}
-use Rattle.runs.specs.Tests.{anyBelow, sameB}
+use Rattle.runs.specs.Tests.{anyBelow, sameB, listed}
 use Rattle.runs.specs.Model.Monitor.{preUnmetB, incBrokenB, postOpposedB, appliesB}
 use Rattle.runs.proofs.Calls.Reflect.{r-pre-unmet, r-inc-broken, r-post-opposed, r-applies}
 use Rattle.runs.proofs.Calls.Together.{Unkept, Turned, opposed-unkept, broken-turned}
 use Rattle.runs.proofs.Reflect.{Reflects, r-map, true-T, T-true, same-test}
 use Rattle.run_starts.specs.Starts.{nodeByte}
-use Rattle.run_state.specs.State.{flagShown, statusIn, stateRefusal, worldOf}
+use Rattle.run_state.specs.State.{flagShown, statusIn, worldOf}
+use Rattle.run_state.specs.Inner.{stateRefusal}
 use Rattle.run_state.proofs.Passed.{has-room, well-formed, byte-is}
 use Rattle.run_state.specs.Made.{isOf, setAt, made}
-use Rattle.runs.specs.Tests.{listed}
-use Rattle.node_sets.specs.Sets.{only}
+use Rattle.node_sets.specs.One.{only}
 use Rattle.run_conditions.specs.Conditions.{unmetAt, brokenAt}
 use Rattle.run_conditions.proofs.Laws.{flag-small, of-set, set-of, of-is, is-of, sign-at, found, made-flag}
 use Rattle.run_conditions.proofs.Laws.{left-flag, on-task}

@@ -25,7 +25,8 @@ use Rattle.runs.proofs.Plan.Trees.{under-le, child-lt}
 use Rattle.runs.proofs.Execution.Completeness.{picks-moves, done-moved}
 use Rattle.runs.proofs.Calls.Reflect.{r-begun, r-branch-begun}
 use Rattle.run_starts.specs.Starts.{nodeByte}
-use Rattle.run_state.specs.State.{stateRefusal, statusIn}
+use Rattle.run_state.specs.State.{statusIn}
+use Rattle.run_state.specs.Inner.{stateRefusal}
 use Rattle.run_state.proofs.Passed.{has-room, well-formed, byte-is, shown-moves}
 use Rattle.base.specs.Count.{num, countBelow}
 use Rattle.run_progress.specs.Progress.{countedAt, countedChild, childrenCounted}

@@ -23,7 +23,8 @@ use Rattle.runs.specs.Model.Trees.{underB}
 use Rattle.runs.proofs.Reflect.{Reflects, true-T, T-true, same-test}
 use Rattle.runs.proofs.Plan.Reflect.{r-under}
 use Rattle.runs.proofs.Calls.Reflect.{r-complete, r-order-open}
-use Rattle.run_state.specs.State.{stateRefusal, statusIn}
+use Rattle.run_state.specs.State.{statusIn}
+use Rattle.run_state.specs.Inner.{stateRefusal}
 use Rattle.run_state.proofs.Passed.{has-room, well-formed}
 use Rattle.base.specs.Count.{num}
 use Rattle.run_enabled.specs.Enabling.{openAt}

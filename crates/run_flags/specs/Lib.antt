@@ -1,1 +1,3 @@
+-- Flags in bytes; flags that are all alike.
 pub mod Flags
+pub mod Inner

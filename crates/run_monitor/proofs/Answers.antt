@@ -16,8 +16,7 @@ use Rattle.runs.specs.Execution as execution
 use Rattle.runs.specs.Model.Monitor.{completeB}
 use Rattle.runs.proofs.Reflect.{Reflects, clash, r-map, same-test, true-T, T-true}
 use Rattle.runs.proofs.Calls.Reflect.{r-complete}
-use Rattle.run_state.specs.State.{statusIn}
-use Rattle.run_state.specs.Under.{stateRefusalUnder}
+use Rattle.run_state.specs.State.{statusIn, stateRefusalUnder}
 use Rattle.run_state.proofs.Passed.{well-formed, passed, list-passed, absent-waits}
 use Rattle.run_monitor.specs.declared.Progress.the-variants.{Refused, Complete, Unfinished}
 use Rattle.run_monitor.specs.Status.{wordFor, statusAnswer, Told}

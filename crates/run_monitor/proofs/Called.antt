@@ -12,8 +12,7 @@ use Rattle.runs.specs.Model.Monitor.{returned}
 use Rattle.runs.proofs.Calls.Alone.{one-finish}
 use Rattle.runs.proofs.Calls.First.{answered}
 use Rattle.base.proofs.First.{first-none, first-some}
-use Rattle.run_state.specs.State.{worldOf}
-use Rattle.run_state.specs.Under.{stateRefusalUnder}
+use Rattle.run_state.specs.State.{worldOf, stateRefusalUnder}
 use Rattle.run_state.proofs.Passed.{list-passed}
 use Rattle.plan_blocked.specs.Blocked.{planUnder}
 use Rattle.plan_blocked.proofs.Refused.{under-well-formed}

@@ -6,7 +6,7 @@ use borrow.Author.Tests.{ne-eqb}
 use Rattle.runs.specs.Calls.{Call, events}
 use Rattle.base.specs.Answers.{first}
 use Rattle.base.proofs.First.{first-some}
-use Rattle.run_state.specs.Under.{stateRefusalUnder}
+use Rattle.run_state.specs.State.{stateRefusalUnder}
 use Rattle.run_refusals.specs.Events.{callRefusal}
 use Rattle.run_step.specs.Steps.{afterAll}
 use Rattle.run_monitor.specs.Events.{callReturn, callState}

@@ -11,14 +11,13 @@ use Rattle.plan_check.specs.Meaning.{planOf}
 use Rattle.plan_check.proofs.Meaning.{kind-is}
 use Rattle.runs.specs.Execution.{Event, finish, History, nodeOf, moved, asserts}
 use Rattle.runs.specs.Calls.{Call, one, together, finishes, events, Rising, asks, statusByte, counted, numbered}
-use Rattle.runs.specs.Calls.{Refusal}
-use Rattle.runs.specs.Calls.{World, happen, happenAll}
+use Rattle.runs.specs.Calls.{Refusal, World, happen, happenAll}
 use Rattle.runs.specs.Model.Monitor.{returned, refusalOf, step, code, settle}
 use Rattle.runs.proofs.Calls.First.{code-inj}
 use Rattle.runs.proofs.Calls.Listed.{rising-once, rising-tail}
 use Rattle.run_starts.specs.Starts.{nodeByte, startedCount}
-use Rattle.run_state.specs.State.{stateRefusal, statusIn, flagShown, ordinalShown, worldOf}
-use Rattle.run_state.specs.Under.{stateRefusalUnder}
+use Rattle.run_state.specs.State.{statusIn, flagShown, ordinalShown, worldOf, stateRefusalUnder}
+use Rattle.run_state.specs.Inner.{stateRefusal}
 use Rattle.run_state.proofs.Passed.{passed, list-passed, absent-byte, under-passed}
 use Rattle.plan_blocked.specs.Blocked.{planUnder}
 use Rattle.runs.specs.Tests.{listed}
@@ -63,7 +62,7 @@ module _ (b s : List ℕ) (ok : stateRefusal b s ≡ 0) (e : Event) (fit : Fit b
   happened =
       let q = event-written b s ok e fit in
       record {
-        well-formed = ap (stateRefusal b) q ∙ still-well b s ok e fit ordinals;
+        well-formed = ap (λ (y : List ℕ). stateRefusal b y) q ∙ still-well b s ok e fit ordinals;
         shows = ap (worldOf b) q ∙ same;
       }
 

@@ -8,8 +8,7 @@ use Rattle.plan_check.specs.Meaning.{planOf}
 use Rattle.runs.specs.Calls.{Call, events, Answered}
 use Rattle.base.specs.Answers.{first}
 use Rattle.plan_blocked.specs.Blocked.{planUnder}
-use Rattle.run_state.specs.State.{worldOf}
-use Rattle.run_state.specs.Under.{stateRefusalUnder}
+use Rattle.run_state.specs.State.{worldOf, stateRefusalUnder}
 use Rattle.run_refusals.specs.Events.{callRefusal}
 use Rattle.run_step.specs.Steps.{afterAll}
 

@@ -8,8 +8,7 @@ use Rattle.base.specs.Answers.{refusedOr}
 use Rattle.plan_blocked.specs.Blocked.{planUnder}
 use Rattle.runs.specs.Execution as execution
 use Rattle.runs.specs.Model.Monitor.{completeB}
-use Rattle.run_state.specs.State.{statusIn}
-use Rattle.run_state.specs.Under.{stateRefusalUnder}
+use Rattle.run_state.specs.State.{statusIn, stateRefusalUnder}
 use Rattle.run_monitor.specs.declared.Progress.{Progress}
 use Rattle.run_monitor.specs.declared.Progress.the-variants.{Refused, Complete, Unfinished}
 

@@ -14,7 +14,7 @@ use run_step::write_finishes;
 use run_step::write_move;
 ghost use Rattle.runs.specs.Execution as execution;
 ghost use Rattle.runs.specs.Calls.{one, together};
-ghost use Rattle.run_refusals.specs.Events.{eventOf};
+ghost use Rattle.run_refusals.specs.Inner.{eventOf};
 ghost use Rattle.run_monitor.specs.Status.{Told};
 ghost use Rattle.run_monitor.specs.Events.{Called};
 

@@ -17,7 +17,8 @@ use Rattle.plan_check.proofs.Nodes.{child-test, is-node}
 use Rattle.runs.specs.Tests.{sameB}
 use Rattle.runs.specs.Model.Monitor.{completeB, begunB}
 use Rattle.runs.proofs.Reflect.{not-not}
-use Rattle.run_state.specs.State.{stateRefusal, statusIn}
+use Rattle.run_state.specs.State.{statusIn}
+use Rattle.run_state.specs.Inner.{stateRefusal}
 use Rattle.run_state.proofs.Passed.{has-room}
 use Rattle.base.specs.Count.{countBelow}
 use Rattle.base.specs.Zeros.{Zeros}

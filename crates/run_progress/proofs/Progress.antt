@@ -23,7 +23,8 @@ use Rattle.runs.proofs.Execution.Completeness.{branch-done, group-skipped, comp
 use Rattle.runs.proofs.Reflect.{Reflects, r-map, r-eq, r-negate, true-T, T-true, same-test}
 use Rattle.runs.proofs.Calls.Reflect.{r-complete, r-begun}
 use Rattle.run_starts.specs.Starts.{nodeByte}
-use Rattle.run_state.specs.State.{stateRefusal, statusIn}
+use Rattle.run_state.specs.State.{statusIn}
+use Rattle.run_state.specs.Inner.{stateRefusal}
 use Rattle.run_state.proofs.Passed.{well-formed, byte-is, shown-moves}
 use Rattle.run_progress.specs.Progress.{countedAt, countedChild, childrenCounted}
 use Rattle.run_progress.specs.declared.Tally.{Tally}

@@ -14,7 +14,8 @@ ghost use lib.ListN.{length, getD};
 ghost use Rattle.plan_format.specs.Format.{nodeCount};
 ghost use Rattle.plan_check.specs.Meaning.{planOf};
 ghost use Rattle.runs.specs.Model.Monitor.{completeB, begunB};
-ghost use Rattle.run_state.specs.State.{stateRefusal, statusIn};
+ghost use Rattle.run_state.specs.State.{statusIn};
+ghost use Rattle.run_state.specs.Inner.{stateRefusal};
 ghost use Rattle.run_progress.specs.Progress.{countedAt, childrenCounted, Counted};
 
 // Which children of a group are counted: those that are begun; or, for an all-of group those that are not complete, for

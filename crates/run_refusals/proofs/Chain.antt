@@ -9,7 +9,7 @@ use native.Mathlib.Omega.{arith}
 use lib.Dec.{eqb}
 use lib.ListN.{getD, replicate}
 use borrow.Author.Tests.{eq-eqb, ne-eqb}
-use Rattle.run_flags.specs.Flags.{allByte}
+use Rattle.run_flags.specs.Inner.{allByte}
 use Rattle.plan_format.specs.Format.{nodeCount, kindOf, isKind, condCount}
 use Rattle.base.proofs.Booleans.{either}
 use mathlib.Core.Option.{Option, some, none}
@@ -33,17 +33,19 @@ use Rattle.runs.proofs.Calls.Skips.{skip-begun}
 use Rattle.base.specs.Answers.{first}
 use Rattle.base.proofs.First.{first-none, first-some, both-none}
 use Rattle.run_starts.specs.Starts.{nodeByte}
-use Rattle.run_state.specs.State.{stateRefusal, statusIn, flagShown, worldOf}
-use Rattle.run_state.specs.Under.{stateRefusalUnder}
+use Rattle.run_state.specs.State.{statusIn, flagShown, worldOf, stateRefusalUnder}
+use Rattle.run_state.specs.Inner.{stateRefusal}
 use Rattle.run_state.proofs.Passed.{has-room, well-formed, byte-is, shown-moves, passed, list-passed}
 use Rattle.run_state.proofs.Passed.{absent-byte, absent-waits}
 use Rattle.run_state.specs.Made.{made}
-use Rattle.node_sets.specs.Sets.{only, marked}
+use Rattle.node_sets.specs.Sets.{marked}
+use Rattle.node_sets.specs.One.{only}
 use Rattle.run_conditions.specs.Conditions.{brokenAt}
 use Rattle.run_conditions.proofs.Refusals.{broken-is}
 use Rattle.run_refusals.specs.declared.Move.{Move}
 use Rattle.run_refusals.specs.declared.Move.the-variants.{Start, Finish}
-use Rattle.run_refusals.specs.Events.{eventOf, eventPlace, callRefusal, eventRefusal}
+use Rattle.run_refusals.specs.Events.{callRefusal}
+use Rattle.run_refusals.specs.Inner.{eventOf, eventPlace, eventRefusal}
 use Rattle.run_refusals.specs.Parts.{treeRefusal, beginRefusal}
 
 -- ---- moves

@@ -8,25 +8,23 @@ use native.Mathlib.Omega.{arith}
 use lib.ListN.{take, replicate}
 use lib.Dec.{eqb}
 use borrow.Author.Tests.{eqb-true, not-false}
-use Rattle.run_flags.specs.Flags.{allByte}
+use Rattle.run_flags.specs.Inner.{allByte}
 use Rattle.plan_format.specs.Format.{isKind, condCount}
 use Rattle.base.proofs.Booleans.{not-passed}
 use Rattle.plan_check.specs.Meaning.{planOf}
 use Rattle.runs.specs.Plan.{post, placeNumber}
 use Rattle.runs.specs.Execution.{running}
 use Rattle.runs.specs.Calls.{together, Rising, no-task, wrong-status, inc-broken, not-rising, post-opposed}
-use Rattle.runs.specs.Model.Monitor.{firstOf, orElse, code, appliesB, taskB, statusB}
-use Rattle.runs.specs.Model.Monitor.{notRisingB, postOpposedB}
-use Rattle.runs.specs.Tests.{anyBelow, anyIn, negate}
+use Rattle.runs.specs.Model.Monitor.{firstOf, orElse, code, appliesB, taskB, statusB, notRisingB, postOpposedB}
+use Rattle.runs.specs.Tests.{anyBelow, anyIn, negate, listed}
 use Rattle.runs.proofs.Reflect.{T-true}
 use Rattle.runs.proofs.Calls.Listed.{r-not-rising, any-same, none-in, rises}
 use Rattle.run_starts.specs.Starts.{nodeByte}
-use Rattle.run_state.specs.State.{stateRefusal, statusIn, worldOf}
-use Rattle.run_state.specs.Under.{stateRefusalUnder}
+use Rattle.run_state.specs.State.{statusIn, worldOf, stateRefusalUnder}
+use Rattle.run_state.specs.Inner.{stateRefusal}
 use Rattle.run_state.proofs.Passed.{passed}
 use Rattle.runs.proofs.Blocked.Monitor.{testedB}
 use Rattle.run_state.specs.Made.{made}
-use Rattle.runs.specs.Tests.{listed}
 use Rattle.node_sets.specs.Sets.{Each}
 use Rattle.run_conditions.specs.Conditions.{unmetAt, brokenAt}
 use Rattle.run_conditions.proofs.Refusals.{opposed-is, broken-unless}

@@ -27,10 +27,10 @@ ghost use mathlib.Core.Path.{_≡_};
 ghost use Rattle.runs.specs.Plan.{placeNumber};
 ghost use Rattle.runs.specs.Execution as execution;
 ghost use Rattle.runs.specs.Calls.{asks, statusByte, together};
-ghost use Rattle.run_state.specs.State.{AtEvent, stateRefusal};
+ghost use Rattle.run_state.specs.Inner.{AtEvent, stateRefusal};
 ghost use Rattle.run_progress.specs.Progress.{Counted};
 ghost use Rattle.run_progress.specs.declared.Tally.the-variants.{Begun};
-ghost use Rattle.run_refusals.specs.Events.{eventOf, eventPlace, Refuses, RefusesEvent};
+ghost use Rattle.run_refusals.specs.Inner.{eventOf, eventPlace, Refuses, RefusesEvent};
 ghost use Rattle.node_sets.specs.Sets.{marked};
 ghost use Rattle.run_refusals.specs.Parts.{treeRefusal, beginRefusal};
 

@@ -1,12 +1,12 @@
 -- The nodes in a state's bytes: a byte for each, after the eight of the flags, then for each a number of two bytes, the
 -- ordinal of its start (02: place). Which tasks have been started, and when 16 covers their ordinals.
-use Prim.Native.Nat.{ℕ, suc, _+_, _*_, _/_, _%_, _≤_}
+use Prim.Native.Nat.{ℕ, suc, _+_, _*_, _/_, _%_}
 use mathlib.Core.Bool.{Bool, not, _&&_}
 use mathlib.Core.List.{List}
-use lib.ListN.{getD, length, set}
+use lib.ListN.{getD, set}
 use lib.Dec.{eqb}
 use Rattle.base.specs.Count.{countBelow}
-use Rattle.plan_format.specs.Format.{Whole, u16At, nodeCount, isKind}
+use Rattle.plan_format.specs.Format.{u16At, nodeCount, isKind}
 use Rattle.runs.specs.Tests.{anyBelow}
 
 -- the byte of node n
@@ -41,8 +41,3 @@ strayOrdinal b s n = not (startedIn b s n) && not (eqb (ordinalIn b s n) 0)
 
 unfoldable pub misnumbered : List ℕ → List ℕ → Bool
 misnumbered b s = anyBelow (startedCount b s) (λ k. not (eqb (holders b s (suc k)) 1))
-
--- what is asked where a state's bytes are read: the plan is whole, and there is room
-pub record Fits (b s : List ℕ) : Type 0 where
-  pub plan : Whole b
-  pub room : 8 + 3 * nodeCount b ≤ length s

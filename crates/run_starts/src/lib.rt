@@ -10,7 +10,8 @@ ghost use mathlib.Core.Path.{_≡_};
 ghost use Prim.Native.Nat.{ℕ, _<_};
 ghost use lib.ListN.{length, getD};
 ghost use Rattle.plan_format.specs.Format.{Whole, nodeCount};
-ghost use Rattle.run_starts.specs.Starts.{Fits, ordinalAt, ordinalIn, startedIn, startedCount, strayOrdinal};
+ghost use Rattle.run_starts.specs.Starts.{ordinalAt, ordinalIn, startedIn, startedCount, strayOrdinal};
+ghost use Rattle.run_starts.specs.Inner.{Fits};
 ghost use Rattle.run_starts.specs.Starts.{holders, misnumbered, withOrdinal};
 
 // Where the ordinal of node n stands.

@@ -5,7 +5,7 @@ use Prim.Native.Nat.{ℕ, _+_, _*_}
 use borrow.Author.Tests.{eq-eqb, ne-eqb}
 use Rattle.base.specs.Answers.{overlay}
 use Rattle.plan_format.specs.Format.{nodeCount}
-use Rattle.run_state.specs.Under.{roomRefusalUnder}
+use Rattle.run_state.specs.State.{roomRefusalUnder}
 use Rattle.run_state.specs.Fresh.{freshByte, freshState}
 
 module _ (b xs s : List ℕ) where

@@ -3,7 +3,7 @@
 use mathlib.Core.Path.{_≡_, refl, sym, ap, _∙_}
 use mathlib.Core.Logic.{_↔_, _⊎_, inl, inr, ⊎-elim}
 use mathlib.Core.Bool.{true, false, or-true}
-use mathlib.Core.List.{List}
+use mathlib.Core.List.{List, []}
 use Prim.Native.Nat.{ℕ, zero, suc, _+_, _<_, _≤_}
 use native.Mathlib.Omega.{arith}
 use lib.ListN.{length}
@@ -13,21 +13,23 @@ use Rattle.plan_format.specs.Format.{nodeCount, kindOf, isKind}
 use Rattle.base.proofs.Booleans.{either, or-none, or-split, not-passed}
 use Rattle.plan_check.specs.Meaning.{planOf}
 use Rattle.plan_check.proofs.Meaning.{means-well-formed, kind-is, kind-task}
-use Rattle.plan_check.proofs.Nodes.{node-is, plan-kind, kind-optional}
+use Rattle.plan_check.proofs.Nodes.{is-node, node-is, plan-kind, kind-optional}
 use Rattle.runs.specs.Plan.{Moves, Node, WellFormed}
 use Rattle.runs.specs.Execution.{Status, waiting, running, done}
-use Rattle.runs.specs.Calls.{statusByte}
+use Rattle.runs.specs.Calls.{statusByte, empty}
 use Rattle.run_starts.specs.Starts.{nodeByte}
-use Rattle.run_state.specs.State.{badByte, stateRefusal, statusAt, moves, statusIn}
-use Rattle.run_state.specs.Under.{badAbsent, stateRefusalUnder}
+use Rattle.run_state.specs.State.{badByte, statusAt, moves, statusIn, badAbsent, stateRefusalUnder}
+use Rattle.run_state.specs.Inner.{stateRefusal}
 use Rattle.plan_blocked.specs.Blocked.{refusalUnder}
+use Rattle.plan_blocked.proofs.Refused.{list-passes}
 use Rattle.runs.specs.Tests.{listed}
 use Rattle.runs.specs.Blocked.{Stands, stands}
 use Rattle.runs.proofs.Reflect.{true-T}
 use Rattle.runs.proofs.Blocked.Standing.{r-stands}
-use Rattle.run_state.proofs.Refused.{Roomy, roomy, state-well, state-good, room-passed, room-blocked}
+use Rattle.runs.proofs.Blocked.Branches.{all-standing, blocks-nothing}
+use Rattle.run_state.proofs.Refused.{Roomy, room-passed, room-blocked}
 use Rattle.run_state.proofs.Refused.{state-room-under, state-well-under, state-passed}
-use Rattle.run_state.proofs.Well.{Well, well, from-parts, WellUnder, well-under, from-under}
+use Rattle.run_state.proofs.Well.{Well, WellUnder, well-under, from-under}
 
 -- a byte and the status that it shows, back and forth
 pub status-back : (x : ℕ) → x ≤ 2 → statusByte (statusAt x) ≡ x
@@ -59,13 +61,13 @@ module _ (b : List ℕ) (n : ℕ) where
 
 module _ (b s : List ℕ) (ok : stateRefusal b s ≡ 0) where
   pub has-room : Roomy b s
-  has-room = roomy b s (state-well b s ok .0)
+  has-room = room-passed b [] s (state-room-under b [] s ok)
 
   pub well-formed : WellFormed (planOf b)
   well-formed = means-well-formed b (has-room .accepted)
 
   pub is-well : Well b s
-  is-well = well b s (state-well b s ok .1)
+  is-well = well-under b [] s (state-well-under b [] s ok) .well
 
   -- the byte of a node that no event moves
   pub byte-rests : (n : ℕ) → n < nodeCount b → moves b n ≡ false → nodeByte s n ≡ 0
@@ -124,6 +126,17 @@ module _ (b s : List ℕ) (ok : stateRefusal b s ≡ 0) where
     pub byte-inside : 8 + n < length s
     byte-inside = omega (arith, has-room .room)
 
+-- with nothing blocked all nodes stand, and 16 is what it is without a list
+pub well-passed : (b s : List ℕ) → Roomy b s → Well b s → stateRefusal b s ≡ 0
+unfolding badAbsent
+well-passed b s r w =
+    let ok = r .accepted in
+    let p = means-well-formed b ok in
+    state-passed b [] s (list-passes b [] ok empty (blocks-nothing (planOf b) p)) (r .room) (from-under b [] s (record {
+      well = w;
+      absent = λ n l. rw (all-standing (planOf b) p n (is-node b n l));
+    }))
+
 -- and with a list of blocked nodes
 module _ (b xs s : List ℕ) (ok : stateRefusalUnder b xs s ≡ 0) where
   pub list-passed : refusalUnder b xs ≡ 0
@@ -133,7 +146,7 @@ module _ (b xs s : List ℕ) (ok : stateRefusalUnder b xs s ≡ 0) where
   under-well = well-under b xs s (state-well-under b xs s ok)
 
   pub passed : stateRefusal b s ≡ 0
-  passed = sym (state-good b s (room-passed b xs s (state-room-under b xs s ok)) (from-parts b s (under-well .well)))
+  passed = well-passed b s (room-passed b xs s (state-room-under b xs s ok)) (under-well .well)
 
   -- what does not stand waits
   pub absent-byte : (n : ℕ) → n < nodeCount b → stands (planOf b) (listed xs) n ≡ false → nodeByte s n ≡ 0

@@ -19,54 +19,21 @@ use Rattle.plan_blocked.specs.Blocked as blocked
 use Rattle.plan_blocked.specs.Blocked.{refusalUnder, Standing}
 use Rattle.plan_blocked.proofs.Refused.{plan-accepted}
 use Rattle.runs.proofs.Searches.{some-same}
-use Rattle.run_starts.specs.Starts.{Fits, nodeByte, strayOrdinal, misnumbered}
-use Rattle.run_state.specs.Under.{badAbsent, malformedUnder, roomRefusalUnder, stateRefusalUnder, badByteIn}
-use Rattle.run_state.specs.Under.{badNodeIn, Checked}
-use Rattle.run_state.specs.State.{tooShort, badFlag, badByte, badNode, malformed, roomRefusal, stateRefusal}
+use Rattle.run_starts.specs.Starts.{nodeByte, strayOrdinal, misnumbered}
+use Rattle.run_starts.specs.Inner.{Fits}
+use Rattle.run_state.specs.State.{badAbsent, malformedUnder, roomRefusalUnder, stateRefusalUnder}
+use Rattle.run_state.specs.Inner.{badByteIn, badNodeIn, Checked}
+use Rattle.run_state.specs.State.{tooShort, badFlag, badByte, badNode}
 
+-- what a call that passes 1 to 15 may rest on
 module _ (b s : List ℕ) where
-  pub room-plan : (refusal b ≡ 0 → ⊥) → refusal b ≡ roomRefusal b s
-  unfolding roomRefusal
-  room-plan n = first-some (refusal b) _ n
-
-  pub room-short : refusal b ≡ 0 → length s < 8 + 3 * nodeCount b → 15 ≡ roomRefusal b s
-  unfolding roomRefusal tooShort
-  room-short e l = simp (e, lt-ltb _ _ l)
-
-  pub room-long : refusal b ≡ 0 → 8 + 3 * nodeCount b ≤ length s → 0 ≡ roomRefusal b s
-  unfolding roomRefusal tooShort
-  room-long e l = simp (e, le-ltb _ _ l)
-
-  -- what a call that passes 1 to 15 may rest on
   pub record Roomy : Type 0 where
     pub accepted : refusal b ≡ 0
     pub plan : Clean b
     pub room : 8 + 3 * nodeCount b ≤ length s
 
-  pub roomy : roomRefusal b s ≡ 0 → Roomy
-  unfolding roomRefusal tooShort
-  roomy e =
-      let w = both-none (refusal b) _ e in
-      record { accepted = w .0; plan = clean b (w .0); room = ltb-false _ _ (check-passed _ 14 0 (w .1) .0) }
-
   pub fits : Roomy → Fits b s
   fits r = record { plan = r .plan .fits; room = r .room }
-
-  pub state-room : (roomRefusal b s ≡ 0 → ⊥) → roomRefusal b s ≡ stateRefusal b s
-  unfolding stateRefusal
-  state-room n = first-some (roomRefusal b s) _ n
-
-  pub state-bad : roomRefusal b s ≡ 0 → malformed b s ≡ true → 16 ≡ stateRefusal b s
-  unfolding stateRefusal
-  state-bad e m = simp (e, m)
-
-  pub state-good : roomRefusal b s ≡ 0 → malformed b s ≡ false → 0 ≡ stateRefusal b s
-  unfolding stateRefusal
-  state-good e m = simp (e, m)
-
-  pub state-well : stateRefusal b s ≡ 0 → (roomRefusal b s ≡ 0) × (malformed b s ≡ false)
-  unfolding stateRefusal
-  state-well e = let w = both-none (roomRefusal b s) _ e in (w .0, check-passed _ 15 0 (w .1) .0)
 
 -- a byte or an ordinal, or, in another order, an ordinal or a byte
 turned : (x y z : Bool) → ((x || y) || z) ≡ ((x || z) || y)
@@ -76,7 +43,6 @@ turned false true false = refl
 turned false false true = refl
 turned false false false = refl
 
--- ---- with a list
 module _ (b xs s : List ℕ) where
   pub room-refused : {r : ℕ} {table : List ℕ} → blocked.Checked b xs r table → (r ≡ 0 → ⊥)
       → Checked b xs (roomRefusalUnder b xs s) r table
@@ -123,10 +89,12 @@ module _ (b xs s : List ℕ) where
   unfolding stateRefusalUnder roomRefusalUnder tooShort
   state-passed e l m = simp (e, le-ltb _ _ l, m)
 
-  -- what passes with a list passes with none
-  pub room-passed : roomRefusalUnder b xs s ≡ 0 → roomRefusal b s ≡ 0
-  unfolding roomRefusalUnder roomRefusal
-  room-passed e = let w = both-none (refusalUnder b xs) _ e in simp (plan-accepted b xs (w .0), w .1)
+  pub room-passed : roomRefusalUnder b xs s ≡ 0 → Roomy b s
+  unfolding roomRefusalUnder tooShort
+  room-passed e =
+      let w = both-none (refusalUnder b xs) _ e in
+      let ok = plan-accepted b xs (w .0) in
+      record { accepted = ok; plan = clean b ok; room = ltb-false _ _ (check-passed _ 14 0 (w .1) .0) }
 
   pub room-blocked : roomRefusalUnder b xs s ≡ 0 → refusalUnder b xs ≡ 0
   unfolding roomRefusalUnder

@@ -19,17 +19,15 @@ use Rattle.plan_check.specs.Meaning.{planOf, startOf}
 use Rattle.plan_check.proofs.Accepted.{start-below}
 use Rattle.runs.specs.Execution.{waiting}
 use Rattle.runs.specs.Calls as calls
-use Rattle.run_starts.specs.Starts.{nodeByte}
-use Rattle.run_state.specs.State.{badFlag, badByte, malformed, statusAt, moves}
-use Rattle.run_starts.specs.Starts.{ordinalAt, ordinalIn, startedIn}
+use Rattle.run_starts.specs.Starts.{nodeByte, ordinalAt, ordinalIn, startedIn, startedCount, strayOrdinal}
+use Rattle.run_state.specs.State.{badFlag, badByte, statusAt, moves}
 use Rattle.run_state.specs.State.{statusIn, flagShown, ordinalShown, worldOf}
-use Rattle.run_starts.specs.Starts.{startedCount, strayOrdinal}
-use Rattle.run_state.specs.Under.{badAbsent, roomRefusalUnder, stateRefusalUnder}
+use Rattle.run_state.specs.State.{badAbsent, roomRefusalUnder, stateRefusalUnder}
 use Rattle.runs.specs.Tests.{listed}
 use Rattle.runs.specs.Blocked.{stands}
 use Rattle.run_state.specs.Fresh.{freshByte, freshState}
-use Rattle.run_state.proofs.Refused.{Roomy, roomy, room-passed, room-blocked, state-passed}
-use Rattle.run_state.proofs.Well.{well, from-parts, from-under}
+use Rattle.run_state.proofs.Refused.{Roomy, room-passed, room-blocked, state-passed}
+use Rattle.run_state.proofs.Well.{Well, from-under}
 use Rattle.run_state.proofs.Passed.{moves-node}
 
 module _ (b s : List ℕ) (r : Roomy b s) where
@@ -70,14 +68,14 @@ module _ (b s : List ℕ) (r : Roomy b s) where
   unfolding startedCount
   no-starts = count-none (nodeCount b) (startedIn b written) none-started
 
-  well-formed : malformed b written ≡ false
+  well-formed : Well b written
   unfolding badFlag badByte strayOrdinal
-  well-formed = from-parts b written (record {
+  well-formed = record {
     flags = λ f l. by-cases (decLt f (flagCount b)) (λ (h : f < flagCount b). past f h)
         (λ h. at-start f l (omega arith));
     bytes = small;
     numbers = record { strays = stray; once = λ k l. absurd (omega (arith, no-starts)) };
-  })
+  }
     where
       past : (f : ℕ) → f < flagCount b → badFlag b written f ≡ false
       past f h = rw (lt-leb (flagCount b) f h)
@@ -136,12 +134,12 @@ pub record Started (b xs s : List ℕ) : Type 0 where
 pub fresh-started : (b xs s : List ℕ) → roomRefusalUnder b xs s ≡ 0 → Started b xs (freshState b xs s)
 unfolding freshState written
 fresh-started b xs s e =
-    let r = roomy b s (room-passed b xs s e) in
+    let r = room-passed b xs s e in
     let w = overlay (freshByte b) (8 + 3 * nodeCount b) s in
     let n = length-overlay (freshByte b) s (8 + 3 * nodeCount b) in
     rw (eq-eqb (roomRefusalUnder b xs s) 0 e)
     (record {
       well-formed = state-passed b xs w (room-blocked b xs s e) (omega (arith, r .room, n))
-          (from-under b xs w (record { well = well b w (well-formed b s r); absent = fresh-absent b s r xs }));
+          (from-under b xs w (record { well = well-formed b s r; absent = fresh-absent b s r xs }));
       at-first = shows b s r;
     })

@@ -8,7 +8,7 @@ use lib.ListN.{getD}
 use lib.Dec.{eqb, ltb}
 use Rattle.base.specs.Answers.{overlay}
 use Rattle.plan_format.specs.Format.{nodeCount}
-use Rattle.run_state.specs.Under.{roomRefusalUnder}
+use Rattle.run_state.specs.State.{roomRefusalUnder}
 
 unfoldable pub freshByte : List ℕ → ℕ → ℕ
 freshByte b i = cond (ltb i 8) (getD b (8 + i) 0) 0

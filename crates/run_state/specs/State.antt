@@ -1,7 +1,7 @@
 -- A state (01: record): eight bytes of flags, then a byte for each node of its plan, then for each node a number of two
--- bytes, the ordinal of its start (02: place). When it is refused, and what it shows.
-use Prim.Native.Nat.{ℕ, _+_, _*_, _<_}
-use mathlib.Core.Path.{_≡_}
+-- bytes, the ordinal of its start (02: place). When it is refused, with a list of blocked nodes, and what it shows.
+-- Definitions only.
+use Prim.Native.Nat.{ℕ, _+_, _*_}
 use mathlib.Core.Bool.{Bool, false, cond, not, _&&_, _||_}
 use mathlib.Core.List.{List}
 use lib.ListN.{length}
@@ -10,17 +10,20 @@ use Rattle.base.specs.Answers.{first}
 use Rattle.run_flags.specs.Flags.{flagIn}
 use Rattle.run_starts.specs.Starts.{nodeByte, ordinalIn, startedCount, strayOrdinal, misnumbered}
 use Rattle.plan_format.specs.Format.{nodeCount, flagCount, isKind}
-use Rattle.plan_rules.specs.Rules.{refusal}
-use Rattle.runs.specs.Tests.{anyBelow}
+use Rattle.plan_check.specs.Meaning.{planOf}
+use Rattle.plan_blocked.specs.Blocked.{refusalUnder}
+use Rattle.runs.specs.Tests.{anyBelow, listed}
 use Rattle.runs.specs.Execution.{Status, waiting, running, done}
 use Rattle.runs.specs.Calls.{World}
+use Rattle.runs.specs.Blocked.{stands}
 
 -- 15: under 8 + 3N bytes
 unfoldable pub tooShort : List ℕ → List ℕ → Bool
 tooShort b s = ltb (length s) (8 + 3 * nodeCount b)
 
 -- 16: a bit for flag V or higher, a group byte not 0 (02: 2 passes at an optional group, which is then skipped), a task
--- byte over 2; and of the ordinals `strayOrdinal` and `misnumbered`
+-- byte over 2; of the ordinals `strayOrdinal` and `misnumbered`; "a record byte there that is not 0", at or under a
+-- blocked node. (So it does a place there: a node that has not been started has none.)
 unfoldable pub badFlag : List ℕ → List ℕ → ℕ → Bool
 badFlag b s f = leb (flagCount b) f && flagIn s f
 
@@ -31,16 +34,20 @@ badByte b s n = cond (isKind b n 0) (ltb 2 (nodeByte s n))
 unfoldable pub badNode : List ℕ → List ℕ → ℕ → Bool
 badNode b s n = badByte b s n || strayOrdinal b s n
 
-unfoldable pub malformed : List ℕ → List ℕ → Bool
-malformed b s = anyBelow 64 (badFlag b s) || anyBelow (nodeCount b) (badNode b s) || misnumbered b s
+unfoldable pub badAbsent : List ℕ → List ℕ → List ℕ → ℕ → Bool
+badAbsent b xs s n = not (stands (planOf b) (listed xs) n) && not (eqb (nodeByte s n) 0)
 
--- refusals 1 to 15, with nothing blocked (specs/Under has the list)
-unfoldable pub roomRefusal : List ℕ → List ℕ → ℕ
-roomRefusal b s = first (refusal b) (cond (tooShort b s) 15 0)
+unfoldable pub malformedUnder : List ℕ → List ℕ → List ℕ → Bool
+malformedUnder b xs s =
+    anyBelow 64 (badFlag b s) || anyBelow (nodeCount b) (λ n. badNode b s n || badAbsent b xs s n) || misnumbered b s
 
--- refusals 1 to 16
-unfoldable pub stateRefusal : List ℕ → List ℕ → ℕ
-stateRefusal b s = first (roomRefusal b s) (cond (malformed b s) 16 0)
+-- refusals 1 to 14, 28, 29 and 15
+unfoldable pub roomRefusalUnder : List ℕ → List ℕ → List ℕ → ℕ
+roomRefusalUnder b xs s = first (refusalUnder b xs) (cond (tooShort b s) 15 0)
+
+-- and 16
+unfoldable pub stateRefusalUnder : List ℕ → List ℕ → List ℕ → ℕ
+stateRefusalUnder b xs s = first (roomRefusalUnder b xs s) (cond (malformedUnder b xs s) 16 0)
 
 -- 0 waiting, 1 running, 2 done (of an optional group: skipped)
 unfoldable pub statusAt : ℕ → Status
@@ -68,8 +75,3 @@ worldOf b s = record {
   starts = startedCount b s;
   ordinal = ordinalShown b s;
 }
-
--- what is asked where an event of node t is judged or written: t is a node, and the state passes 1 to 16
-pub record AtEvent (b s : List ℕ) (t : ℕ) : Type 0 where
-  pub node : t < nodeCount b
-  pub passed : stateRefusal b s ≡ 0

@@ -16,10 +16,10 @@ ghost use Prim.Native.Nat.{_+_, _<_, _≤_};
 ghost use lib.ListN.{length};
 ghost use Rattle.plan_format.specs.Format.{nodeCount};
 ghost use Rattle.runs.specs.Tests.{anyBelow};
-ghost use Rattle.run_starts.specs.Starts.{Fits};
+ghost use Rattle.run_starts.specs.Inner.{Fits};
 ghost use Rattle.node_sets.specs.Sets.{AllMarked};
-ghost use Rattle.run_state.specs.State.{badFlag};
-ghost use Rattle.run_state.specs.Under.{roomRefusalUnder, stateRefusalUnder, badByteIn, badNodeIn, Checked};
+ghost use Rattle.run_state.specs.State.{badFlag, roomRefusalUnder, stateRefusalUnder};
+ghost use Rattle.run_state.specs.Inner.{badByteIn, badNodeIn, Checked};
 ghost use Rattle.run_state.specs.Fresh.{freshByte, Freshened};
 
 // A bit for a flag of number v or higher.

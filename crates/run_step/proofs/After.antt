@@ -20,17 +20,15 @@ use Rattle.runs.specs.Plan.{post, kindNumber, placeNumber}
 use Rattle.runs.specs.Execution.{Event, start, finish, skip, nodeOf, statusOf, moved}
 use Rattle.runs.specs.Calls.{statusByte, asks, counted, numbered}
 use Rattle.run_starts.specs.Starts.{nodeByte, ordinalAt, ordinalIn, withOrdinal, startedIn, startedCount}
-use Rattle.run_state.specs.State.{badFlag, badByte, stateRefusal, moves, statusIn, flagShown, ordinalShown}
-use Rattle.run_state.proofs.Refused.{room-long, state-good}
-use Rattle.run_state.proofs.Passed.{has-room, is-well, status-of, task-moves, optional-moves, moves-node}
-use Rattle.run_state.proofs.Well.{from-parts}
+use Rattle.run_state.specs.State.{badFlag, badByte, moves, statusIn, flagShown, ordinalShown}
+use Rattle.run_state.specs.Inner.{stateRefusal}
+use Rattle.run_state.proofs.Passed.{well-passed, has-room, is-well, status-of, task-moves, optional-moves, moves-node}
 use Rattle.run_starts.proofs.Ordinals.{ordinal-length, ordinal-before, ordinal-past, ordinal-other, ordinal-own}
 use Rattle.run_starts.proofs.Numbering.{Numbering, start-numbering, same-numbering}
-use Rattle.run_refusals.specs.Events.{eventPlace}
+use Rattle.run_refusals.specs.Inner.{eventPlace}
 use Rattle.run_refusals.proofs.Chain.{eventKind}
 use Rattle.run_step.specs.Steps.{withEvent, afterEvent}
-use Rattle.run_step.proofs.Written.{next-length, byte-own, byte-other, byte-past, flag-next}
-use Rattle.run_step.proofs.Written.{no-sign, only-byte}
+use Rattle.run_step.proofs.Written.{next-length, byte-own, byte-other, byte-past, flag-next, no-sign, only-byte}
 
 -- ---- an ordinal written if the event is a start
 abbrev withStart : List ℕ → ℕ → Event → List ℕ → List ℕ
@@ -228,13 +226,9 @@ module _ (b s : List ℕ) (ok : stateRefusal b s ≡ 0) (e : Event) (fit : Fit b
   pub still-well : {m : ℕ} → Numbering b after m → stateRefusal b after ≡ 0
   still-well h =
       let r = has-room b s ok in
-      sym
-      (state-good b after (sym (room-long b after (r .accepted) (omega (arith, after-length, r .room))))
-      (from-parts b after (record {
-        flags = after-good-flag;
-        bytes = after-good-byte;
-        numbers = h .well;
-      })))
+      well-passed b after
+      (record { accepted = r .accepted; plan = r .plan; room = omega (arith, after-length, r .room) })
+      (record { flags = after-good-flag; bytes = after-good-byte; numbers = h .well })
 
 -- ---- the events of each kind
 module _ (b s : List ℕ) (ok : stateRefusal b s ≡ 0) where

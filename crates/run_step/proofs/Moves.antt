@@ -6,7 +6,7 @@ use Rattle.runs.specs.Plan.{placeNumber}
 use Rattle.run_starts.specs.Starts.{withOrdinal, startedCount}
 use Rattle.run_refusals.specs.declared.Move.{Move}
 use Rattle.run_refusals.specs.declared.Move.the-variants.{Start, Finish}
-use Rattle.run_refusals.specs.Events.{eventOf, eventPlace}
+use Rattle.run_refusals.specs.Inner.{eventOf, eventPlace}
 use Rattle.run_step.specs.Steps.{withEvent, afterEvent}
 
 -- a move that was written part by part

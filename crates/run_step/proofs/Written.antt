@@ -18,10 +18,10 @@ use Rattle.plan_check.specs.Meaning.{planOf, signIn}
 use Rattle.plan_check.proofs.Meaning.{means}
 use Rattle.runs.specs.Plan.{Place, placeNumber}
 use Rattle.run_starts.specs.Starts.{nodeByte}
-use Rattle.run_state.specs.State.{stateRefusal}
+use Rattle.run_state.specs.Inner.{stateRefusal}
 use Rattle.run_state.proofs.Passed.{has-room}
 use Rattle.run_state.specs.Made.{made}
-use Rattle.node_sets.specs.Sets.{only}
+use Rattle.node_sets.specs.One.{only}
 use Rattle.run_conditions.proofs.Laws.{literals-idle, made-length, made-flag, of-is, on-task}
 use Rattle.run_step.specs.Steps.{withEvent}
 

@@ -1,17 +1,13 @@
 -- The bytes that an event leaves, and those that the finishes of a list do. Definitions only.
 use Prim.Native.Nat.{ℕ, suc, _+_}
-use mathlib.Core.Path.{_≡_}
-use mathlib.Core.Bool.{true}
 use mathlib.Core.List.{List, [], _∷_, _++_}
 use lib.ListN.{take, drop, set}
 use Rattle.runs.specs.Plan.{inc, post, placeNumber}
-use Rattle.plan_format.specs.Format.{isKind}
 use Rattle.runs.specs.Execution.{running, done, Event, start, finish, skip, History}
-use Rattle.runs.specs.Calls.{Rising, statusByte}
+use Rattle.runs.specs.Calls.{statusByte}
 use Rattle.run_starts.specs.Starts.{withOrdinal, startedCount}
-use Rattle.run_state.specs.State.{stateRefusal}
 use Rattle.run_state.specs.Made.{made}
-use Rattle.node_sets.specs.Sets.{only, Each}
+use Rattle.node_sets.specs.One.{only}
 
 -- the state with the literals of task t at place q made true, and the byte x at t
 unfoldable pub withEvent : List ℕ → ℕ → ℕ → ℕ → List ℕ → List ℕ
@@ -30,10 +26,3 @@ afterEvent b s (skip g) = set s (8 + g) (statusByte done)
 abbrev pub afterAll : List ℕ → List ℕ → History → List ℕ
 afterAll b s [] = s
 afterAll b s (e ∷ h) = afterEvent b (afterAll b s h) e
-
--- what is asked where the finishes of a list are written: the state passes 1 to 16, the list rises, and its numbers are
--- those of tasks
-pub record Finishing (b s ts : List ℕ) : Type 0 where
-  pub passed : stateRefusal b s ≡ 0
-  pub rises : Rising ts
-  pub tasks : Each ts (λ t. isKind b t 0 ≡ true)

@@ -13,9 +13,10 @@ use run_starts::started;
 use run_starts::write_ordinal;
 ghost use mathlib.Core.Path.{_≡_};
 ghost use Rattle.runs.specs.Calls.{finishes};
-ghost use Rattle.run_state.specs.State.{AtEvent};
-ghost use Rattle.run_refusals.specs.Events.{eventOf};
-ghost use Rattle.run_step.specs.Steps.{withEvent, afterEvent, afterAll, Finishing};
+ghost use Rattle.run_state.specs.Inner.{AtEvent};
+ghost use Rattle.run_refusals.specs.Inner.{eventOf};
+ghost use Rattle.run_step.specs.Steps.{withEvent, afterEvent, afterAll};
+ghost use Rattle.run_step.specs.Inner.{Finishing};
 
 // Writes the literals of the task at the place, and its byte.
 pub fn write_event(plan: &[u8], state: &mut [u8], place: u16, task: usize, byte: u8)

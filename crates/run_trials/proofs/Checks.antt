@@ -12,8 +12,7 @@ use Rattle.base.proofs.First.{first-none, first-some, answer-some}
 use Rattle.runs.specs.Tests.{both, negate, sameB}
 use Rattle.runs.specs.Model.Monitor.{completeB}
 use Rattle.runs.proofs.Reflect.{Reflects, r-both, r-negate, r-T, r-eq, r-same}
-use Rattle.run_state.specs.State.{statusIn}
-use Rattle.run_state.specs.Under.{malformedUnder, roomRefusalUnder, stateRefusalUnder}
+use Rattle.run_state.specs.State.{statusIn, malformedUnder, roomRefusalUnder, stateRefusalUnder}
 use Rattle.plan_blocked.specs.Blocked.{planUnder, refusalUnder}
 use Rattle.verdict.specs.Verdict.{answerOf}
 use Rattle.summary.specs.Summary.{summaryRefusal, summaryLeft}

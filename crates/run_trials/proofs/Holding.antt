@@ -17,7 +17,7 @@ use Rattle.run_flags.specs.Flags.{flagIn}
 use Rattle.run_starts.specs.Starts.{nodeByte, ordinalAt, ordinalIn, startedIn, startedCount, holders, strayOrdinal}
 use Rattle.run_starts.specs.Starts.{misnumbered}
 use Rattle.run_state.specs.State.{tooShort, badFlag, badByte, badNode, statusAt, moves, statusIn}
-use Rattle.run_state.specs.Under.{badAbsent, malformedUnder, roomRefusalUnder, stateRefusalUnder}
+use Rattle.run_state.specs.State.{badAbsent, malformedUnder, roomRefusalUnder, stateRefusalUnder}
 use Rattle.plan_blocked.specs.Blocked.{refusalUnder}
 use Rattle.runs.specs.Blocked.{stands, standingOrder, markedUnderB, unblockableB, refused28B, refused29B, blockedRefusal}
 use Rattle.run_calls.specs.Shown.{flagByte, numberByte, shownByte}

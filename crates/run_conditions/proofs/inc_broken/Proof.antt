@@ -10,7 +10,7 @@ use Rattle.run_state.proofs.Passed.{has-room}
 use lib.ListN.{replicate}
 use mathlib.Core.List.{List}
 use Prim.Native.Nat.{ℕ}
-use Rattle.run_flags.specs.Flags.{allByte}
+use Rattle.run_flags.specs.Inner.{allByte}
 use Rattle.run_state.specs.Made.{made}
 use Rattle.node_sets.specs.Sets.{marked}
 use Rattle.run_conditions.specs.Conditions.{brokenAt}

@@ -4,9 +4,9 @@ use denote.Ref.{now}
 use Rattle.plan_check.proofs.Meaning.{kind-is}
 use Rattle.plan_blocked.specs.Blocked.{Standing}
 use Rattle.runs.specs.Tests.{listed}
-use Rattle.run_state.specs.Under.{stateRefusalUnder}
+use Rattle.run_state.specs.State.{stateRefusalUnder}
 use Rattle.run_state.proofs.Passed as checks
-use Rattle.run_refusals.specs.Events.{eventOf, eventRefusal}
+use Rattle.run_refusals.specs.Inner.{eventOf, eventRefusal}
 use Rattle.run_refusals.proofs.Chain.{node-of, task-event, answer-task}
 use Rattle.run_monitor.proofs.Called.{called-16, called-22, called-0}
 use borrow.Author.Needs.{needs}

@@ -2,7 +2,7 @@
 use mathlib.Core.Path.{_≡_, sym, _∙_}
 use denote.Ref.{now}
 use Rattle.runs.specs.Calls.{together}
-use Rattle.run_state.specs.Under.{stateRefusalUnder}
+use Rattle.run_state.specs.State.{stateRefusalUnder}
 use Rattle.run_state.proofs.Passed as checks
 use Rattle.run_refusals.specs.Events.{callRefusal}
 use Rattle.run_refusals.proofs.Together.{accepted-rises, accepted-tasks}

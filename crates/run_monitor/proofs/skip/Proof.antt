@@ -7,10 +7,10 @@ use borrow.Author.Needs.{needs}
 use Rattle.plan_format.specs.Format.{nodeCount}
 use Rattle.plan_check.proofs.Meaning.{kind-is}
 use Rattle.runs.specs.Execution as execution
-use Rattle.run_state.specs.Under.{stateRefusalUnder}
+use Rattle.run_state.specs.State.{stateRefusalUnder}
 use Rattle.run_state.proofs.Refused.{Roomy}
 use Rattle.run_state.proofs.Passed as checks
-use Rattle.run_refusals.specs.Events.{eventRefusal}
+use Rattle.run_refusals.specs.Inner.{eventRefusal}
 use Rattle.run_refusals.proofs.Chain.{skip-optional}
 use Rattle.run_monitor.proofs.Called.{called-16, called-22, called-0}
 use Rattle.run_monitor.proofs.skip.Statement.{statement}

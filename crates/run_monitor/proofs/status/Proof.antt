@@ -1,8 +1,8 @@
 -- `status` meets its contract. Assumes nothing.
 use mathlib.Core.Path.{_≡_, sym, _∙_}
 use denote.Ref.{now}
-use Rattle.run_state.specs.State.{stateRefusal}
-use Rattle.run_state.specs.Under.{stateRefusalUnder}
+use Rattle.run_state.specs.Inner.{stateRefusal}
+use Rattle.run_state.specs.State.{stateRefusalUnder}
 use Rattle.run_state.proofs.Passed as checks
 use Rattle.run_monitor.proofs.Answers.{told-refused, told-complete, told-unfinished}
 use native.Mathlib.Omega.{arith}

@@ -14,7 +14,7 @@ use Rattle.runs.specs.Model.Monitor.{incBrokenB}
 use Rattle.run_starts.specs.Starts.{nodeByte}
 use Rattle.run_state.specs.State.{statusIn}
 use Rattle.run_state.proofs.Passed.{has-room}
-use Rattle.run_refusals.specs.Events.{eventOf, RefusesEvent}
+use Rattle.run_refusals.specs.Inner.{eventOf, RefusesEvent}
 use Rattle.node_sets.specs.Sets.{marked}
 use Rattle.run_refusals.specs.Parts.{beginRefusal}
 use Rattle.run_refusals.proofs.Chain.{asks-of, place-is, node-of, task-event, answer-17, answer-18, answer-begin}

@@ -14,7 +14,7 @@ use Rattle.runs.specs.Model.Monitor.{notRisingB, postOpposedB}
 use Rattle.run_starts.specs.Starts.{nodeByte}
 use Rattle.run_state.proofs.Passed.{has-room}
 use Rattle.node_sets.specs.Sets.{Each}
-use Rattle.run_refusals.specs.Events.{Refuses}
+use Rattle.run_refusals.specs.Inner.{Refuses}
 use Rattle.run_refusals.proofs.Together.{together-25, together-17, together-18, together-26, opposed, unopposed}
 use Rattle.run_refusals.proofs.Together.{tasks}
 use native.Mathlib.Omega.{arith}

@@ -2,9 +2,9 @@
 use mathlib.Core.Path.{_≡_, sym, _∙_}
 use mathlib.Core.Bool.{_||_}
 use denote.Ref.{now}
-use Rattle.run_state.proofs.Refused.{Roomy, roomy, fits, state-refused, state-bad-under, state-good-under}
+use Rattle.run_state.proofs.Refused.{Roomy, fits, state-refused, state-bad-under, state-good-under}
 use Rattle.run_state.proofs.Refused.{room-passed, bad-parts}
-use Rattle.run_state.specs.Under.{roomRefusalUnder, malformedUnder}
+use Rattle.run_state.specs.State.{roomRefusalUnder, malformedUnder}
 use native.Mathlib.Omega.{arith}
 use Rattle.run_state.proofs.check_state.Statement.{statement}
 use Rattle.run_state.proofs.check_state.Tie as tie
@@ -22,7 +22,7 @@ passed : (c : tie.Else1) → let a = entry c .args in
 passed c = sym (c .before .check-room .ensures .returns) ∙ c .if1 .left
 
 enough : (c : tie.Else1) → Roomy (now (entry c .args .plan)) (now (entry c .args .state))
-enough c = roomy _ _ (room-passed _ _ _ (passed c))
+enough c = room-passed _ _ _ (passed c)
 
 tested : (c : tie.After-ordinals-bad) → let a = entry (back c) .args in
     (c .before .before .before .flags-bad .result || c .before .nodes-bad .result || c .ordinals-bad .result) ≡

@@ -3,12 +3,12 @@ use mathlib.Core.Path.{_≡_, sym, ap, _∙_}
 use Prim.Native.Nat.{ℕ, _≤_, _-_, _+_, _*_}
 use denote.Ref.{now}
 use Rattle.plan_format.specs.Format.{nodeCount}
-use Rattle.run_state.specs.Under.{roomRefusalUnder}
+use Rattle.run_state.specs.State.{roomRefusalUnder}
 use Rattle.base.specs.Answers.{overlay}
 use Rattle.base.proofs.Overlay.{overlay-none, overlay-more, length-overlay}
 use Rattle.run_state.specs.Fresh.{freshByte}
 use Rattle.run_state.proofs.Left.{fresh-refused, fresh-accepted}
-use Rattle.run_state.proofs.Refused.{Roomy, roomy, room-passed}
+use Rattle.run_state.proofs.Refused.{Roomy, room-passed}
 use borrow.Author.Needs.{needs}
 use native.Mathlib.Omega.{arith}
 use Rattle.run_state.proofs.fresh.Statement.{statement}
@@ -29,7 +29,7 @@ passed : (c : tie.Else1 Inv-loop μ-loop) → let a = entry c .args in
 passed c = sym (c .before .check-room .ensures .returns) ∙ c .if1 .left
 
 enough : (c : tie.Else1 Inv-loop μ-loop) → Roomy (now (entry c .args .plan)) (now (entry c .args .state))
-enough c = roomy _ _ (room-passed _ _ _ (passed c))
+enough c = room-passed _ _ _ (passed c)
 
 returns : tie.Need-returns Inv-loop μ-loop
 returns c =

@@ -1,5 +1,5 @@
 -- `run_state::node_bad` meets its contract. Assumes nothing.
-use Rattle.run_state.specs.Under.{badNodeIn}
+use Rattle.run_state.specs.Inner.{badNodeIn}
 use Rattle.run_state.proofs.node_bad.Statement.{statement}
 use Rattle.run_state.proofs.node_bad.Tie as tie
 

@@ -6,7 +6,7 @@ use denote.Ref.{now}
 use Rattle.plan_format.specs.Format.{nodeCount}
 use Rattle.runs.specs.Tests.{anyBelow}
 use Rattle.runs.proofs.Searches.{some-yes, none-more, none-none}
-use Rattle.run_state.specs.Under.{badNodeIn}
+use Rattle.run_state.specs.Inner.{badNodeIn}
 use native.Mathlib.Omega.{arith}
 use Rattle.run_state.proofs.nodes_bad.Statement.{statement}
 use Rattle.run_state.proofs.nodes_bad.Tie as tie

@@ -1,7 +1,7 @@
 -- `plan_codes::value::parse` meets its contract. Assumes nothing.
 use native.Mathlib.Omega.{arith}
 use Rattle.plan_codes.proofs.Values.{parse-at}
-use Rattle.plan_codes.specs.Values.{parsedOf}
+use Rattle.plan_codes.specs.Cases.{parsedOf}
 use borrow.Author.Tests.{lt-leb}
 use mathlib.Core.Path.{_∙_}
 use Prim.Native.Nat.{_-_}

@@ -1,7 +1,7 @@
 -- `plan_codes::value::place_number` meets its contract. Assumes nothing.
 use mathlib.Core.Path.{_≡_, sym, ap}
 use Rattle.plan_codes.specs.declared.value.Place.{Place}
-use Rattle.plan_codes.specs.Values.{placeNum}
+use Rattle.plan_codes.specs.Cases.{placeNum}
 use Rattle.plan_codes.proofs.value.place_number.Statement.{statement}
 use Rattle.plan_codes.proofs.value.place_number.Tie as tie
 

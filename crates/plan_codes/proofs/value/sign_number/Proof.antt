@@ -1,7 +1,7 @@
 -- `plan_codes::value::sign_number` meets its contract. Assumes nothing.
 use mathlib.Core.Path.{_≡_, sym, ap}
 use Rattle.plan_codes.specs.declared.value.Sign.{Sign}
-use Rattle.plan_codes.specs.Values.{signNum}
+use Rattle.plan_codes.specs.Cases.{signNum}
 use Rattle.plan_codes.proofs.value.sign_number.Statement.{statement}
 use Rattle.plan_codes.proofs.value.sign_number.Tie as tie
 
