@@ -76,7 +76,7 @@ verdict-told b xs a x q =
     tells acc v =
         number-tells verdictNumber verdictIn verdict-back (x .returns ∙ sym (answer-none (refusalUnder b xs) _ acc)) v
 
-pub status-told : (b xs s : List ℕ) (a : Progress) {r : ℕ} → Told b xs s a → r ≡ statusNumber (status.said a)
+pub status-told : (b xs s : List ℕ) (a : Progress) {r : ℕ} → Told b xs s a → r ≡ statusNumber (status.reported a)
     → StatusNumber b xs s r
 unfolding statusAnswer
 status-told b xs s a x q =

@@ -23,7 +23,7 @@ pub fn verdict_number(answer: Answer) -> u32
 }
 
 pub fn status_number(answer: Progress) -> u32
-    ensures { λ r. ⌜ r ≡ statusNumber (progress.said answer) ⌝ }
+    ensures { λ r. ⌜ r ≡ statusNumber (progress.reported answer) ⌝ }
 {
     match answer {
         Progress::Refused(n) => n,

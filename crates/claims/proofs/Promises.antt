@@ -27,11 +27,12 @@ use Rattle.runs.proofs.Calls.Listed.{r-listed}
 use Rattle.runs.proofs.Blocked.Branches.{blocks-out, more-keeps, orders-keep}
 use Rattle.verdict.specs.declared.Answer.{Answer}
 use Rattle.verdict.specs.Verdict.{Assessed}
-use Rattle.claims.specs.Promises.{Keeps, BlockingKeeps, OrdersAdded, OrdersKeep}
+use Rattle.claims.specs.Promises.{AnswerKeeps, BlockingKeeps, BytesAddOrders, OrdersKeep}
 
 -- what holds of the plans holds of the answers
 answers-keep : (b c xs ys : List ℕ) → refusalUnder b xs ≡ 0 → refusalUnder c ys ≡ 0 → startOf b ≡ startOf c
-    → plans.Keeps (planUnder b xs) (planUnder c ys) → (a d : Answer) → Assessed b xs a → Assessed c ys d → Keeps a d
+    → plans.Keeps (planUnder b xs) (planUnder c ys) → (a d : Answer) → Assessed b xs a → Assessed c ys d
+    → AnswerKeeps a d
 answers-keep b c xs ys okb okc s k a d x y = record {
   clear = λ q. y .judged okc CLEAR .1 (rw s at (k .clear (startOf b) (x .judged okb CLEAR .0 q)));
   doomed = λ q. y .judged okc DOOMED .1 (rw s at (k .doomed (startOf b) (x .judged okb DOOMED .0 q)));
@@ -47,7 +48,7 @@ pub included-more : (b xs ys : List ℕ) → ((s : ℕ) → Among s xs → Among
 included-more b xs ys h s i x = x .outside s ((r-listed ys s) .from (h s i)) itself
 
 -- ---- orders added
-module _ (b c : List ℕ) (okb : refusal b ≡ 0) (h : OrdersAdded b c) where
+module _ (b c : List ℕ) (okb : refusal b ≡ 0) (h : BytesAddOrders b c) where
   same-condition : (q t f s : ℕ) → hasCondition b q t f s ≡ hasCondition c q t f s
   unfolding hasCondition conditionIs
   same-condition q t f s = some-same (condCount b) (conditionIs b q t f s) (conditionIs c q t f s)

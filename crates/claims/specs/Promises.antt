@@ -15,7 +15,7 @@ use Rattle.verdict.specs.declared.Answer.{Answer}
 use Rattle.verdict.specs.Verdict.{said, Assessed}
 
 -- CLEAR stays CLEAR and DOOMED stays DOOMED
-pub record Keeps (a c : Answer) : Type 0 where
+pub record AnswerKeeps (a c : Answer) : Type 0 where
   pub clear : said a ≡ inr CLEAR → said c ≡ inr CLEAR
   pub doomed : said a ≡ inr DOOMED → said c ≡ inr DOOMED
 
@@ -25,10 +25,10 @@ pub record Keeps (a c : Answer) : Type 0 where
 abbrev pub BlockingKeeps : Type 0
 BlockingKeeps = (b xs ys : List ℕ) → refusalUnder b xs ≡ 0 → refusalUnder b ys ≡ 0
     → ((s : ℕ) → Among s xs → ¬ Stands (planOf b) (listed ys) s) → (a c : Answer) → Assessed b xs a
-    → Assessed b ys c → Keeps a c
+    → Assessed b ys c → AnswerKeeps a c
 
 -- the bytes c say what the bytes b say, and more orders. (Names and minutes are no matter here.)
-pub record OrdersAdded (b c : List ℕ) : Type 0 where
+pub record BytesAddOrders (b c : List ℕ) : Type 0 where
   pub nodes : nodeCount b ≡ nodeCount c
   pub kinds : (n : ℕ) → n < nodeCount b → kindOf b n ≡ kindOf c n
   pub parents : (n : ℕ) → n < nodeCount b → parentOf b n ≡ parentOf c n
@@ -41,5 +41,5 @@ pub record OrdersAdded (b c : List ℕ) : Type 0 where
 
 -- orders are added that the rules accept, under any list of blocked nodes that passes, the empty one among them
 abbrev pub OrdersKeep : Type 0
-OrdersKeep = (b c xs : List ℕ) → OrdersAdded b c → refusalUnder b xs ≡ 0 → refusal c ≡ 0
-    → (a d : Answer) → Assessed b xs a → Assessed c xs d → Keeps a d
+OrdersKeep = (b c xs : List ℕ) → BytesAddOrders b c → refusalUnder b xs ≡ 0 → refusal c ≡ 0
+    → (a d : Answer) → Assessed b xs a → Assessed c xs d → AnswerKeeps a d

@@ -22,12 +22,12 @@ use Rattle.runs.specs.Blocked.{stands, without, Blocks, Refused28, names-root, 
 use Rattle.runs.proofs.Reflect.{force, decided, r-T, r-lt, true-T, T-true}
 use Rattle.runs.proofs.Calls.Listed.{r-listed}
 use Rattle.runs.proofs.Blocked.Branches.{r-28, refusal-none, nothing-refused, blocked-well-formed, without-none}
-use Rattle.plan_blocked.specs.Blocked.{planUnder, refusalUnder, Standing, Checked}
+use Rattle.plan_blocked.specs.Blocked.{planUnder, refusalUnder, Standing, ListChecked}
 use Rattle.plan_blocked.proofs.Standing.{all-stand}
 
 module _ (b xs : List ℕ) where
   -- the plan is refused
-  pub plan-refused : (table : List ℕ) (r : ℕ) → r ≡ refusal b → (r ≡ 0 → ⊥) → Checked b xs r table
+  pub plan-refused : (table : List ℕ) (r : ℕ) → r ≡ refusal b → (r ≡ 0 → ⊥) → ListChecked b xs r table
   unfolding refusalUnder
   plan-refused table r e n = record { returns = e ∙ first-some _ _ (λ z. n (e ∙ z)); standing = λ z. absurd (n z) }
 
@@ -36,27 +36,27 @@ module _ (b xs : List ℕ) where
     unfolding refusalUnder
     then r e = e ∙ first-none (refusal b) _ ok
 
-    pub none-blocked : (table : List ℕ) → AllMarked table → length xs ≡ 0 → Checked b xs 0 table
+    pub none-blocked : (table : List ℕ) → AllMarked table → length xs ≡ 0 → ListChecked b xs 0 table
     none-blocked table all e = at xs e refl
       where
-        at : (ys : List ℕ) → length ys ≡ 0 → ys ≡ xs → Checked b xs 0 table
+        at : (ys : List ℕ) → length ys ≡ 0 → ys ≡ xs → ListChecked b xs 0 table
         at [] e q = record {
           returns = then 0 (rw (sym q) (sym (nothing-refused (planOf b) (means-well-formed b ok))));
           standing = λ z. rw (sym q) (all-stand b ok table all);
         }
         at (y ∷ ys) e q = absurd (omega arith)
 
-    pub refused-28 : (table : List ℕ) → refused28B (planOf b) xs ≡ true → Checked b xs 28 table
+    pub refused-28 : (table : List ℕ) → refused28B (planOf b) xs ≡ true → ListChecked b xs 28 table
     unfolding blockedRefusal
     refused-28 table e = record { returns = then 28 (rw e); standing = λ z. absurd (omega arith) }
 
     pub refused-29 : (table : List ℕ) → refused28B (planOf b) xs ≡ false → refused29B (planOf b) xs ≡ true
-        → Checked b xs 29 table
+        → ListChecked b xs 29 table
     unfolding blockedRefusal
     refused-29 table e f = record { returns = then 29 (rw (e, f)); standing = λ z. absurd (omega arith) }
 
     pub none-refused : (table : List ℕ) → refused28B (planOf b) xs ≡ false → refused29B (planOf b) xs ≡ false
-        → Standing b (listed xs) table → Checked b xs 0 table
+        → Standing b (listed xs) table → ListChecked b xs 0 table
     unfolding blockedRefusal
     none-refused table e f h = record { returns = then 0 (rw (e, f)); standing = λ z. h }
 

@@ -26,6 +26,6 @@ pub record Standing (b : List ℕ) (S : ℕ → Bool) (table : List ℕ) : Type 
   pub is : (n : ℕ) → n < nodeCount b → marked table n ≡ stands (planOf b) S n
 
 -- what a check of plan and list leaves: the refusal, and the table once nothing is refused
-pub record Checked (b xs : List ℕ) (r : ℕ) (table : List ℕ) : Type 0 where
+pub record ListChecked (b xs : List ℕ) (r : ℕ) (table : List ℕ) : Type 0 where
   pub returns : r ≡ refusalUnder b xs
   pub standing : r ≡ 0 → Standing b (listed xs) table

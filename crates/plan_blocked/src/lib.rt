@@ -18,7 +18,7 @@ ghost use Rattle.plan_check.specs.Meaning.{planOf};
 ghost use Rattle.runs.specs.Tests.{anyIn};
 ghost use Rattle.runs.specs.Blocked.{unblockableB, refused28B};
 ghost use Rattle.node_sets.specs.Sets.{marked, AllMarked, Each};
-ghost use Rattle.plan_blocked.specs.Blocked.{Standing, Checked};
+ghost use Rattle.plan_blocked.specs.Blocked.{Standing, ListChecked};
 ghost use Rattle.plan_blocked.specs.Branches.{WithBranch, emptiedAt};
 
 // The number is that of the root, of no node, or of one whose parent is neither any-of nor optional.
@@ -114,7 +114,7 @@ fn branchless(plan: &[u8], list: &[usize], standing: &[u8; 128], marks: &[u8; 12
 // Refusals 28 and 29, or 0, and then of the marks those of the nodes that stand. With nothing blocked all do.
 fn check_list(plan: &[u8], list: &[usize], standing: &mut [u8; 128]) -> u32
     requires { ⌜ (refusal (now plan) ≡ 0) × AllMarked (now standing) ⌝ }
-    ensures { λ r. ⌜ Checked (now (plan .entry)) (now (list .entry)) r (now (standing .exit)) ⌝ }
+    ensures { λ r. ⌜ ListChecked (now (plan .entry)) (now (list .entry)) r (now (standing .exit)) ⌝ }
 {
     if list.len() == 0 {
         return 0;
@@ -133,7 +133,7 @@ fn check_list(plan: &[u8], list: &[usize], standing: &mut [u8; 128]) -> u32
 // Refusals 1 to 14, 28 and 29, or 0, and then of the marks those of the nodes that stand.
 pub fn check_blocked(plan: &[u8], list: &[usize], standing: &mut [u8; 128]) -> u32
     requires { ⌜ AllMarked (now standing) ⌝ }
-    ensures { λ r. ⌜ Checked (now (plan .entry)) (now (list .entry)) r (now (standing .exit)) ⌝ }
+    ensures { λ r. ⌜ ListChecked (now (plan .entry)) (now (list .entry)) r (now (standing .exit)) ⌝ }
 {
     let r = check(plan);
     if r != 0 {

@@ -24,17 +24,17 @@ use Rattle.runs.specs.Demand3 as plans
 use Rattle.runs.proofs.Calls.Demand3 as proved
 use Rattle.run_starts.specs.Starts.{ordinalIn}
 use Rattle.run_state.specs.State.{ordinalShown, statusIn, worldOf}
-use Rattle.run_calls.specs.Lists.{Listed}
+use Rattle.run_calls.specs.Lists.{ListMade}
 use Rattle.run_calls.specs.Demand3.{Bytes, Demand3Of, Demand3}
 use Rattle.run_calls.proofs.Followed.{list-follows, list-made, list-each}
 
 module _ (b xs : List ℕ) (h : Bytes b) (acc : refusalUnder b xs ≡ 0) where
-  on-plans : plans.Demand3 (planOf b) (listed xs) (startOf b)
+  on-plans : plans.Demand3On (planOf b) (listed xs) (startOf b)
   on-plans = proved.demand3 (planOf b) (means-well-formed b (plan-accepted b xs acc)) (listed xs) (blocks b xs acc)
       (startOf b)
 
   abbrev Never : Type 0
-  Never = (s : List ℕ) (cs : List Call) (rs z : List ℕ) → Listed b xs s cs rs z → plans.NoViolation rs
+  Never = (s : List ℕ) (cs : List Call) (rs z : List ℕ) → ListMade b xs s cs rs z → plans.NoViolation rs
 
   -- the states worked out are those of some list of calls that was made
   never-worked : Never → plans.NeverViolates (planOf b) (listed xs) (startOf b)
@@ -51,7 +51,8 @@ module _ (b xs : List ℕ) (h : Bytes b) (acc : refusalUnder b xs ≡ 0) where
   assessment OPEN e = (Given Open, assessed b xs Open acc e)
 
   -- the ordinals in the bytes are those of the states worked out
-  positions : (s : List ℕ) (cs : List Call) (rs z : List ℕ) → Listed b xs s cs rs z → (n : ℕ) → n < nodeCount b → (k : ℕ)
+  positions : (s : List ℕ) (cs : List Call) (rs z : List ℕ) → ListMade b xs s cs rs z → (n : ℕ) → n < nodeCount b
+      → (k : ℕ)
       → (ordinalIn b z n ≡ suc k) ↔ ((k < length (acceptedStarts cs rs)) × (getD (acceptedStarts cs rs) k 0 ≡ n))
   unfolding worldOf ordinalShown
   positions s cs rs z l n m k =

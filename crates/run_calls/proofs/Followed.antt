@@ -18,7 +18,7 @@ use Rattle.run_state.proofs.Shown.{fresh-started}
 use Rattle.run_monitor.specs.Events.{callReturn, callState, Called}
 use Rattle.run_monitor.proofs.Events.{call-steps}
 use Rattle.run_monitor.proofs.Called.{called}
-use Rattle.run_calls.specs.Lists.{Calls, no-calls, next-call, Listed}
+use Rattle.run_calls.specs.Lists.{Calls, no-calls, next-call, ListMade}
 use Rattle.run_calls.specs.Demand3.{Bytes, Shows, Follows, EachCall}
 use Rattle.run_calls.proofs.Kept.{Kept, fresh-kept, call-kept, group-none, shown-is}
 
@@ -76,7 +76,8 @@ module _ (b xs : List ℕ) where
     groups = group-none b s z (passed b xs z ok) k;
   }
 
-  pub list-follows : Bytes b → (s : List ℕ) (cs : List Call) (rs z : List ℕ) → Listed b xs s cs rs z → Follows b xs s cs rs z
+  pub list-follows : Bytes b → (s : List ℕ) (cs : List Call) (rs z : List ℕ) → ListMade b xs s cs rs z
+      → Follows b xs s cs rs z
   list-follows h s cs rs z x =
       let g = begun h (x .freshened) in
       let w = walked s (g .well-formed) (g .kept) (x .called) in
@@ -99,7 +100,7 @@ module _ (b xs : List ℕ) where
       }
 
   pub list-made : refusalUnder b xs ≡ 0 → (s : List ℕ) → 8 + 3 * nodeCount b ≤ length s → (cs : List Call)
-      → (rs : List ℕ) × (z : List ℕ) × Listed b xs s cs rs z
+      → (rs : List ℕ) × (z : List ℕ) × ListMade b xs s cs rs z
   list-made acc s l cs =
       let m = make cs (freshState b xs s) in (
         m .returns,
@@ -153,7 +154,7 @@ module _ (b xs : List ℕ) where
       }
 
   pub list-each : Bytes b → (s : List ℕ) (cs : List Call) (c : Call) (ds : List Call) (rs z : List ℕ)
-      → Listed b xs s (cs ++ (c ∷ ds)) rs z → EachCall b xs s cs c ds rs z
+      → ListMade b xs s (cs ++ (c ∷ ds)) rs z → EachCall b xs s cs c ds rs z
   list-each h s cs c ds rs z x =
       let p = parted (x .at-first) cs c ds rs z (x .called) in
       let g = begun h (x .freshened) in

@@ -24,7 +24,7 @@ use Rattle.run_monitor.specs.Status.{COMPLETE, Told}
 use Rattle.verdict.specs.declared.Answer.{Answer}
 use Rattle.verdict.specs.Verdict.{said, Assessed}
 use Rattle.run_calls.specs.Shown.{shownByte}
-use Rattle.run_calls.specs.Lists.{Calls, Listed}
+use Rattle.run_calls.specs.Lists.{Calls, ListMade}
 
 -- the numbers of a list are bytes
 abbrev pub Bytes : List ℕ → Type 0
@@ -58,7 +58,7 @@ pub record EachCall (b xs s : List ℕ) (cs : List Call) (c : Call) (ds : List C
   pub later : List ℕ
   pub left : List ℕ
   pub returns : rs ≡ earlier ++ (returned ∷ later)
-  pub up-to : Listed b xs s (cs ++ (c ∷ [])) (earlier ++ (returned ∷ [])) left
+  pub up-to : ListMade b xs s (cs ++ (c ∷ [])) (earlier ++ (returned ∷ [])) left
   pub rest : Calls b xs left ds later z
   -- the states before and after it
   pub before : World
@@ -70,17 +70,17 @@ pub record EachCall (b xs s : List ℕ) (cs : List Call) (c : Call) (ds : List C
 pub record Demand3Of (b xs : List ℕ) : Type 0 where
   -- every list of calls can be made, on any bytes that have room for a state, and the plan has an answer
   pub made : (s : List ℕ) → 8 + 3 * nodeCount b ≤ length s → (cs : List Call)
-      → (rs : List ℕ) × (z : List ℕ) × Listed b xs s cs rs z
+      → (rs : List ℕ) × (z : List ℕ) × ListMade b xs s cs rs z
   pub assessed : (r : Answer) × Assessed b xs r
   -- each call of a list returns what 01 works out from the plan and the calls up to it, and the bytes then show the
   -- states worked out there
   pub each : (s : List ℕ) (cs : List Call) (c : Call) (ds : List Call) (rs z : List ℕ)
-      → Listed b xs s (cs ++ (c ∷ ds)) rs z → EachCall b xs s cs c ds rs z
+      → ListMade b xs s (cs ++ (c ∷ ds)) rs z → EachCall b xs s cs c ds rs z
   -- and so for the list as a whole
-  pub follows : (s : List ℕ) (cs : List Call) (rs z : List ℕ) → Listed b xs s cs rs z → Follows b xs s cs rs z
+  pub follows : (s : List ℕ) (cs : List Call) (rs z : List ℕ) → ListMade b xs s cs rs z → Follows b xs s cs rs z
   -- the ordinals that the bytes then have (02: places) are the positions of the accepted starts of the list, from 1: a
   -- node has k + 1 exactly if its start is in their list after k others
-  pub ordinals : (s : List ℕ) (cs : List Call) (rs z : List ℕ) → Listed b xs s cs rs z → (n : ℕ) → n < nodeCount b
+  pub ordinals : (s : List ℕ) (cs : List Call) (rs z : List ℕ) → ListMade b xs s cs rs z → (n : ℕ) → n < nodeCount b
       → (k : ℕ) → (ordinalIn b z n ≡ suc k)
       ↔ ((k < length (acceptedStarts cs rs)) × (getD (acceptedStarts cs rs) k 0 ≡ n))
   -- what 01 works out is one: of one list of calls no other returns, no other states
@@ -88,28 +88,28 @@ pub record Demand3Of (b xs : List ℕ) : Type 0 where
       → Worked (planOf b) (planUnder b xs) (fresh (startOf b)) cs ns a
       → Worked (planOf b) (planUnder b xs) (fresh (startOf b)) cs ms c → (ns ≡ ms) × (a ≡ c)
   -- after every list `status` says COMPLETE exactly if the root is complete in the states worked out
-  pub complete : (s : List ℕ) (cs : List Call) (rs z : List ℕ) → Listed b xs s cs rs z → (t : Progress)
+  pub complete : (s : List ℕ) (cs : List Call) (rs z : List ℕ) → ListMade b xs s cs rs z → (t : Progress)
       → Told b xs z t → (a : World) → Worked (planOf b) (planUnder b xs) (fresh (startOf b)) cs rs a
-      → (status.said t ≡ inr COMPLETE) ↔ Complete (planUnder b xs) (a .status) 0
+      → (status.reported t ≡ inr COMPLETE) ↔ Complete (planUnder b xs) (a .status) 0
   -- the answer is the one that 01 defines
   pub answer : (r : Answer) → Assessed b xs r
       → (v : Verdict) × (said r ≡ inr v) × Judged (planUnder b xs) (startOf b) v
       × ((u : Verdict) → Judged (planUnder b xs) (startOf b) u → u ≡ v)
   -- it is CLEAR exactly if no call in any list returns 21, 22 or 26
   pub clear : (r : Answer) → Assessed b xs r
-      → (said r ≡ inr CLEAR) ↔ ((s : List ℕ) (cs : List Call) (rs z : List ℕ) → Listed b xs s cs rs z → (n : ℕ)
+      → (said r ≡ inr CLEAR) ↔ ((s : List ℕ) (cs : List Call) (rs z : List ℕ) → ListMade b xs s cs rs z → (n : ℕ)
       → Among n rs
       → (n ≢ 21) × (n ≢ 22) × (n ≢ 26))
   -- if it is not, some list of calls has such a return (02: "a book that is not CLEAR has one"), on any bytes that have
   -- room for a state
   pub violated : (r : Answer) → Assessed b xs r → said r ≢ inr CLEAR → (s : List ℕ) → 8 + 3 * nodeCount b ≤ length s
-      → (cs : List Call) × (rs : List ℕ) × (z : List ℕ) × Listed b xs s cs rs z × Violation rs
+      → (cs : List Call) × (rs : List ℕ) × (z : List ℕ) × ListMade b xs s cs rs z × Violation rs
   -- if it is DOOMED, the root is complete after no list: not in the states worked out, and `status` never says so
   pub doomed : (r : Answer) → Assessed b xs r → said r ≡ inr DOOMED
-      → (s : List ℕ) (cs : List Call) (rs z : List ℕ) → Listed b xs s cs rs z
+      → (s : List ℕ) (cs : List Call) (rs z : List ℕ) → ListMade b xs s cs rs z
       → ((a : World) → Worked (planOf b) (planUnder b xs) (fresh (startOf b)) cs rs a
       → ¬ Complete (planUnder b xs) (a .status) 0)
-      × ((t : Progress) → Told b xs z t → status.said t ≢ inr COMPLETE)
+      × ((t : Progress) → Told b xs z t → status.reported t ≢ inr COMPLETE)
 
 -- the whole claim: it holds of every accepted plan with every list of blocked nodes that passes 28 and 29, the empty one
 -- among them, which "is given to the answer, to fresh and to every keeper call alike" (02)

@@ -14,7 +14,7 @@ pub data Calls (b xs : List ℕ) : List ℕ → List Call → List ℕ → List 
       → Calls b xs s′ cs rs z → Calls b xs s (c ∷ cs) (r ∷ rs) z
 
 -- a list begins with the state that fresh wrote into the bytes s
-pub record Listed (b xs s : List ℕ) (cs : List Call) (rs : List ℕ) (z : List ℕ) : Type 0 where
+pub record ListMade (b xs s : List ℕ) (cs : List Call) (rs : List ℕ) (z : List ℕ) : Type 0 where
   pub at-first : List ℕ
   pub freshened : Freshened b xs s 0 at-first
   pub called : Calls b xs at-first cs rs z

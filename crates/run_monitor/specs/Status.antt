@@ -16,10 +16,10 @@ pub data Word : Type 0 where
   COMPLETE UNFINISHED : Word
 
 -- 01's number or word for each case
-abbrev pub said : Progress → ℕ ⊎ Word
-said (Refused n) = inl n
-said Complete = inr COMPLETE
-said Unfinished = inr UNFINISHED
+abbrev pub reported : Progress → ℕ ⊎ Word
+reported (Refused n) = inl n
+reported Complete = inr COMPLETE
+reported Unfinished = inr UNFINISHED
 
 abbrev pub wordFor : Bool → Word
 wordFor true = COMPLETE
@@ -31,6 +31,6 @@ statusAnswer b xs s = refusedOr (stateRefusalUnder b xs s) (wordFor (completeB (
 -- what `status` answers with the list xs of blocked nodes: COMPLETE exactly if the state passes the checks up to 16 and
 -- shows the root complete, of what is left of the plan
 pub record Told (b xs s : List ℕ) (r : Progress) : Type 0 where
-  pub returns : said r ≡ statusAnswer b xs s
-  pub complete : (said r ≡ inr COMPLETE)
+  pub returns : reported r ≡ statusAnswer b xs s
+  pub complete : (reported r ≡ inr COMPLETE)
       ↔ ((stateRefusalUnder b xs s ≡ 0) × execution.Complete (planUnder b xs) (statusIn b s) 0)

@@ -22,7 +22,7 @@ use Rattle.runs.proofs.Searches.{some-same}
 use Rattle.run_starts.specs.Starts.{nodeByte, strayOrdinal, misnumbered}
 use Rattle.run_starts.specs.Inner.{Fits}
 use Rattle.run_state.specs.State.{badAbsent, malformedUnder, roomRefusalUnder, stateRefusalUnder}
-use Rattle.run_state.specs.Inner.{badByteIn, badNodeIn, Checked}
+use Rattle.run_state.specs.Inner.{badByteIn, badNodeIn, StateChecked}
 use Rattle.run_state.specs.State.{tooShort, badFlag, badByte, badNode}
 
 -- what a call that passes 1 to 15 may rest on
@@ -44,8 +44,8 @@ turned false false true = refl
 turned false false false = refl
 
 module _ (b xs s : List ℕ) where
-  pub room-refused : {r : ℕ} {table : List ℕ} → blocked.Checked b xs r table → (r ≡ 0 → ⊥)
-      → Checked b xs (roomRefusalUnder b xs s) r table
+  pub room-refused : {r : ℕ} {table : List ℕ} → blocked.ListChecked b xs r table → (r ≡ 0 → ⊥)
+      → StateChecked b xs (roomRefusalUnder b xs s) r table
   unfolding roomRefusalUnder
   room-refused c n = record {
     returns = c .returns ∙ first-some (refusalUnder b xs) _ (λ z. n (c .returns ∙ z));
@@ -53,7 +53,7 @@ module _ (b xs s : List ℕ) where
   }
 
   pub room-short-under : {table : List ℕ} → refusalUnder b xs ≡ 0 → length s < 8 + 3 * nodeCount b
-      → Checked b xs (roomRefusalUnder b xs s) 15 table
+      → StateChecked b xs (roomRefusalUnder b xs s) 15 table
   unfolding roomRefusalUnder tooShort
   room-short-under e l = record { returns = simp (e, lt-ltb _ _ l); standing = λ z. absurd (omega arith) }
 
@@ -61,12 +61,12 @@ module _ (b xs s : List ℕ) where
   unfolding roomRefusalUnder tooShort
   room-enough e l = simp (e, le-ltb _ _ l)
 
-  pub room-long-under : {r : ℕ} {table : List ℕ} → blocked.Checked b xs r table → r ≡ 0
-      → 8 + 3 * nodeCount b ≤ length s → Checked b xs (roomRefusalUnder b xs s) 0 table
+  pub room-long-under : {r : ℕ} {table : List ℕ} → blocked.ListChecked b xs r table → r ≡ 0
+      → 8 + 3 * nodeCount b ≤ length s → StateChecked b xs (roomRefusalUnder b xs s) 0 table
   room-long-under c z l = record { returns = room-enough (sym (c .returns) ∙ z) l; standing = λ q. c .standing z }
 
-  pub state-refused : {r : ℕ} {table : List ℕ} → Checked b xs (roomRefusalUnder b xs s) r table → (r ≡ 0 → ⊥)
-      → Checked b xs (stateRefusalUnder b xs s) r table
+  pub state-refused : {r : ℕ} {table : List ℕ} → StateChecked b xs (roomRefusalUnder b xs s) r table → (r ≡ 0 → ⊥)
+      → StateChecked b xs (stateRefusalUnder b xs s) r table
   unfolding stateRefusalUnder
   state-refused c n = record {
     returns = c .returns ∙ first-some (roomRefusalUnder b xs s) _ (λ z. n (c .returns ∙ z));
@@ -74,12 +74,12 @@ module _ (b xs s : List ℕ) where
   }
 
   pub state-bad-under : {table : List ℕ} → roomRefusalUnder b xs s ≡ 0 → malformedUnder b xs s ≡ true
-      → Checked b xs (stateRefusalUnder b xs s) 16 table
+      → StateChecked b xs (stateRefusalUnder b xs s) 16 table
   unfolding stateRefusalUnder
   state-bad-under e m = record { returns = simp (e, m); standing = λ z. absurd (omega arith) }
 
-  pub state-good-under : {r : ℕ} {table : List ℕ} → Checked b xs (roomRefusalUnder b xs s) r table → r ≡ 0
-      → malformedUnder b xs s ≡ false → Checked b xs (stateRefusalUnder b xs s) 0 table
+  pub state-good-under : {r : ℕ} {table : List ℕ} → StateChecked b xs (roomRefusalUnder b xs s) r table → r ≡ 0
+      → malformedUnder b xs s ≡ false → StateChecked b xs (stateRefusalUnder b xs s) 0 table
   unfolding stateRefusalUnder
   state-good-under c z m = let e = sym (c .returns) ∙ z in
       record { returns = simp (e, m); standing = λ q. c .standing z }

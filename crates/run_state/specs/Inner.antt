@@ -29,6 +29,6 @@ unfoldable pub badNodeIn : List ℕ → List ℕ → List ℕ → ℕ → Bool
 badNodeIn b table s n = badByteIn b table s n || strayOrdinal b s n
 
 -- what a check leaves: the refusal, and the table once nothing is refused
-pub record Checked (b xs : List ℕ) (q r : ℕ) (table : List ℕ) : Type 0 where
+pub record StateChecked (b xs : List ℕ) (q r : ℕ) (table : List ℕ) : Type 0 where
   pub returns : r ≡ q
   pub standing : r ≡ 0 → Standing b (listed xs) table

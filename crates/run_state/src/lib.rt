@@ -19,7 +19,7 @@ ghost use Rattle.runs.specs.Tests.{anyBelow};
 ghost use Rattle.run_starts.specs.Inner.{Fits};
 ghost use Rattle.node_sets.specs.Sets.{AllMarked};
 ghost use Rattle.run_state.specs.State.{badFlag, roomRefusalUnder, stateRefusalUnder};
-ghost use Rattle.run_state.specs.Inner.{badByteIn, badNodeIn, Checked};
+ghost use Rattle.run_state.specs.Inner.{badByteIn, badNodeIn, StateChecked};
 ghost use Rattle.run_state.specs.Fresh.{freshByte, Freshened};
 
 // A bit for a flag of number v or higher.
@@ -84,7 +84,7 @@ fn nodes_bad(plan: &[u8], state: &[u8], standing: &[u8; 128]) -> bool
 // Refusals 1 to 14, 28, 29 and 15, or 0, and then of the marks those of the nodes that stand.
 fn check_room(plan: &[u8], blocked: &[usize], state: &[u8], standing: &mut [u8; 128]) -> u32
     requires { ⌜ AllMarked (now standing) ⌝ }
-    ensures { λ r. ⌜ Checked (now (plan .entry)) (now (blocked .entry))
+    ensures { λ r. ⌜ StateChecked (now (plan .entry)) (now (blocked .entry))
         (roomRefusalUnder (now (plan .entry)) (now (blocked .entry)) (now (state .entry))) r (now (standing .exit)) ⌝ }
 {
     let r = check_blocked(plan, blocked, standing);
@@ -100,7 +100,7 @@ fn check_room(plan: &[u8], blocked: &[usize], state: &[u8], standing: &mut [u8; 
 // Refusals up to 16, or 0, and then of the marks those of the nodes that stand.
 pub fn check_state(plan: &[u8], blocked: &[usize], state: &[u8], standing: &mut [u8; 128]) -> u32
     requires { ⌜ AllMarked (now standing) ⌝ }
-    ensures { λ r. ⌜ Checked (now (plan .entry)) (now (blocked .entry))
+    ensures { λ r. ⌜ StateChecked (now (plan .entry)) (now (blocked .entry))
         (stateRefusalUnder (now (plan .entry)) (now (blocked .entry)) (now (state .entry))) r (now (standing .exit)) ⌝ }
 {
     let r = check_room(plan, blocked, state, standing);

@@ -20,7 +20,7 @@ use Rattle.run_state.proofs.Left.{fresh-refused}
 use Rattle.run_monitor.specs.Status.{Word, COMPLETE, UNFINISHED, wordFor, statusAnswer}
 use Rattle.run_monitor.proofs.Equations.{refused-16}
 use Rattle.run_trials.specs.Written.{bytesOf}
-use Rattle.run_trials.specs.Checked.{Checked, Refuses, Passes, CheckOf, AllChecked, Worded, AllWorded}
+use Rattle.run_trials.specs.Checked.{StateRow, AllRefuse, AllPass, CheckOf, AllChecked, Worded, AllWorded}
 use Rattle.run_trials.specs.Checked.{Listing, RefusesAll, AllRefused}
 
 -- 15 comes from the check of the room
@@ -36,7 +36,7 @@ no-room b xs s e =
     only-16 true q = omega (arith, q)
     only-16 false q = omega (arith, q)
 
-refuses : (b xs s : List ℕ) (r : ℕ) → stateRefusalUnder b xs s ≡ r → r ≢ 0 → Refuses b xs s r
+refuses : (b xs s : List ℕ) (r : ℕ) → stateRefusalUnder b xs s ≡ r → r ≢ 0 → AllRefuse b xs s r
 unfolding statusAnswer
 refuses b xs s r e n =
     let k : stateRefusalUnder b xs s ≡ 0 → ⊥ = λ z. n (sym e ∙ z) in
@@ -50,7 +50,7 @@ refuses b xs s r e n =
       );
     }
 
-passes : (b xs s : List ℕ) → stateRefusalUnder b xs s ≡ 0 → Passes b xs s
+passes : (b xs s : List ℕ) → stateRefusalUnder b xs s ≡ 0 → AllPass b xs s
 unfolding statusAnswer
 passes b xs s e = record {
   status = λ p t. (wordFor (completeB (planUnder b xs) (statusIn b s) 0), t .returns ∙ rw e);
@@ -61,11 +61,11 @@ check-of : (b xs s : List ℕ) (r : ℕ) → stateRefusalUnder b xs s ≡ r → 
 check-of b xs s zero e = passes b xs s e
 check-of b xs s (suc r) e = refuses b xs s (suc r) e (λ q. omega arith)
 
-unfoldable pub allCheckedB : List Checked → Bool
+unfoldable pub allCheckedB : List StateRow → Bool
 allCheckedB [] = true
 allCheckedB (c ∷ l) = both (eqb (stateRefusalUnder (bytesOf (c .plan)) (c .blocked) (c .state)) (c .refusal)) (λ u. allCheckedB l)
 
-pub all-checked : (l : List Checked) → T (allCheckedB l) → AllChecked l
+pub all-checked : (l : List StateRow) → T (allCheckedB l) → AllChecked l
 unfolding allCheckedB
 all-checked [] x = tt
 all-checked (c ∷ l) x =

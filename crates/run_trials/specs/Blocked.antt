@@ -7,11 +7,12 @@ use Rattle.runs.specs.Summary.{may-pre, may-post, must-post}
 use Rattle.runs.specs.Verdict.{CLEAR, DOOMED}
 use Rattle.runs.specs.Calls.{together, no-task, wrong-status, branch-begun, order-open, pre-unmet, number}
 use Rattle.run_monitor.specs.Status.{Word, COMPLETE, UNFINISHED}
-use Rattle.run_trials.specs.Written.{Written}
+use Rattle.run_trials.specs.Written.{PlanPieces}
 use Rattle.run_trials.specs.Trial.{Trial, shown, stateBytes}
-use Rattle.run_trials.specs.Checked.{Checked, Worded, Listing}
-use Rattle.run_trials.specs.Terms.{off, on, none-set, only, two-set, begin, end, drop, ok, trial-without, waits}
-use Rattle.run_trials.specs.Terms.{none}
+use Rattle.run_trials.specs.Checked.{StateRow, Worded, Listing}
+use Rattle.run_trials.specs.Terms.{off, on, none-set, one-set, two-set, begin, end, omit, ok, trial-without}
+use Rattle.run_trials.specs.Terms.{waits}
+use Rattle.run_trials.specs.Terms.{unstarted}
 use Rattle.run_trials.specs.Starred.{picked}
 use Rattle.run_trials.specs.Requested.{lowr, cali, tone, ping, dive, nested}
 
@@ -28,20 +29,20 @@ of-branches =
     -- without the other branch: DOOMED
     ∷ trial-without picked (3 ∷ []) DOOMED [] (begin 1 ∷ end 1 ∷ begin 3 ∷ begin 4 ∷ end 4 ∷ begin 5 ∷ [])
     (ok ∷ ok ∷ number branch-begun ∷ ok ∷ ok ∷ number pre-unmet ∷ [])
-    (stateBytes (only 0) (waiting ∷ done ∷ waiting ∷ waiting ∷ done ∷ waiting ∷ []) (0 ∷ 1 ∷ 0 ∷ 0 ∷ 2 ∷ 0 ∷ []))
+    (stateBytes (one-set 0) (waiting ∷ done ∷ waiting ∷ waiting ∷ done ∷ waiting ∷ []) (0 ∷ 1 ∷ 0 ∷ 0 ∷ 2 ∷ 0 ∷ []))
     -- an optional group without its branches is complete only by a skip
     ∷ trial-without dive (tone ∷ 4 ∷ []) CLEAR []
-    (begin lowr ∷ end lowr ∷ begin tone ∷ begin 4 ∷ begin ping ∷ drop cali ∷ begin ping ∷ [])
+    (begin lowr ∷ end lowr ∷ begin tone ∷ begin 4 ∷ begin ping ∷ omit cali ∷ begin ping ∷ [])
     (ok ∷ ok ∷ number branch-begun ∷ number branch-begun ∷ number order-open ∷ ok ∷ ok ∷ [])
     (stateBytes two-set (waiting ∷ done ∷ done ∷ waiting ∷ waiting ∷ running ∷ []) (0 ∷ 1 ∷ 0 ∷ 0 ∷ 0 ∷ 2 ∷ []))
     -- a blocked optional group is not skipped, and the task under it not started; a blocked node below a blocked one
     -- changes nothing
     ∷ trial-without (nested any-of optional) (2 ∷ []) CLEAR []
-    (drop 2 ∷ begin 3 ∷ end 3 ∷ begin 2 ∷ begin 1 ∷ [])
+    (omit 2 ∷ begin 3 ∷ end 3 ∷ begin 2 ∷ begin 1 ∷ [])
     (number branch-begun ∷ number branch-begun ∷ number wrong-status ∷ number no-task ∷ ok ∷ [])
     (stateBytes none-set (waiting ∷ running ∷ waits 2) (0 ∷ 1 ∷ 0 ∷ 0 ∷ []))
     ∷ trial-without (nested any-of optional) (2 ∷ 3 ∷ []) CLEAR []
-    (drop 2 ∷ begin 3 ∷ end 3 ∷ begin 2 ∷ begin 1 ∷ [])
+    (omit 2 ∷ begin 3 ∷ end 3 ∷ begin 2 ∷ begin 1 ∷ [])
     (number branch-begun ∷ number branch-begun ∷ number wrong-status ∷ number no-task ∷ ok ∷ [])
     (stateBytes none-set (waiting ∷ running ∷ waits 2) (0 ∷ 1 ∷ 0 ∷ 0 ∷ []))
     -- 29 does not ask a group that is blocked
@@ -51,7 +52,7 @@ of-branches =
     ∷ []
 
 -- 28 and 29
-abbrev refused : Written → List ℕ → ℕ → Listing
+abbrev refused : PlanPieces → List ℕ → ℕ → Listing
 refused w xs r = record { plan = w; blocked = xs; refusal = r }
 
 abbrev pub of-lists : List Listing
@@ -75,7 +76,7 @@ of-lists =
     ∷ []
 
 -- 16 on states of the choice: x is the byte of the branch without conditions, k its place
-abbrev left : List ℕ → Status → ℕ → ℕ → Checked
+abbrev left : List ℕ → Status → ℕ → ℕ → StateRow
 left xs x k r = record {
   plan = picked;
   blocked = xs;
@@ -83,7 +84,7 @@ left xs x k r = record {
   refusal = r;
 }
 
-abbrev pub of-absent : List Checked
+abbrev pub of-absent : List StateRow
 of-absent =
     left [] running 2 0
     ∷ left (4 ∷ []) running 2 16
@@ -97,13 +98,13 @@ of-absent =
     ∷ []
 
 -- whether the root is complete
-abbrev root-says : Written → List ℕ → List Status → List ℕ → Word → Worded
+abbrev root-says : PlanPieces → List ℕ → List Status → List ℕ → Word → Worded
 root-says w xs l os v = record { plan = w; blocked = xs; state = stateBytes none-set l os; word = v }
 
 abbrev pub of-roots : List Worded
 of-roots =
-    root-says (nested optional any-of) (1 ∷ 2 ∷ []) (waits 4) (none 4) UNFINISHED
-    ∷ root-says (nested optional any-of) (1 ∷ 2 ∷ []) (done ∷ waits 3) (none 4) COMPLETE
+    root-says (nested optional any-of) (1 ∷ 2 ∷ []) (waits 4) (unstarted 4) UNFINISHED
+    ∷ root-says (nested optional any-of) (1 ∷ 2 ∷ []) (done ∷ waits 3) (unstarted 4) COMPLETE
     ∷ root-says (nested any-of optional) (2 ∷ []) (waiting ∷ done ∷ waits 2) (0 ∷ 1 ∷ 0 ∷ 0 ∷ []) COMPLETE
-    ∷ root-says (nested any-of optional) (1 ∷ []) (waiting ∷ waiting ∷ done ∷ waiting ∷ []) (none 4) COMPLETE
+    ∷ root-says (nested any-of optional) (1 ∷ []) (waiting ∷ waiting ∷ done ∷ waiting ∷ []) (unstarted 4) COMPLETE
     ∷ []

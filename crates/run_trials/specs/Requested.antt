@@ -8,35 +8,35 @@ use Rattle.runs.specs.Summary.{may-pre, may-inc, may-clobber}
 use Rattle.runs.specs.Verdict.{CLEAR, OPEN}
 use Rattle.runs.specs.Calls.{together, no-task, wrong-status, branch-begun, order-open, pre-unmet, inc-broken}
 use Rattle.runs.specs.Calls.{no-optional, not-rising, post-opposed, number}
-use Rattle.run_trials.specs.Written.{Order, then, Written, eight, twos}
+use Rattle.run_trials.specs.Written.{Order, then, PlanPieces, eight, twos}
 use Rattle.run_trials.specs.Trial.{Trial, shown, stateBytes}
 use Rattle.run_monitor.specs.Status.{Word, COMPLETE, UNFINISHED}
-use Rattle.run_trials.specs.Checked.{Checked, Worded}
+use Rattle.run_trials.specs.Checked.{StateRow, Worded}
 use Rattle.run_trials.specs.Terms.{name, short, off, on, needs, holds, leaves, group, root, work, none-set}
-use Rattle.run_trials.specs.Terms.{only, two-set, begin, end, drop, ok, under-root, a-task, z-task, trial}
-use Rattle.run_trials.specs.Terms.{waits, none, A, C, D, E, G, I, K, L, N, O, P, Q, R, T, U, W, Z}
+use Rattle.run_trials.specs.Terms.{one-set, two-set, begin, end, omit, ok, under-root, a-task, z-task, trial}
+use Rattle.run_trials.specs.Terms.{waits, unstarted, A, C, D, E, G, I, K, L, N, O, P, Q, R, Tee, U, W, Z}
 use Rattle.run_trials.specs.Starred.{cast, coms, radi, satl, B, in-order, holder}
 
 -- ---- 02's order of starts: the starts that are accepted take the places 1, 2, ..; refused ones and finishes take none
 abbrev pub of-starts : List Trial
 of-starts =
     trial (B none-set in-order) CLEAR [] (begin cast ∷ end cast ∷ begin satl ∷ []) (ok ∷ ok ∷ ok ∷ [])
-    (stateBytes (only 1) (waiting ∷ done ∷ waiting ∷ waiting ∷ running ∷ []) (0 ∷ 1 ∷ 0 ∷ 0 ∷ 2 ∷ []))
+    (stateBytes (one-set 1) (waiting ∷ done ∷ waiting ∷ waiting ∷ running ∷ []) (0 ∷ 1 ∷ 0 ∷ 0 ∷ 2 ∷ []))
     ∷ trial (B none-set in-order) CLEAR [] (begin radi ∷ begin coms ∷ begin cast ∷ end cast ∷ begin radi ∷ [])
     (number order-open ∷ number no-task ∷ ok ∷ ok ∷ ok ∷ [])
-    (stateBytes (only 1) (waiting ∷ done ∷ waiting ∷ running ∷ waiting ∷ []) (0 ∷ 1 ∷ 0 ∷ 2 ∷ 0 ∷ []))
+    (stateBytes (one-set 1) (waiting ∷ done ∷ waiting ∷ running ∷ waiting ∷ []) (0 ∷ 1 ∷ 0 ∷ 2 ∷ 0 ∷ []))
     ∷ trial holder OPEN [] (begin 2 ∷ begin 1 ∷ end 1 ∷ end 2 ∷ []) (ok ∷ ok ∷ ok ∷ ok ∷ [])
     (stateBytes none-set (waiting ∷ done ∷ done ∷ []) (0 ∷ 2 ∷ 1 ∷ []))
     ∷ []
 
 -- and 16 and 15 on a state of B
 abbrev begun : List ℕ → List ℕ
-begun os = stateBytes (only 1) (waiting ∷ done ∷ waiting ∷ waiting ∷ running ∷ []) os
+begun os = stateBytes (one-set 1) (waiting ∷ done ∷ waiting ∷ waiting ∷ running ∷ []) os
 
-abbrev row : List ℕ → ℕ → Checked
+abbrev row : List ℕ → ℕ → StateRow
 row s r = record { plan = B none-set in-order; blocked = []; state = s; refusal = r }
 
-abbrev pub of-places : List Checked
+abbrev pub of-places : List StateRow
 of-places =
     -- as the calls leave it, and as no list of calls can
     row (begun (0 ∷ 1 ∷ 0 ∷ 0 ∷ 2 ∷ [])) 0
@@ -73,14 +73,14 @@ tone = 3
 abbrev pub ping : ℕ
 ping = 5
 
-abbrev pub dive : Written
+abbrev pub dive : PlanPieces
 dive = record {
   flags = 2;
   start = none-set;
   entries = root (name D O W N)
       ∷ work 0 (name L O W R) 8 (needs 0 off ∷ leaves 0 on ∷ [])
       ∷ group optional 0 (name C A L I)
-      ∷ work cali (name T O N E) 15 (needs 0 on ∷ holds 1 on ∷ leaves 1 off ∷ [])
+      ∷ work cali (name Tee O N E) 15 (needs 0 on ∷ holds 1 on ∷ leaves 1 off ∷ [])
       ∷ work cali (name Q U I K) 4 (needs 0 on ∷ holds 1 on ∷ leaves 1 off ∷ [])
       ∷ work 0 (name P I N G) 40 (needs 1 off ∷ needs 0 on ∷ holds 1 on ∷ leaves 1 off ∷ [])
       ∷ [];
@@ -88,16 +88,17 @@ dive = record {
 }
 
 -- a group of kind k with a task A and, of kind j, a group of a task C
-abbrev pub nested : Kind → Kind → Written
+abbrev pub nested : Kind → Kind → PlanPieces
 nested k j = record {
   flags = 1;
   start = none-set;
-  entries = group k 255 (name R O O T) ∷ work 0 (short A) 2 [] ∷ group j 0 (name P I C K) ∷ work 2 (short C) 3 [] ∷ [];
+  entries = group k 255 (name R O O Tee) ∷ work 0 (short A) 2 [] ∷ group j 0 (name P I C K) ∷ work 2 (short C) 3 []
+      ∷ [];
   orders = [];
 }
 
 -- the twins, A before Z, with Z in an optional group
-abbrev twin-dropped : Written
+abbrev twin-dropped : PlanPieces
 twin-dropped = under-root (a-task (needs 0 off ∷ leaves 0 on ∷ []) ∷ group optional 0 (name P I C K) ∷ work 2
     (short Z) 5 (needs 0 off ∷ leaves 0 on ∷ []) ∷ []) (then 1 2 ∷ [])
 
@@ -105,82 +106,82 @@ abbrev pub of-skips : List Trial
 of-skips =
     -- ordered after LOWR; skipped, then neither begun nor skipped again, and PING may start
     trial dive CLEAR (shown cali 0 on may-pre ∷ shown cali 1 on may-inc ∷ [])
-    (drop cali ∷ begin lowr ∷ end lowr ∷ begin ping ∷ drop cali ∷ begin tone ∷ drop cali ∷ begin ping ∷ [])
+    (omit cali ∷ begin lowr ∷ end lowr ∷ begin ping ∷ omit cali ∷ begin tone ∷ omit cali ∷ begin ping ∷ [])
     (number order-open ∷ ok ∷ ok ∷ number order-open ∷ ok ∷ number branch-begun ∷ number wrong-status ∷ ok ∷ [])
     (stateBytes two-set (waiting ∷ done ∷ done ∷ waiting ∷ waiting ∷ running ∷ []) (0 ∷ 1 ∷ 0 ∷ 0 ∷ 0 ∷ 2 ∷ []))
     -- not skipped once a branch is begun
-    ∷ trial dive CLEAR [] (begin lowr ∷ end lowr ∷ begin tone ∷ drop cali ∷ end tone ∷ drop cali ∷ begin ping ∷ [])
+    ∷ trial dive CLEAR [] (begin lowr ∷ end lowr ∷ begin tone ∷ omit cali ∷ end tone ∷ omit cali ∷ begin ping ∷ [])
     (ok ∷ ok ∷ ok ∷ number wrong-status ∷ ok ∷ number wrong-status ∷ ok ∷ [])
     (stateBytes two-set (waiting ∷ done ∷ waiting ∷ done ∷ waiting ∷ running ∷ []) (0 ∷ 1 ∷ 0 ∷ 2 ∷ 0 ∷ 3 ∷ []))
     -- 27, and 17 for a start and a finish of the group
-    ∷ trial dive CLEAR [] (drop tone ∷ drop 0 ∷ drop 6 ∷ drop 256 ∷ begin cali ∷ end cali ∷ [])
+    ∷ trial dive CLEAR [] (omit tone ∷ omit 0 ∷ omit 6 ∷ omit 256 ∷ begin cali ∷ end cali ∷ [])
     (number no-optional ∷ number no-optional ∷ number no-optional ∷ number no-optional ∷ number no-task ∷ number no-task
     ∷ [])
-    (stateBytes none-set (waits 6) (none 6))
+    (stateBytes none-set (waits 6) (unstarted 6))
     -- a choice of a task and an optional group
-    ∷ trial (nested any-of optional) CLEAR [] (drop 2 ∷ begin 1 ∷ begin 3 ∷ [])
+    ∷ trial (nested any-of optional) CLEAR [] (omit 2 ∷ begin 1 ∷ begin 3 ∷ [])
     (ok ∷ number branch-begun ∷ number branch-begun ∷ [])
-    (stateBytes none-set (waiting ∷ waiting ∷ done ∷ waiting ∷ []) (none 4))
-    ∷ trial (nested any-of optional) CLEAR [] (begin 1 ∷ drop 2 ∷ drop 0 ∷ [])
+    (stateBytes none-set (waiting ∷ waiting ∷ done ∷ waiting ∷ []) (unstarted 4))
+    ∷ trial (nested any-of optional) CLEAR [] (begin 1 ∷ omit 2 ∷ omit 0 ∷ [])
     (ok ∷ number branch-begun ∷ number no-optional ∷ [])
     (stateBytes none-set (waiting ∷ running ∷ waiting ∷ waiting ∷ []) (0 ∷ 1 ∷ 0 ∷ 0 ∷ []))
     -- an optional root
-    ∷ trial (nested optional any-of) CLEAR [] (drop 0 ∷ begin 1 ∷ begin 3 ∷ drop 0 ∷ drop 2 ∷ [])
+    ∷ trial (nested optional any-of) CLEAR [] (omit 0 ∷ begin 1 ∷ begin 3 ∷ omit 0 ∷ omit 2 ∷ [])
     (ok ∷ number branch-begun ∷ number branch-begun ∷ number wrong-status ∷ number no-optional ∷ [])
-    (stateBytes none-set (done ∷ waits 3) (none 4))
+    (stateBytes none-set (done ∷ waits 3) (unstarted 4))
     -- an optional group in another: the inner skip is a branch of the outer, and the outer skip ends both
-    ∷ trial (nested optional optional) CLEAR [] (drop 2 ∷ drop 0 ∷ begin 1 ∷ begin 3 ∷ drop 2 ∷ [])
+    ∷ trial (nested optional optional) CLEAR [] (omit 2 ∷ omit 0 ∷ begin 1 ∷ begin 3 ∷ omit 2 ∷ [])
     (ok ∷ number wrong-status ∷ number branch-begun ∷ number branch-begun ∷ number wrong-status ∷ [])
-    (stateBytes none-set (waiting ∷ waiting ∷ done ∷ waiting ∷ []) (none 4))
-    ∷ trial (nested optional optional) CLEAR [] (drop 0 ∷ drop 2 ∷ begin 3 ∷ [])
+    (stateBytes none-set (waiting ∷ waiting ∷ done ∷ waiting ∷ []) (unstarted 4))
+    ∷ trial (nested optional optional) CLEAR [] (omit 0 ∷ omit 2 ∷ begin 3 ∷ [])
     (ok ∷ number branch-begun ∷ number branch-begun ∷ [])
-    (stateBytes none-set (done ∷ waits 3) (none 4))
+    (stateBytes none-set (done ∷ waits 3) (unstarted 4))
     -- DOOMED with the second twin, OPEN where it can be dropped
     ∷ trial twin-dropped OPEN (shown 0 0 off may-clobber ∷ shown 2 0 off may-pre ∷ [])
-    (begin 1 ∷ end 1 ∷ begin 3 ∷ drop 2 ∷ []) (ok ∷ ok ∷ number pre-unmet ∷ ok ∷ [])
-    (stateBytes (only 0) (waiting ∷ done ∷ done ∷ waiting ∷ []) (0 ∷ 1 ∷ 0 ∷ 0 ∷ []))
+    (begin 1 ∷ end 1 ∷ begin 3 ∷ omit 2 ∷ []) (ok ∷ ok ∷ number pre-unmet ∷ ok ∷ [])
+    (stateBytes (one-set 0) (waiting ∷ done ∷ done ∷ waiting ∷ []) (0 ∷ 1 ∷ 0 ∷ 0 ∷ []))
     ∷ []
 
 -- 16 on states of the dive after LOWR: x is the byte of the calibration, y that of the root, k the place of the
 -- calibration
-abbrev dived : ℕ → ℕ → ℕ → ℕ → Checked
+abbrev dived : ℕ → ℕ → ℕ → ℕ → StateRow
 dived x y k r = record {
   plan = dive;
   blocked = [];
-  state = eight (only 0) ++ (y ∷ 2 ∷ x ∷ 0 ∷ 0 ∷ 0 ∷ []) ++ twos (0 ∷ 1 ∷ k ∷ 0 ∷ 0 ∷ 0 ∷ []);
+  state = eight (one-set 0) ++ (y ∷ 2 ∷ x ∷ 0 ∷ 0 ∷ 0 ∷ []) ++ twos (0 ∷ 1 ∷ k ∷ 0 ∷ 0 ∷ 0 ∷ []);
   refusal = r;
 }
 
-abbrev pub of-groups : List Checked
+abbrev pub of-groups : List StateRow
 of-groups = dived 0 0 0 0 ∷ dived 2 0 0 0 ∷ dived 1 0 0 16 ∷ dived 3 0 0 16 ∷ dived 0 2 0 16 ∷ dived 2 0 2 16 ∷ []
 
 -- whether the root is complete
-abbrev root-says : Written → List Status → List ℕ → Word → Worded
+abbrev root-says : PlanPieces → List Status → List ℕ → Word → Worded
 root-says w l os v = record { plan = w; blocked = []; state = stateBytes none-set l os; word = v }
 
 abbrev pub of-words : List Worded
 of-words =
-    root-says (nested optional any-of) (done ∷ waits 3) (none 4) COMPLETE
-    ∷ root-says (nested optional any-of) (waits 4) (none 4) UNFINISHED
+    root-says (nested optional any-of) (done ∷ waits 3) (unstarted 4) COMPLETE
+    ∷ root-says (nested optional any-of) (waits 4) (unstarted 4) UNFINISHED
     ∷ root-says (nested optional any-of) (waiting ∷ done ∷ waits 2) (0 ∷ 1 ∷ 0 ∷ 0 ∷ []) COMPLETE
-    ∷ root-says (nested optional optional) (waiting ∷ waiting ∷ done ∷ waiting ∷ []) (none 4) COMPLETE
-    ∷ root-says (nested any-of optional) (waiting ∷ waiting ∷ done ∷ waiting ∷ []) (none 4) COMPLETE
+    ∷ root-says (nested optional optional) (waiting ∷ waiting ∷ done ∷ waiting ∷ []) (unstarted 4) COMPLETE
+    ∷ root-says (nested any-of optional) (waiting ∷ waiting ∷ done ∷ waiting ∷ []) (unstarted 4) COMPLETE
     ∷ root-says (nested all-of optional) (waiting ∷ done ∷ waits 2) (0 ∷ 1 ∷ 0 ∷ 0 ∷ []) UNFINISHED
     ∷ root-says (nested all-of optional) (waiting ∷ done ∷ done ∷ waiting ∷ []) (0 ∷ 1 ∷ 0 ∷ 0 ∷ []) COMPLETE
     ∷ []
 
 -- ---- 02's finishes in one step
 -- A leaves flag 0 set, Z leaves it clear
-abbrev opposed : List Order → Written
+abbrev opposed : List Order → PlanPieces
 opposed os = under-root (a-task (leaves 0 on ∷ []) ∷ z-task (leaves 0 off ∷ []) ∷ []) os
 
 -- and C holds it set
-abbrev opposed-held : Written
+abbrev opposed-held : PlanPieces
 opposed-held = under-root (a-task (leaves 0 on ∷ []) ∷ work 0 (short C) 3 (holds 0 on ∷ leaves 0 on ∷ []) ∷ z-task
     (leaves 0 off ∷ []) ∷ []) []
 
 -- A holds flag 0 set and leaves it clear, Z too, and needs it set
-abbrev joint : Written
+abbrev joint : PlanPieces
 joint = under-root (a-task (holds 0 on ∷ leaves 0 off ∷ []) ∷ z-task
     (needs 0 on ∷ holds 0 on ∷ leaves 0 off ∷ []) ∷ []) []
 
@@ -191,7 +192,7 @@ of-finishes =
     (begin 1 ∷ begin 2 ∷ together (1 ∷ 2 ∷ []) ∷ together (1 ∷ []) ∷ together (2 ∷ []) ∷ [])
     (ok ∷ ok ∷ number post-opposed ∷ ok ∷ ok ∷ [])
     (stateBytes none-set (waiting ∷ done ∷ done ∷ []) (0 ∷ 1 ∷ 2 ∷ []))
-    ∷ trial (opposed (then 1 2 ∷ [])) CLEAR [] [] [] (stateBytes none-set (waits 3) (none 3))
+    ∷ trial (opposed (then 1 2 ∷ [])) CLEAR [] [] [] (stateBytes none-set (waits 3) (unstarted 3))
     -- holds of the listed tasks are not tried, those of another are
     ∷ trial holder OPEN [] (begin 1 ∷ begin 2 ∷ together (2 ∷ []) ∷ together (1 ∷ 2 ∷ []) ∷ [])
     (ok ∷ ok ∷ number inc-broken ∷ ok ∷ [])

@@ -10,12 +10,12 @@ use Rattle.plan_codes.specs.Values.{valueOf}
 use Rattle.runs.specs.Execution.{Status, waiting, start, finish, skip}
 use Rattle.runs.specs.Verdict.{Verdict}
 use Rattle.runs.specs.Calls.{Call, one}
-use Rattle.run_trials.specs.Written.{Entry, Order, Written}
+use Rattle.run_trials.specs.Written.{Entry, Order, PlanPieces}
 use Rattle.run_trials.specs.Trial.{Trial, Shown}
 
 -- ---- names
 pub data Letter : Type 0 where
-  A C D E G I K L M N O P Q R S T U W Z dash : Letter
+  A C D E G I K L M N O P Q R S Tee U W Z dash : Letter
 
 abbrev pub ascii : Letter → ℕ
 ascii A = 65
@@ -33,7 +33,7 @@ ascii P = 80
 ascii Q = 81
 ascii R = 82
 ascii S = 83
-ascii T = 84
+ascii Tee = 84
 ascii U = 85
 ascii W = 87
 ascii Z = 90
@@ -52,17 +52,17 @@ off = false
 abbrev pub on : Bool
 on = true
 
-abbrev pub condition : Place → ℕ → Bool → ℕ
-condition k f v = valueOf f (signNumber v) (placeNumber k)
+abbrev pub valueFor : Place → ℕ → Bool → ℕ
+valueFor k f v = valueOf f (signNumber v) (placeNumber k)
 
 abbrev pub needs : ℕ → Bool → ℕ
-needs f v = condition pre f v
+needs f v = valueFor pre f v
 
 abbrev pub holds : ℕ → Bool → ℕ
-holds f v = condition inc f v
+holds f v = valueFor inc f v
 
 abbrev pub leaves : ℕ → Bool → ℕ
-leaves f v = condition post f v
+leaves f v = valueFor post f v
 
 -- ---- nodes: a group under node u; the root, which is all-of; a choice under the root; a task under node u
 abbrev pub group : Kind → ℕ → List ℕ → Entry
@@ -81,8 +81,8 @@ work u n m l = record { name = n; kind = task; parent = u; minutes = m; values =
 abbrev pub none-set : ℕ → Bool
 none-set f = false
 
-abbrev pub only : ℕ → ℕ → Bool
-only g f = eqb f g
+abbrev pub one-set : ℕ → ℕ → Bool
+one-set g f = eqb f g
 
 abbrev pub two-set : ℕ → Bool
 two-set f = ltb f 2
@@ -94,15 +94,15 @@ begin t = one (start t)
 abbrev pub end : ℕ → Call
 end t = one (finish t)
 
-abbrev pub drop : ℕ → Call
-drop g = one (skip g)
+abbrev pub omit : ℕ → Call
+omit g = one (skip g)
 
 abbrev pub ok : ℕ
 ok = 0
 
 -- ---- under an all-of root: A; Z, the last
-abbrev pub under-root : List Entry → List Order → Written
-under-root l os = record { flags = 1; start = none-set; entries = root (name R O O T) ∷ l; orders = os }
+abbrev pub under-root : List Entry → List Order → PlanPieces
+under-root l os = record { flags = 1; start = none-set; entries = root (name R O O Tee) ∷ l; orders = os }
 
 abbrev pub a-task : List ℕ → Entry
 a-task l = work 0 (short A) 2 l
@@ -111,17 +111,17 @@ abbrev pub z-task : List ℕ → Entry
 z-task l = work 0 (short Z) 5 l
 
 -- ---- rows: plan, list of blocked nodes, verdict, marks, calls, what they return, the state after them
-abbrev pub trial-without : Written → List ℕ → Verdict → List Shown → List Call → List ℕ → List ℕ → Trial
+abbrev pub trial-without : PlanPieces → List ℕ → Verdict → List Shown → List Call → List ℕ → List ℕ → Trial
 trial-without w xs v ms cs rs l =
     record { plan = w; blocked = xs; verdict = v; marks = ms; calls = cs; returned = rs; left = l }
 
 -- with nothing blocked
-abbrev pub trial : Written → Verdict → List Shown → List Call → List ℕ → List ℕ → Trial
+abbrev pub trial : PlanPieces → Verdict → List Shown → List Call → List ℕ → List ℕ → Trial
 trial w v ms cs rs l = trial-without w [] v ms cs rs l
 
 -- all tasks wait; none has been started
 abbrev pub waits : ℕ → List Status
 waits n = replicate n waiting
 
-abbrev pub none : ℕ → List ℕ
-none n = replicate n 0
+abbrev pub unstarted : ℕ → List ℕ
+unstarted n = replicate n 0

@@ -16,11 +16,11 @@ use Rattle.runs.specs.Execution.{Status}
 use Rattle.runs.specs.Summary.{Mark, byteOf}
 use Rattle.runs.specs.Verdict.{Verdict}
 use Rattle.runs.specs.Calls.{Call, statusByte}
-use Rattle.run_calls.specs.Lists.{Listed}
+use Rattle.run_calls.specs.Lists.{ListMade}
 use Rattle.verdict.specs.declared.Answer.{Answer}
 use Rattle.verdict.specs.Verdict.{said, Assessed}
 use Rattle.summary.specs.Summary.{Summarised}
-use Rattle.run_trials.specs.Written.{Written, bytesOf, eight, twos}
+use Rattle.run_trials.specs.Written.{PlanPieces, bytesOf, eight, twos}
 
 -- node, flag, sign, mark
 pub data Shown : Type 0 where
@@ -29,7 +29,7 @@ pub data Shown : Type 0 where
 -- a plan and a list of blocked nodes, the verdict, marks that summaries show; a list of calls, what they return, and the
 -- first bytes of the state after them
 pub record Trial : Type 0 where
-  pub plan : Written
+  pub plan : PlanPieces
   pub blocked : List ℕ
   pub verdict : Verdict
   pub marks : List Shown
@@ -61,7 +61,7 @@ pub record HoldsOf (b : List ℕ) (t : Trial) : Type 0 where
   pub accepted : refusalUnder b (t .blocked) ≡ 0
   pub judged : (r : Answer) → Assessed b (t .blocked) r → said r ≡ inr (t .verdict)
   pub shows : AllShown b (t .blocked) (t .marks)
-  pub called : (s rs z : List ℕ) → Listed b (t .blocked) s (t .calls) rs z
+  pub called : (s rs z : List ℕ) → ListMade b (t .blocked) s (t .calls) rs z
       → (rs ≡ t .returned) × (z ≡ overlay (λ k. getD (t .left) k 0) (8 + 3 * nodeCount b) s)
 
 abbrev pub Holds : Trial → Type 0

@@ -18,7 +18,7 @@ pub record Entry : Type 0 where
 pub data Order : Type 0 where
   then : ℕ → ℕ → Order
 
-pub record Written : Type 0 where
+pub record PlanPieces : Type 0 where
   pub flags : ℕ
   pub start : ℕ → Bool
   pub entries : List Entry
@@ -62,7 +62,7 @@ unfoldable pub laterNodes : List Order → List ℕ
 laterNodes [] = []
 laterNodes (then a z ∷ l) = z ∷ laterNodes l
 
-unfoldable pub bytesOf : Written → List ℕ
+unfoldable pub bytesOf : PlanPieces → List ℕ
 bytesOf w =
     twos (length (w .entries) ∷ length (conditionValues (w .entries)) ∷ length (w .orders) ∷ w .flags ∷ [])
     ++ eight (w .start)

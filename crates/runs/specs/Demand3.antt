@@ -33,44 +33,44 @@ pub record Numbered (p : Plan) (l : List ℕ) (a : World) : Type 0 where
 -- keeper call alike" (02). F: the flags at the start
 module _ (p : Plan) (S : ℕ → Bool) (F : ℕ → Bool) where
   -- calls on p under S, from the states of fresh: what they return, and the states after them
-  abbrev pub Calls : List Call → List ℕ → World → Type 0
-  Calls cs ns a = Worked p (without p S) (fresh F) cs ns a
+  abbrev pub CallsOn : List Call → List ℕ → World → Type 0
+  CallsOn cs ns a = Worked p (without p S) (fresh F) cs ns a
 
   -- no call in any list returns 21, 22 or 26 (02: "no list of start, finish and finish-together calls .. meets 21, 22
   -- or 26"; the lists have skips too)
   abbrev pub NeverViolates : Type 0
-  NeverViolates = (cs : List Call) (ns : List ℕ) (a : World) → Calls cs ns a → NoViolation ns
+  NeverViolates = (cs : List Call) (ns : List ℕ) (a : World) → CallsOn cs ns a → NoViolation ns
 
   -- 02's "a book that is not CLEAR has one": a list of calls in which one returns 21, 22 or 26
   pub record Violated : Type 0 where
     pub calls : List Call
     pub returns : List ℕ
     pub after : World
-    pub worked : Calls calls returns after
+    pub worked : CallsOn calls returns after
     pub violation : Violation returns
 
   -- the root is complete after no list
   abbrev pub NeverCompletes : Type 0
-  NeverCompletes = (cs : List Call) (ns : List ℕ) (a : World) → Calls cs ns a
+  NeverCompletes = (cs : List Call) (ns : List ℕ) (a : World) → CallsOn cs ns a
       → ¬ Complete (without p S) (a .status) 0
 
 -- x waits, or is an optional group and skipped
 abbrev pub WaitsOrSkipped : Plan → ℕ → State → Type 0
 WaitsOrSkipped p x s = (s x ≡ waiting) ⊎ (Optional p x × (s x ≡ done))
 
-pub record Demand3 (p : Plan) (S : ℕ → Bool) (F : ℕ → Bool) : Type 0 where
+pub record Demand3On (p : Plan) (S : ℕ → Bool) (F : ℕ → Bool) : Type 0 where
   -- every list of calls has its returns and the states after it, and no others
-  pub worked : (cs : List Call) → (ns : List ℕ) × (a : World) × Calls p S F cs ns a
-  pub unique : {cs : List Call} {ns ms : List ℕ} {a b : World} → Calls p S F cs ns a → Calls p S F cs ms b
+  pub worked : (cs : List Call) → (ns : List ℕ) × (a : World) × CallsOn p S F cs ns a
+  pub unique : {cs : List Call} {ns ms : List ℕ} {a b : World} → CallsOn p S F cs ns a → CallsOn p S F cs ms b
       → (ns ≡ ms) × (a ≡ b)
   -- what is no task, or absent, waits, or is an optional group that stands, and skipped; a flag past the plan's keeps
   -- its start bit
-  pub others : {cs : List Call} {ns : List ℕ} {a : World} → Calls p S F cs ns a → (x : ℕ) → ¬ Task (without p S) x
+  pub others : {cs : List Call} {ns : List ℕ} {a : World} → CallsOn p S F cs ns a → (x : ℕ) → ¬ Task (without p S) x
       → WaitsOrSkipped (without p S) x (a .status)
-  pub beyond : {cs : List Call} {ns : List ℕ} {a : World} → Calls p S F cs ns a → (f : ℕ) → p .cond .flags ≤ f
+  pub beyond : {cs : List Call} {ns : List ℕ} {a : World} → CallsOn p S F cs ns a → (f : ℕ) → p .cond .flags ≤ f
       → a .flag f ≡ F f
   -- a task's ordinal is the position of its start among the accepted starts of the list
-  pub ordinals : {cs : List Call} {ns : List ℕ} {a : World} → Calls p S F cs ns a
+  pub ordinals : {cs : List Call} {ns : List ℕ} {a : World} → CallsOn p S F cs ns a
       → Numbered p (acceptedStarts cs ns) a
   -- the plan that is left has one verdict
   pub judged : (v : Verdict) × Judged (without p S) F v × ((u : Verdict) → Judged (without p S) F u → u ≡ v)

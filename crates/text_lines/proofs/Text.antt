@@ -17,7 +17,7 @@ use Rattle.wait_lengths.proofs.Bounds.{end-limit}
 use Rattle.text_order.specs.Order.{rankedTo, ranking}
 use Rattle.text_order.specs.Places.{Ranking}
 use Rattle.text_order.proofs.Order.{among-at, ranked-task, ranking-length}
-use Rattle.text_lines.specs.Lines.{TaskLines, none, line, ending, lineOf, linesOf}
+use Rattle.text_lines.specs.Lines.{TaskLines, no-lines, line, ending, lineOf, linesOf}
 
 pub name-length : (b : List ℕ) (n : ℕ) → length (nameOf b n) ≡ 4
 unfolding nameOf
@@ -80,14 +80,14 @@ line-then b t s = ending-then (nameOf b t) (longestWait b t) s
 
 pub task-lines : (b ts : List ℕ) → TaskLines b (longestWait b) ts (linesOf b ts)
 unfolding linesOf
-task-lines b [] = none
+task-lines b [] = no-lines
 task-lines b (t ∷ ts) = rw (line-then b t (linesOf b ts)) (line (plain (longestWait b t)) (task-lines b ts))
 
 -- and no other text is
 pub lines-only : {b : List ℕ} {longest : ℕ → ℕ} {ts s : List ℕ} → ((u : ℕ) → Among u ts → longest u ≡ longestWait b u)
     → TaskLines b longest ts s → s ≡ linesOf b ts
 unfolding linesOf
-lines-only f none = refl
+lines-only f no-lines = refl
 lines-only {b} {ts = t ∷ ts} f (line {digits = d} p r) =
     ap (λ (xs : List ℕ). nameOf b t ++ 32 ∷ d ++ 10 ∷ xs) (lines-only (λ u a. f u (there a)) r)
     ∙ ap (λ (xs : List ℕ). nameOf b t ++ 32 ∷ xs ++ 10 ∷ linesOf b ts) (plain-only p ∙ ap decimal (f t (here refl)))

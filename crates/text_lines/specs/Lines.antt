@@ -7,7 +7,7 @@ use Rattle.wait_lengths.specs.Waits.{longestWait}
 
 -- s is the lines of the tasks ts, one after another: name, space, longest wait in plain decimals, byte 10
 pub data TaskLines (b : List ℕ) (longest : ℕ → ℕ) : List ℕ → List ℕ → Type 0 where
-  none : TaskLines b longest [] []
+  no-lines : TaskLines b longest [] []
   line : {t : ℕ} {ts digits s : List ℕ} → Plain (longest t) digits → TaskLines b longest ts s
       → TaskLines b longest (t ∷ ts) (nameOf b t ++ 32 ∷ digits ++ 10 ∷ s)
 

@@ -25,7 +25,7 @@ use Rattle.runs.proofs.Blocked.Branches.{refusal-28, refusal-29, blocks-nothing
 use Rattle.runs.specs.Summary.{Mark, may-pre, must-pre, may-clobber, must-clobber}
 use Rattle.runs.specs.Verdict as verdicts
 use Rattle.runs.specs.Verdict.{CLEAR, DOOMED, OPEN, Fails, Judged}
-use Rattle.runs.specs.Demand3.{Demand3}
+use Rattle.runs.specs.Demand3.{Demand3On}
 use Rattle.runs.specs.Model.Verdicts.{verdict}
 use Rattle.runs.proofs.Reflect.{decided}
 use Rattle.runs.proofs.Verdict.Exact.{MayFail, MustFail, SomeLiteral, may-fail-flag, must-fail-may, r-must-fail}
@@ -159,7 +159,7 @@ module _ (b xs : List ℕ) where
       q : said (Given v) ≡ answerOf b xs
       q = ap inr e ∙ answer-none (refusalUnder b xs) _ z
 
-      d : Demand3 (planOf b) (listed xs) (startOf b)
+      d : Demand3On (planOf b) (listed xs) (startOf b)
       d = demand3 (planOf b) (means-well-formed b (plan-accepted b xs z)) (listed xs) (blocks b xs z) (startOf b)
 
       is : (u : verdicts.Verdict) → (said (Given v) ≡ inr u) ↔ Judged (planUnder b xs) (startOf b) u

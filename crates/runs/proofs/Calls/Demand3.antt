@@ -7,7 +7,7 @@ use Rattle.runs.specs.Execution.{Complete, lastAssertedOf, asserts, Exec
 use Rattle.runs.specs.Verdict.{Clear, Doomed}
 use Rattle.runs.specs.Calls.{Call, World, fresh, Refusal, pre-unmet, inc-broken, post-opposed, number, Task}
 use Rattle.runs.specs.Calls.{Optional}
-use Rattle.runs.specs.Demand3.{Calls, NoViolation, Violation, Violated, WaitsOrSkipped, Demand3}
+use Rattle.runs.specs.Demand3.{CallsOn, NoViolation, Violation, Violated, WaitsOrSkipped, Demand3On}
 use Rattle.runs.specs.Blocked.{without, Blocks}
 use Rattle.runs.specs.Model.Monitor.{returns, states}
 use Rattle.runs.specs.Model.Verdicts.{verdict}
@@ -133,7 +133,7 @@ module _ (p : Plan) (w : WellFormed p) (S : ℕ → Bool) (ok : Blocks p S) (F :
   part : LeftOf p q
   part = without-left p w S
 
-  pub demand3 : Demand3 p S F
+  pub demand3 : Demand3On p S F
   demand3 = record {
     worked = λ cs. (returns p q (fresh F) cs, states p q (fresh F) cs, worked p q wq (fresh F) cs);
     unique = λ x y. let (a, b) = worked-only p q wq x in let (c, d) = worked-only p q wq y in (a ∙ sym c, b ∙ sym d);
@@ -156,16 +156,17 @@ module _ (p : Plan) (w : WellFormed p) (S : ℕ → Bool) (ok : Blocks p S) (F :
     doomed = λ d cs ns a x. doomed d x;
   }
     where
-      others : {cs : List Call} {ns : List ℕ} {a : World} → Calls p S F cs ns a → (x : ℕ) → ¬ Task q x
+      others : {cs : List Call} {ns : List ℕ} {a : World} → CallsOn p S F cs ns a → (x : ℕ) → ¬ Task q x
           → WaitsOrSkipped q x (a .status)
       others {cs} {a = a} y x n = let (e, z) = worked-only p q wq y in rw z (others-wait p q part wq F cs x n)
 
-      beyond : {cs : List Call} {ns : List ℕ} {a : World} → Calls p S F cs ns a → (f : ℕ) → p .cond .flags ≤ f
+      beyond : {cs : List Call} {ns : List ℕ} {a : World} → CallsOn p S F cs ns a → (f : ℕ) → p .cond .flags ≤ f
           → a .flag f ≡ F f
       beyond {cs} y f l = let (e, z) = worked-only p q wq y in rw z (others-keep p q part wq F cs f l)
 
-      never : {cs : List Call} {ns : List ℕ} {a : World} → Clear q F → Calls p S F cs ns a → NoViolation ns
+      never : {cs : List Call} {ns : List ℕ} {a : World} → Clear q F → CallsOn p S F cs ns a → NoViolation ns
       never {cs} c y = let (e, z) = worked-only p q wq y in rw e ((clear-exact p q part wq F) .0 c cs)
 
-      doomed : {cs : List Call} {ns : List ℕ} {a : World} → Doomed q F → Calls p S F cs ns a → ¬ Complete q (a .status) 0
+      doomed : {cs : List Call} {ns : List ℕ} {a : World} → Doomed q F → CallsOn p S F cs ns a
+          → ¬ Complete q (a .status) 0
       doomed {cs} d y = let (e, z) = worked-only p q wq y in rw z (doomed-never-complete p q part wq F d cs)
