@@ -100,9 +100,10 @@ fn start_refused(plan: &[u8], state: &[u8], standing: &[u8; 128], task: usize) -
     }
     let own = mark_one(task);
     if unmet(plan, PRE, &own, load(state)) {
-        return 21;
+        21
+    } else {
+        0
     }
-    0
 }
 
 // Refusals 19 to 21, which are asked of a start only, or 0.
@@ -150,9 +151,10 @@ pub fn skip_refused(plan: &[u8], state: &[u8], standing: &[u8; 128], group: usiz
     }
     let begun = children(plan, state, Tally::Begun);
     if is_begun(plan, state, &begun, group) {
-        return 18;
+        18
+    } else {
+        tree_refused(plan, state, standing, &begun, group)
     }
-    tree_refused(plan, state, standing, &begun, group)
 }
 
 // Refusals 25, 17, 18, 26 and 22 of several finishes in one step, or 0. What the tasks leave must all be true after it

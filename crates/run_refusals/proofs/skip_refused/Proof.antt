@@ -53,6 +53,6 @@ skip-refused-spec =
     returns
     (λ c κs. search needs)
     is-begun-requires
-    returns-2
     tree-refused-requires
+    returns-2
     returns-3)

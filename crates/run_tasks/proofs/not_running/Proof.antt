@@ -39,7 +39,7 @@ inside c = c .before .before .pre _ (among-at _ (c .before .loop .i) (omega arit
 returns : tie.Need-returns Inv-loop μ-loop
 returns c =
     let l = c .before .before .before .before in
-    some-here _ _ (l .loop .i) (omega arith) (l .loop .inv .1) (ap not (byte-other _ _ (c .if1 .taken)))
+    some-here _ _ (l .loop .i) (omega arith) (l .loop .inv .1) (ap not (byte-other _ _ (omega (arith, c .if1 .taken))))
 
 loop-again : tie.Need-loop-again Inv-loop μ-loop
 loop-again c =
