@@ -28,7 +28,7 @@ pub record WhatIsLeft (b xs : List ℕ) : Type 0 where
   pub parents : (i : ℕ) → planUnder b xs .tree .parent i ≡ planOf b .tree .parent i
   pub orders : (i j : ℕ) → T (planUnder b xs .order i j)
       ↔ (T (planOf b .order i j) × (Present b xs i × Present b xs j))
-  pub conditions : planUnder b xs .cond ≡ planOf b .cond
+  pub conditions : planUnder b xs .conditions ≡ planOf b .conditions
   -- 28 "checked after 14", 29 "checked after 28", and neither
   pub refused-28 : (refusalUnder b xs ≡ 28) ↔ Refused28 (planOf b) xs
   pub refused-29 : (refusalUnder b xs ≡ 29) ↔ ((¬ Refused28 (planOf b) xs) × Refused29 (planOf b) xs)

@@ -33,48 +33,49 @@ a-sign (some true) = (λ x q. clash cc, λ k. inr refl)
 
 module _ (p : Plan) (w : WellFormed p) {n : ℕ} (k : p .tree .kind n ≡ task) (f : ℕ) where
   -- a task with no postcondition on the flag has no incondition on it
-  no-inc : p .cond .sign post n f ≡ none → p .cond .sign inc n f ≡ none
-  no-inc q = at (p .cond .sign inc n f) refl
+  no-inc : p .conditions .sign post n f ≡ none → p .conditions .sign inc n f ≡ none
+  no-inc q = at (p .conditions .sign inc n f) refl
     where
-      at : (o : Option Bool) → p .cond .sign inc n f ≡ o → p .cond .sign inc n f ≡ none
+      at : (o : Option Bool) → p .conditions .sign inc n f ≡ o → p .conditions .sign inc n f ≡ none
       at none e = e
       at (some u) e = let (z, y) = w .inc-post n f u e in clash cc
 
-  pub avoid-task : (p .cond .sign post n f ≡ none) ↔ Fact p n f avoid
+  pub avoid-task : (p .conditions .sign post n f ≡ none) ↔ Fact p n f avoid
   unfolding lastAssertedOf
   avoid-task = (
     λ q. (may-task p w (λ h. lastAsserted p h f ≡ none) k) .1 (rw (q, no-inc q)),
-    λ m. at (p .cond .sign post n f) refl ((may-task p w (λ h. lastAsserted p h f ≡ none) k) .0 m),
+    λ m. at (p .conditions .sign post n f) refl ((may-task p w (λ h. lastAsserted p h f ≡ none) k) .0 m),
   )
     where
-      at : (o : Option Bool) → p .cond .sign post n f ≡ o → lastAsserted p (whole n) f ≡ none
-          → p .cond .sign post n f ≡ none
+      at : (o : Option Bool) → p .conditions .sign post n f ≡ o → lastAsserted p (whole n) f ≡ none
+          → p .conditions .sign post n f ≡ none
       at none e x = e
       at (some u) e x = let y : some u ≡ none = rw e at x in clash cc
 
   module _ (v : Bool) where
     abbrev Has : Place → Type 0
-    Has place = p .cond .sign place n f ≡ some v
+    Has place = p .conditions .sign place n f ≡ some v
 
-    pub quiet-is : ((p .cond .sign post n f ≡ none) × (¬ Has pre)) ↔ Fact p n f (quiet v)
+    pub quiet-is : ((p .conditions .sign post n f ≡ none) × (¬ Has pre)) ↔ Fact p n f (quiet v)
     quiet-is = (
       λ x. (quiet-task p w (Neutral p f v) k) .1 ((x .1, no-inc (x .0)), (λ q. clash cc, x .0)),
       λ m. let x = (quiet-task p w (Neutral p f v) k) .0 m in (x .1 .1, x .0 .0),
     )
 
-    pub covered-is : ((¬ (p .cond .sign post n f ≡ none)) × (¬ Has pre)) ↔ Fact p n f (covered v)
+    pub covered-is : ((¬ (p .conditions .sign post n f ≡ none)) × (¬ Has pre)) ↔ Fact p n f (covered v)
     covered-is = (
-      λ x. (meet-task p w (Neutral p f v) (Covers p f v) k) .1 (to x (p .cond .sign inc n f) refl),
+      λ x. (meet-task p w (Neutral p f v) (Covers p f v) k) .1 (to x (p .conditions .sign inc n f) refl),
       λ m. from ((meet-task p w (Neutral p f v) (Covers p f v) k) .0 m),
     )
       where
-        to : (¬ (p .cond .sign post n f ≡ none)) × (¬ Has pre) → (o : Option Bool) → p .cond .sign inc n f ≡ o
+        to : (¬ (p .conditions .sign post n f ≡ none)) × (¬ Has pre) → (o : Option Bool)
+            → p .conditions .sign inc n f ≡ o
             → Covers p f v (start n) ⊎ (Neutral p f v (start n) × Covers p f v (finish n))
         to x none e = inr ((x .1, e), (λ q. clash cc, x .0))
         to x (some u) e = inl (x .1, λ q. clash cc)
 
         from : Covers p f v (start n) ⊎ (Neutral p f v (start n) × Covers p f v (finish n))
-            → (¬ (p .cond .sign post n f ≡ none)) × (¬ Has pre)
+            → (¬ (p .conditions .sign post n f ≡ none)) × (¬ Has pre)
         from (inl x) = (λ q. x .1 (no-inc q), x .0)
         from (inr x) = (x .1 .1, x .0 .0)
 

@@ -45,16 +45,16 @@ taskWord x w (must-clobber v) = 0
 module _ {conds : List ℕ} {n : ℕ} {p : Plan} (t : Task conds n p) where
   -- a word read from the table of conditions
   word : (k : Place) (v : Bool) (i x f : ℕ) → i ≡ 2 * placeNumber k + signNumber v → x ≡ getD conds (n * 6 + i) 0
-      → f < 64 → Says x f (p .cond .sign k n f ≡ some v)
+      → f < 64 → Says x f (p .conditions .sign k n f ≡ some v)
   word k v i x f e q l = says-eq (q ∙ ap (λ (j : ℕ). getD conds (n * 6 + j) 0) e)
       (t .conditions .says n (t .node) (t .is-task) k v f l)
 
   module _ (a b : ℕ) (qa : a ≡ getD conds (n * 6 + 4) 0) (qb : b ≡ getD conds (n * 6 + 5) 0) where
-    asserted : (f : ℕ) → f < 64 → Says (bitOr a b) f (¬ (p .cond .sign post n f ≡ none))
+    asserted : (f : ℕ) → f < 64 → Says (bitOr a b) f (¬ (p .conditions .sign post n f ≡ none))
     asserted f l = says-map (a-sign _)
         (says-or {x = a} {y = b} refl (word post false 4 a f refl qa l) (word post true 5 b f refl qb l))
 
-    silent : (f : ℕ) → f < 64 → Says (bitXor (bitOr a b) ones) f (p .cond .sign post n f ≡ none)
+    silent : (f : ℕ) → f < 64 → Says (bitXor (bitOr a b) ones) f (p .conditions .sign post n f ≡ none)
     silent f l = says-map (no-sign _)
         (says-neither {x = a} {y = b} l refl (word post false 4 a f refl qa l) (word post true 5 b f refl qb l))
 
@@ -83,13 +83,13 @@ module _ {conds : List ℕ} {n : ℕ} {p : Plan} (t : Task conds n p) where
           (says-or {x = y} {y = z} refl (is-inc f l) (is-post f l));
     }
       where
-        is-pre : (f : ℕ) → f < 64 → Says x f (p .cond .sign pre n f ≡ some v)
+        is-pre : (f : ℕ) → f < 64 → Says x f (p .conditions .sign pre n f ≡ some v)
         is-pre f l = word pre v s x f (omega (arith, e)) qx l
 
-        is-inc : (f : ℕ) → f < 64 → Says y f (p .cond .sign inc n f ≡ some v)
+        is-inc : (f : ℕ) → f < 64 → Says y f (p .conditions .sign inc n f ≡ some v)
         is-inc f l = word inc v (2 + s) y f (omega (arith, e)) qy l
 
-        is-post : (f : ℕ) → f < 64 → Says z f (p .cond .sign post n f ≡ some v)
+        is-post : (f : ℕ) → f < 64 → Says z f (p .conditions .sign post n f ≡ some v)
         is-post f l = word post v (4 + s) z f (omega (arith, e)) qz l
 
     pub task-row : (c d : SignWords) → WordsOfSign p n false c → WordsOfSign p n true d

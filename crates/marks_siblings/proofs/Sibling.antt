@@ -95,7 +95,7 @@ silent-is p f b = (λ k e t u. quiet k e t u (signOf p e f) refl, λ s x. loud s
     quiet k e t u (some v) q = absurd (k (with-sign v (task-with v e t u q)))
 
     heard : (v : Bool) → Silent p f b → (x : TaskWith p inc post f v b)
-        → (p .cond .sign inc (x .who) f ≡ some v) ⊎ (p .cond .sign post (x .who) f ≡ some v) → ⊥
+        → (p .conditions .sign inc (x .who) f ≡ some v) ⊎ (p .conditions .sign post (x .who) f ≡ some v) → ⊥
     heard v s x (inl q) = let y = s (start (x .who)) (x .is-task) (x .beneath) in clash cc
     heard v s x (inr q) = let y = s (finish (x .who)) (x .is-task) (x .beneath) in clash cc
 

@@ -45,7 +45,7 @@ planOf b =
         kind = λ n. kindAt (kindOf b n);
         parent = parentOf b;
       };
-      cond = record { flags = flagCount b; sign = signIn b };
+      conditions = record { flags = flagCount b; sign = signIn b };
       order = hasOrder b;
     }
 
@@ -70,10 +70,10 @@ pub record OrderPair (b : List ℕ) (x y : ℕ) : Type 0 where
 -- the plan says what the bytes say, no more and no less, and is one that the theory of runs takes
 pub record Means (b : List ℕ) (p : Plan) : Type 0 where
   pub size : p .tree .size ≡ nodeCount b
-  pub flags : p .cond .flags ≡ flagCount b
+  pub flags : p .conditions .flags ≡ flagCount b
   pub kind : (n : ℕ) → n < nodeCount b → kindNumber (p .tree .kind n) ≡ kindOf b n
   pub parent : (n : ℕ) → n < nodeCount b → p .tree .parent n ≡ parentOf b n
   pub condition : (k : Place) (t f : ℕ) (v : Bool) → f < 64
-      → p .cond .sign k t f ≡ some v ↔ ConditionPair b t (valueOf f (signNumber v) (placeNumber k))
+      → p .conditions .sign k t f ≡ some v ↔ ConditionPair b t (valueOf f (signNumber v) (placeNumber k))
   pub order : (x y : ℕ) → T (p .order x y) ↔ OrderPair b x y
   pub accepted : Accepted p

@@ -177,7 +177,7 @@ module _ (p : Plan) (w : WellFormed p) (plain : Plain p) where
 
 -- ---- where no two tasks leave a flag opposite ways, mark 6 is 01's: a clash in some free run
 pub plain-clobber : (p : Plan) {n f : ℕ} {v : Bool}
-    → ((t u : ℕ) → p .cond .sign post t f ≡ some v → p .cond .sign post u f ≢ some (not v))
+    → ((t u : ℕ) → p .conditions .sign post t f ≡ some v → p .conditions .sign post u f ≢ some (not v))
     → MayClobber p f v n ↔ Clobbered p f v n
 plain-clobber p {n} {f} {v} k = (to, inl)
   where

@@ -19,7 +19,7 @@ abbrev pub within : Tree → (ℕ → Bool) → Tree
 within t h = record { size = t .size; here = h; kind = t .kind; parent = t .parent }
 
 abbrev pub over : Plan → Tree → (ℕ → ℕ → Bool) → Plan
-over p t o = record { tree = t; cond = p .cond; order = o }
+over p t o = record { tree = t; conditions = p .conditions; order = o }
 
 -- S tells which nodes are blocked; of a list xs of them it is `listed xs`
 module _ (p : Plan) (S : ℕ → Bool) where
@@ -103,5 +103,5 @@ pub record OrdersAdded (p r : Plan) : Type 0 where
   pub same-nodes : (i : ℕ) → p .tree .here i ≡ r .tree .here i
   pub same-kind : (i : ℕ) → Node p i → p .tree .kind i ≡ r .tree .kind i
   pub same-parent : (i : ℕ) → 0 < i → Node p i → p .tree .parent i ≡ r .tree .parent i
-  pub same-conditions : p .cond ≡ r .cond
+  pub same-conditions : p .conditions ≡ r .conditions
   pub no-order-lost : (a b : ℕ) → T (p .order a b) → T (r .order a b)

@@ -144,7 +144,7 @@ module _ (p : Plan) where
   pub record PreUnmet (flag : ℕ → Bool) (e : Event) : Type 0 where
     pub on : ℕ
     pub sign : Bool
-    pub needs : preOf (p .cond) e on ≡ some sign
+    pub needs : preOf (p .conditions) e on ≡ some sign
     pub unmet : flag on ≡ not sign
 
   -- 22: the event would break a hold of another running task: it writes the opposite
@@ -154,7 +154,7 @@ module _ (p : Plan) where
     pub sign : Bool
     pub another : nodeOf e ≢ who
     pub runs : s who ≡ running
-    pub holds : p .cond .sign inc who on ≡ some sign
+    pub holds : p .conditions .sign inc who on ≡ some sign
     pub breaks : asserts p e on ≡ some (not sign)
 
   -- 26: two listed tasks leave a flag opposite ways
@@ -165,8 +165,8 @@ module _ (p : Plan) where
     pub other-listed : Among other ts
     pub on : ℕ
     pub sign : Bool
-    pub leaves : p .cond .sign post who on ≡ some sign
-    pub opposes : p .cond .sign post other on ≡ some (not sign)
+    pub leaves : p .conditions .sign post who on ≡ some sign
+    pub opposes : p .conditions .sign post other on ≡ some (not sign)
 
 -- 01's table of refusals, row by row, with 02's rows: 27, a skip's number is not that of an optional group; 25 and 26.
 -- For a list each row is about the whole of it, and "a hold is then tried only for tasks still running after it" (02):

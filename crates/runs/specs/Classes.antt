@@ -36,11 +36,11 @@ module _ (p : Plan) (f : ℕ) where
 
     -- it has the literal as precondition
     abbrev pub PreOn : Event → Type 0
-    PreOn e = preOf (p .cond) e f ≡ some v
+    PreOn e = preOf (p .conditions) e f ≡ some v
 
     -- with it an incondition on the literal begins
     abbrev pub BeginsInc : Event → Type 0
-    BeginsInc (start t) = p .cond .sign inc t f ≡ some v
+    BeginsInc (start t) = p .conditions .sign inc t f ≡ some v
     BeginsInc (finish t) = ⊥
     BeginsInc (skip g) = ⊥
 

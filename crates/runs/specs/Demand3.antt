@@ -67,7 +67,7 @@ pub record Demand3On (p : Plan) (S : ℕ → Bool) (F : ℕ → Bool) : Type 0 w
   -- its start bit
   pub others : {cs : List Call} {ns : List ℕ} {a : World} → CallsOn p S F cs ns a → (x : ℕ) → ¬ Task (without p S) x
       → WaitsOrSkipped (without p S) x (a .status)
-  pub beyond : {cs : List Call} {ns : List ℕ} {a : World} → CallsOn p S F cs ns a → (f : ℕ) → p .cond .flags ≤ f
+  pub beyond : {cs : List Call} {ns : List ℕ} {a : World} → CallsOn p S F cs ns a → (f : ℕ) → p .conditions .flags ≤ f
       → a .flag f ≡ F f
   -- a task's ordinal is the position of its start among the accepted starts of the list
   pub ordinals : {cs : List Call} {ns : List ℕ} {a : World} → CallsOn p S F cs ns a

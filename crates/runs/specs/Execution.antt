@@ -141,11 +141,11 @@ lastAssertedOf c (e ∷ h) f = latest (assertsOf c e f) (lastAssertedOf c h f)
 
 module _ (p : Plan) where
   abbrev pub asserts : Event → ℕ → Option Bool
-  asserts e f = assertsOf (p .cond) e f
+  asserts e f = assertsOf (p .conditions) e f
 
   -- 01's "last touch" of a flag: the sign that it gave; none where no event touches the flag
   abbrev pub lastAsserted : History → ℕ → Option Bool
-  lastAsserted h f = lastAssertedOf (p .cond) h f
+  lastAsserted h f = lastAssertedOf (p .conditions) h f
 
 -- r is what the history h was at some time: h, or h without its last events
 pub data Earlier (r : History) : History → Type 0 where

@@ -63,7 +63,7 @@ pub record Conditions : Type 0 where
 -- them is the same for all plans that share it.
 pub record Plan : Type 0 where
   pub tree : Tree
-  pub cond : Conditions
+  pub conditions : Conditions
   -- earlier, later
   pub order : ℕ → ℕ → Bool
 
@@ -118,10 +118,10 @@ module _ (p : Plan) where
     pub some-branch : (g : ℕ) → Node g → p .tree .kind g ≡ any-of → (c : ℕ) × Child g c
     pub some-part : (g : ℕ) → 0 < g → Node g → p .tree .kind g ≡ all-of → (c : ℕ) × Child g c
     pub order-group : (a b : ℕ) → T (p .order a b) → (g : ℕ) × (p .tree .kind g ≡ all-of) × Child g a × Child g b
-    pub on-task : (k : Place) (t f : ℕ) (v : Bool) → p .cond .sign k t f ≡ some v
-        → (t < p .tree .size) × (p .tree .kind t ≡ task) × (f < p .cond .flags)
-    pub inc-post : (t f : ℕ) (v : Bool) → p .cond .sign inc t f ≡ some v
-        → (u : Bool) × (p .cond .sign post t f ≡ some u)
+    pub on-task : (k : Place) (t f : ℕ) (v : Bool) → p .conditions .sign k t f ≡ some v
+        → (t < p .tree .size) × (p .tree .kind t ≡ task) × (f < p .conditions .flags)
+    pub inc-post : (t f : ℕ) (v : Bool) → p .conditions .sign inc t f ≡ some v
+        → (u : Bool) × (p .conditions .sign post t f ≡ some u)
     pub rank : ℕ → ℕ
     pub rank-below : (n : ℕ) → Node n → rank n < p .tree .size
     pub rank-rises : (a b : ℕ) → T (p .order a b) → rank a < rank b
@@ -137,10 +137,10 @@ module _ (p : Plan) where
     -- 8: a group has a child
     pub has-child : (g : ℕ) → g < p .tree .size → p .tree .kind g ≢ task → (c : ℕ) × Child g c
     -- 9: a condition is on a task and a flag of the plan
-    pub on-task : (k : Place) (t f : ℕ) (v : Bool) → p .cond .sign k t f ≡ some v
-        → (t < p .tree .size) × (p .tree .kind t ≡ task) × (f < p .cond .flags)
+    pub on-task : (k : Place) (t f : ℕ) (v : Bool) → p .conditions .sign k t f ≡ some v
+        → (t < p .tree .size) × (p .tree .kind t ≡ task) × (f < p .conditions .flags)
     -- 12: a hold is on a flag that the task has a leaving on
-    pub inc-post : (t f : ℕ) (v : Bool) → p .cond .sign inc t f ≡ some v
-        → (u : Bool) × (p .cond .sign post t f ≡ some u)
+    pub inc-post : (t f : ℕ) (v : Bool) → p .conditions .sign inc t f ≡ some v
+        → (u : Bool) × (p .conditions .sign post t f ≡ some u)
     -- 13: an order is between children of one all-of group, the earlier number the lower
     pub orders : (a b : ℕ) → T (p .order a b) → (a < b) × ((g : ℕ) × (p .tree .kind g ≡ all-of) × Child g a × Child g b)

@@ -26,7 +26,7 @@ module _ (p : Plan) where
       pub event : Event
       pub before : History
       pub at : Earlier (event ∷ before) h
-      pub needs : preOf (p .cond) event f ≡ some v
+      pub needs : preOf (p .conditions) event f ≡ some v
       pub unasserted : lastAsserted p before f ≡ none
 
     -- external postcondition, 01's "leave": the last touch makes the literal true
@@ -36,7 +36,7 @@ module _ (p : Plan) where
     -- incondition, 01's "hold": at some time a task with it runs
     pub record Incondition (h : History) : Type 0 where
       pub who : ℕ
-      pub holds : p .cond .sign inc who f ≡ some v
+      pub holds : p .conditions .sign inc who f ≡ some v
       pub until : History
       pub at : Earlier until h
       pub runs : statusAfter until who ≡ running
@@ -44,8 +44,8 @@ module _ (p : Plan) where
     -- 01's "clash": after the history h the event e has a precondition whose opposite was asserted last, or asserts the
     -- opposite of an incondition of another running task
     pub data Clobbers (h : History) (e : Event) : Type 0 where
-      precondition : preOf (p .cond) e f ≡ some v → lastAsserted p h f ≡ some (not v) → Clobbers h e
-      incondition : (t : ℕ) → nodeOf e ≢ t → p .cond .sign inc t f ≡ some v → statusAfter h t ≡ running
+      precondition : preOf (p .conditions) e f ≡ some v → lastAsserted p h f ≡ some (not v) → Clobbers h e
+      incondition : (t : ℕ) → nodeOf e ≢ t → p .conditions .sign inc t f ≡ some v → statusAfter h t ≡ running
           → asserts p e f ≡ some (not v) → Clobbers h e
 
     -- in some free run, whole or not
@@ -62,8 +62,8 @@ module _ (p : Plan) where
       pub who : ℕ
       pub other : ℕ
       pub concurrent : Concurrent p who other n
-      pub leaves : p .cond .sign post who f ≡ some v
-      pub opposes : p .cond .sign post other f ≡ some (not v)
+      pub leaves : p .conditions .sign post who f ≡ some v
+      pub opposes : p .conditions .sign post other f ≡ some (not v)
 
     -- mark 6, "may clash": in some free run, or (02) by opposite leavings of two tasks that may finish together
     abbrev pub MayClobber : ℕ → Type 0
@@ -74,7 +74,7 @@ module _ (p : Plan) where
     pub who : ℕ
     pub is-task : p .tree .kind who ≡ task
     pub beneath : Under p c who
-    pub has : (p .cond .sign i who f ≡ some v) ⊎ (p .cond .sign j who f ≡ some v)
+    pub has : (p .conditions .sign i who f ≡ some v) ⊎ (p .conditions .sign j who f ≡ some v)
 
   -- 01's rule by pairs for mark 6 at an all-of group: a child has it; or for unordered c and d, a task under c needs or
   -- holds the literal and one under d holds or leaves the opposite; or d stands before c, d may leave the opposite, c

@@ -52,7 +52,7 @@ pub record RepresentsOrder (order : List ℕ) (p : Plan) : Type 0 where
 -- bit f of a task's word says whether it has the literal at the place
 pub record RepresentsConditions (conds : List ℕ) (p : Plan) : Type 0 where
   pub says : (t : ℕ) → Node p t → p .tree .kind t ≡ task → (k : Place) (v : Bool) (f : ℕ) → f < 64
-      → Says (condition conds t k v) f (p .cond .sign k t f ≡ some v)
+      → Says (condition conds t k v) f (p .conditions .sign k t f ≡ some v)
 
 pub record Represents (kind from kids order conds : List ℕ) (n : ℕ) (p : Plan) : Type 0 where
   pub kinds : RepresentsKinds kind p

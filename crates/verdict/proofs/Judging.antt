@@ -63,7 +63,7 @@ module _ (p : Plan) (w : WellFormed p) (F : ℕ → Bool) where
   open-verdict h k = sym (verdict-exact p w F OPEN .1 (λ c. h (clear-is p w F .0 c), λ d. k (doomed-is p w F .0 d)))
 
 -- what fails is on a flag below 64
-module _ (p : Plan) (w : WellFormed p) (l : p .cond .flags ≤ 64) (F : ℕ → Bool) where
+module _ (p : Plan) (w : WellFormed p) (l : p .conditions .flags ≤ 64) (F : ℕ → Bool) where
   may-small : (f : ℕ) (v : Bool) → MayFail p F f v → f < 64
   may-small f v x = omega (arith, l, may-fail-flag p w F f v x)
 
@@ -91,7 +91,7 @@ module _ (p : Plan) (w : WellFormed p) (l : p .cond .flags ≤ 64) (F : ℕ → 
         (none-fails p F must-clobber must-pre (g p F m s must-clobber must-pre refl refl) must-small e)
 
 -- the plan that is left has no more flags
-pub left-flags : (b : List ℕ) → refusal b ≡ 0 → (S : ℕ → Bool) → without (planOf b) S .cond .flags ≤ 64
+pub left-flags : (b : List ℕ) → refusal b ≡ 0 → (S : ℕ → Bool) → without (planOf b) S .conditions .flags ≤ 64
 left-flags b ok S = omega (arith, means b ok .flags, clean b ok .fits .limits .flags)
 
 -- from the marks of the root of what is left

@@ -35,7 +35,7 @@ said (answers.Judged v) = inr (wordOf v)
 -- the verdict of every well-formed plan of at most 64 flags whose root has these marks, whatever flags F a word says to
 -- be set at the start
 abbrev pub OfWords : List ℕ → ℕ → Verdict → Type 0
-OfWords words start v = (p : Plan) (F : ℕ → Bool) → WellFormed p → p .cond .flags ≤ 64 → MarkWords p 0 words
+OfWords words start v = (p : Plan) (F : ℕ → Bool) → WellFormed p → p .conditions .flags ≤ 64 → MarkWords p 0 words
     → StartWord F start → wordOf v ≡ verdict p F
 
 -- the verdict of the plan that the bytes b mean, without the blocked nodes: of any blocked nodes S, if a table marks the

@@ -259,7 +259,8 @@ module _ (p r : Plan) (w : WellFormed p) (wr : WellFormed r) (added : OrdersAdde
     promises = rw same at (thinner-keeps (without p S) (blocked-well-formed p w S okS) (without r R .tree) (without r R .order) (rw same wq) blocked-thinner)
       where
         same : over p (without r R .tree) (without r R .order) ≡ without r R
-        same = ap (λ c. record { tree = without r R .tree; cond = c; order = without r R .order }) (added .same-conditions)
+        same = ap (λ c. record { tree = without r R .tree; conditions = c; order = without r R .order })
+            (added .same-conditions)
 
 -- no order need be added
 none-added : (p : Plan) → OrdersAdded p p

@@ -96,7 +96,7 @@ module _ (p : Plan) (w : WellFormed p) (F : ℕ → Bool) where
 
   -- no precondition of an accepted list is unmet
   accepted-met : {cs : List Call} {e : Event} {r : History} (f : ℕ) (v : Bool) → AcceptedAll p F cs
-      → Earlier (e ∷ r) (flat cs) → preOf (p .cond) e f ≡ some v
+      → Earlier (e ∷ r) (flat cs) → preOf (p .conditions) e f ≡ some v
       → flagAfter p F r f ≡ not v → ⊥
   accepted-met f v no-call q nd b = earlier-nil q refl
   accepted-met {e = e} {r = r} f v (call-more {c = one x} {cs = cs} k m n) q nd b =

@@ -102,17 +102,17 @@ module _ (whole p : Plan) (part : LeftOf whole p) (w : WellFormed p) (F : ℕ �
               let k = done-moved q in inr (skipped (p .tree .kind x) refl (moved-moves p w f x k) (is-node k), q)
 
   -- a flag past the plan's keeps its start bit
-  pub others-keep : (cs : List Call) (f : ℕ) → p .cond .flags ≤ f → states whole p (fresh F) cs .flag f ≡ F f
+  pub others-keep : (cs : List Call) (f : ℕ) → p .conditions .flags ≤ f → states whole p (fresh F) cs .flag f ≡ F f
   unfolding flagAfter lastAssertedOf
   others-keep cs f l = go (states whole p (fresh F) cs) (reaches whole p part w F cs)
     where
-      off : (k : Place) (t : ℕ) (o : Option Bool) → p .cond .sign k t f ≡ o → o ≡ none
+      off : (k : Place) (t : ℕ) (o : Option Bool) → p .conditions .sign k t f ≡ o → o ≡ none
       off k t none q = refl
       off k t (some v) q = absurd (omega (arith, (w .on-task k t f v q) .2))
 
       silent : (e : Event) → asserts p e f ≡ none
-      silent (start t) = off inc t (p .cond .sign inc t f) refl
-      silent (finish t) = off post t (p .cond .sign post t f) refl
+      silent (start t) = off inc t (p .conditions .sign inc t f) refl
+      silent (finish t) = off post t (p .conditions .sign post t f) refl
       silent (skip g) = refl
 
       never : (h : History) → lastAsserted p h f ≡ none
@@ -160,7 +160,7 @@ module _ (p : Plan) (w : WellFormed p) (S : ℕ → Bool) (ok : Blocks p S) (F :
           → WaitsOrSkipped q x (a .status)
       others {cs} {a = a} y x n = let (e, z) = worked-only p q wq y in rw z (others-wait p q part wq F cs x n)
 
-      beyond : {cs : List Call} {ns : List ℕ} {a : World} → CallsOn p S F cs ns a → (f : ℕ) → p .cond .flags ≤ f
+      beyond : {cs : List Call} {ns : List ℕ} {a : World} → CallsOn p S F cs ns a → (f : ℕ) → p .conditions .flags ≤ f
           → a .flag f ≡ F f
       beyond {cs} y f l = let (e, z) = worked-only p q wq y in rw z (others-keep p q part wq F cs f l)
 

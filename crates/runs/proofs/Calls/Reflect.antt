@@ -166,20 +166,21 @@ module _ (p : Plan) (w : WellFormed p) where
     pub r-inc-broken : (e : Event) → Reflects (incBrokenB p s e) (IncBroken p s e)
     unfolding incBrokenB
     r-inc-broken e = r-map (to, from)
-        (r-any (λ t. (nodeOf e ≢ t) × ((s t ≡ running) × ((f : ℕ) × (f < p .cond .flags) × Breaks t f))) _ _
+        (r-any (λ t. (nodeOf e ≢ t) × ((s t ≡ running) × ((f : ℕ) × (f < p .conditions .flags) × Breaks t f))) _ _
         (λ t. r-both _ _ (r-negate _ (r-eq _ _))
         (r-both _ _ (r-status _ _) (r-any (Breaks t) _ _ (λ f. r-opposite _ _)))))
       where
         Breaks : ℕ → ℕ → Type 0
-        Breaks t f = (v : Bool) × (p .cond .sign inc t f ≡ some v) × (asserts p e f ≡ some (not v))
+        Breaks t f = (v : Bool) × (p .conditions .sign inc t f ≡ some v) × (asserts p e f ≡ some (not v))
 
         to : (t : ℕ) × (t < p .tree .size)
-            × ((nodeOf e ≢ t) × ((s t ≡ running) × ((f : ℕ) × (f < p .cond .flags) × Breaks t f))) → IncBroken p s e
+            × ((nodeOf e ≢ t) × ((s t ≡ running) × ((f : ℕ) × (f < p .conditions .flags) × Breaks t f)))
+            → IncBroken p s e
         to (t, l, (ne, (ru, (f, lf, (v, ho, br))))) =
             record { who = t; on = f; sign = v; another = ne; runs = ru; holds = ho; breaks = br }
 
         from : IncBroken p s e → (t : ℕ) × (t < p .tree .size)
-            × ((nodeOf e ≢ t) × ((s t ≡ running) × ((f : ℕ) × (f < p .cond .flags) × Breaks t f)))
+            × ((nodeOf e ≢ t) × ((s t ≡ running) × ((f : ℕ) × (f < p .conditions .flags) × Breaks t f)))
         from x = let o = w .on-task inc (x .who) (x .on) (x .sign) (x .holds) in
             (x .who, o .0, (x .another, (x .runs, (x .on, o .2, (x .sign, x .holds, x .breaks)))))
 
@@ -188,18 +189,20 @@ module _ (p : Plan) (w : WellFormed p) where
   r-pre-unmet flag e = r-map (
     λ x. record { on = x .0; sign = not (flag (x .0)); needs = x .2; unmet = sym (not-not (flag (x .0))) },
     λ x. (x .on, pre-flag p w e (x .needs), x .needs ∙ ap some (sym (ap not (x .unmet) ∙ not-not (x .sign)))),
-  ) (r-any (λ f. preOf (p .cond) e f ≡ some (not (flag f))) _ _ (λ f. r-some _ _))
+  ) (r-any (λ f. preOf (p .conditions) e f ≡ some (not (flag f))) _ _ (λ f. r-some _ _))
 
   pub r-post-opposed : (ts : List ℕ) → Reflects (postOpposedB p ts) (PostOpposed p ts)
   unfolding postOpposedB
-  r-post-opposed ts = r-map (to, from) (r-some-of (λ t. SomeOf ts (λ x. (f : ℕ) × (f < p .cond .flags) × Opposes t x f))
-      ts _ (λ t. r-some-of (λ x. (f : ℕ) × (f < p .cond .flags) × Opposes t x f) ts _
+  r-post-opposed ts = r-map (to, from)
+      (r-some-of (λ t. SomeOf ts (λ x. (f : ℕ) × (f < p .conditions .flags) × Opposes t x f))
+      ts _ (λ t. r-some-of (λ x. (f : ℕ) × (f < p .conditions .flags) × Opposes t x f) ts _
       (λ x. r-any (Opposes t x) _ _ (λ f. r-opposite _ _))))
     where
       Opposes : ℕ → ℕ → ℕ → Type 0
-      Opposes t x f = (v : Bool) × (p .cond .sign post t f ≡ some v) × (p .cond .sign post x f ≡ some (not v))
+      Opposes t x f = (v : Bool) × (p .conditions .sign post t f ≡ some v) × (p .conditions .sign post x f
+          ≡ some (not v))
 
-      to : SomeOf ts (λ t. SomeOf ts (λ x. (f : ℕ) × (f < p .cond .flags) × Opposes t x f)) → PostOpposed p ts
+      to : SomeOf ts (λ t. SomeOf ts (λ x. (f : ℕ) × (f < p .conditions .flags) × Opposes t x f)) → PostOpposed p ts
       to (t, i, (x, j, (f, l, (v, q, z)))) = record {
         who = t;
         other = x;
@@ -211,7 +214,7 @@ module _ (p : Plan) (w : WellFormed p) where
         opposes = z;
       }
 
-      from : PostOpposed p ts → SomeOf ts (λ t. SomeOf ts (λ x. (f : ℕ) × (f < p .cond .flags) × Opposes t x f))
+      from : PostOpposed p ts → SomeOf ts (λ t. SomeOf ts (λ x. (f : ℕ) × (f < p .conditions .flags) × Opposes t x f))
       from x = let o = w .on-task post (x .who) (x .on) (x .sign) (x .leaves) in
           (x .who, x .listed, (x .other, x .other-listed, (x .on, o .2, (x .sign, x .leaves, x .opposes))))
 

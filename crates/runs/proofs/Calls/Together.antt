@@ -106,12 +106,12 @@ module _ (p : Plan) (a : World) where
   module _ (f : ℕ) where
     -- unless 26 applies, each leaving is true afterwards; a flag on which no listed task has a leaving is as it was
     pub leaving-true : (ts : List ℕ) → ¬ PostOpposed p ts → (v : Bool) (t : ℕ) → Among t ts
-        → p .cond .sign post t f ≡ some v → Finished ts .flag f ≡ v
+        → p .conditions .sign post t f ≡ some v → Finished ts .flag f ≡ v
     leaving-true [] k v t i lv = absurd (among-none i)
-    leaving-true (x ∷ ts) k v t i lv = go (p .cond .sign post x f) refl (among-cases i)
+    leaving-true (x ∷ ts) k v t i lv = go (p .conditions .sign post x f) refl (among-cases i)
         (λ j. leaving-true ts (λ o. k (opposed-more (λ y. there) o)) v t j lv)
       where
-        go : (o : Option Bool) → p .cond .sign post x f ≡ o → (t ≡ x) ⊎ Among t ts
+        go : (o : Option Bool) → p .conditions .sign post x f ≡ o → (t ≡ x) ⊎ Among t ts
             → (Among t ts → Finished ts .flag f ≡ v) → Finished (x ∷ ts) .flag f ≡ v
         go none q (inl e) ih = clash cc
         go none q (inr j) ih = rw q (ih j)
@@ -126,7 +126,7 @@ module _ (p : Plan) (a : World) where
           opposes = q ∙ ap some e;
         })))
 
-    pub flag-stays : (ts : List ℕ) → ((t : ℕ) → Among t ts → p .cond .sign post t f ≡ none)
+    pub flag-stays : (ts : List ℕ) → ((t : ℕ) → Among t ts → p .conditions .sign post t f ≡ none)
         → Finished ts .flag f ≡ a .flag f
     flag-stays [] k = refl
     flag-stays (t ∷ ts) k = rw (k t (here refl)) (flag-stays ts (λ x i. k x (there i)))
@@ -142,19 +142,20 @@ module _ (p : Plan) (a : World) where
 
   -- some listed task has a leaving on the flag, or none has
   abbrev LeftOrNone : ℕ → List ℕ → Type 0
-  LeftOrNone f ts = SomeOf ts (λ t. (v : Bool) × (p .cond .sign post t f ≡ some v))
-      ⊎ ((t : ℕ) → Among t ts → p .cond .sign post t f ≡ none)
+  LeftOrNone f ts = SomeOf ts (λ t. (v : Bool) × (p .conditions .sign post t f ≡ some v))
+      ⊎ ((t : ℕ) → Among t ts → p .conditions .sign post t f ≡ none)
 
   left-or-none : (f : ℕ) (ts : List ℕ) → LeftOrNone f ts
-  left-or-none f ts = go (decided (r-some-of (λ t. p .cond .sign post t f ≢ none) ts _ (λ t. r-negate _ (r-none _))))
+  left-or-none f ts = go (decided (r-some-of (λ t. p .conditions .sign post t f ≢ none) ts _
+      (λ t. r-negate _ (r-none _))))
     where
-      left : (t : ℕ) → Among t ts → (o : Option Bool) → p .cond .sign post t f ≡ o → o ≢ none
-          → SomeOf ts (λ t. (v : Bool) × (p .cond .sign post t f ≡ some v))
+      left : (t : ℕ) → Among t ts → (o : Option Bool) → p .conditions .sign post t f ≡ o → o ≢ none
+          → SomeOf ts (λ t. (v : Bool) × (p .conditions .sign post t f ≡ some v))
       left t i none q n = absurd (n refl)
       left t i (some v) q n = (t, i, (v, q))
 
-      go : Dec (SomeOf ts (λ t. p .cond .sign post t f ≢ none)) → LeftOrNone f ts
-      go (yes (t, i, n)) = inl (left t i (p .cond .sign post t f) refl n)
+      go : Dec (SomeOf ts (λ t. p .conditions .sign post t f ≢ none)) → LeftOrNone f ts
+      go (yes (t, i, n)) = inl (left t i (p .conditions .sign post t f) refl n)
       go (no n) = inr (λ t i. force (decided (r-none _)) (λ m. n (t, i, m)))
 
   -- so, unless 26 applies, lists of the same numbers come to the same: the order of the finishes is immaterial
@@ -184,7 +185,7 @@ pub record Unkept (p : Plan) (a : World) (ts : List ℕ) : Type 0 where
   pub on : ℕ
   pub sign : Bool
   pub listed : Among who ts
-  pub leaves : p .cond .sign post who on ≡ some sign
+  pub leaves : p .conditions .sign post who on ≡ some sign
   pub turned : happenAll p a (finishes ts) .flag on ≡ not sign
 
 -- a task that runs and is not listed has a hold, and flags that were all as it says are not so then
@@ -194,7 +195,7 @@ pub record Turned (p : Plan) (a : World) (ts : List ℕ) : Type 0 where
   pub sign : Bool
   pub unlisted : ¬ Among who ts
   pub runs : a .status who ≡ running
-  pub holds : p .cond .sign inc who on ≡ some sign
+  pub holds : p .conditions .sign inc who on ≡ some sign
   pub turned : happenAll p (fresh (λ f. sign)) (finishes ts) .flag on ≡ not sign
 
 module _ (p : Plan) (w : WellFormed p) (a : World) (ts : List ℕ) where
@@ -292,12 +293,12 @@ module _ (p : Plan) where
 
   -- a finish has no precondition, so an event that has one came before them
   pub before-finishes : {e : Event} {r : History} (ts : List ℕ) (h : History) (f : ℕ) (v : Bool)
-      → preOf (p .cond) e f ≡ some v → Earlier (e ∷ r) (finishes ts ++ h) → Earlier (e ∷ r) h
+      → preOf (p .conditions) e f ≡ some v → Earlier (e ∷ r) (finishes ts ++ h) → Earlier (e ∷ r) h
   before-finishes [] h f v nd q = q
   before-finishes {e} {r} (t ∷ ts) h f v nd q = go (earlier-inv q) (λ z. before-finishes ts h f v nd z)
     where
       go : (e ∷ r ≡ finish t ∷ (finishes ts ++ h)) ⊎ Earlier (e ∷ r) (finishes ts ++ h)
           → (Earlier (e ∷ r) (finishes ts ++ h) → Earlier (e ∷ r) h) → Earlier (e ∷ r) h
-      go (inl z) ih = let s : e ≡ finish t = cc in let y : preOf (p .cond) (finish t) f ≡ some v = rw s at nd in
+      go (inl z) ih = let s : e ≡ finish t = cc in let y : preOf (p .conditions) (finish t) f ≡ some v = rw s at nd in
           clash cc
       go (inr z) ih = ih z

@@ -57,8 +57,8 @@ pub record Violation (p : Plan) (F : ℕ → Bool) : Type 0 where
   pub violates : ViolatesCall p (worldAfter p F history) call
 
 -- tasks that leave a flag opposite ways are two
-pub opposed-differ : (p : Plan) (f t u : ℕ) (v : Bool) → p .cond .sign post t f ≡ some v
-    → p .cond .sign post u f ≡ some (not v) → t ≢ u
+pub opposed-differ : (p : Plan) (f t u : ℕ) (v : Bool) → p .conditions .sign post t f ≡ some v
+    → p .conditions .sign post u f ≡ some (not v) → t ≢ u
 opposed-differ p f t u true q z e = clash cc
 opposed-differ p f t u false q z e = clash cc
 

@@ -74,35 +74,36 @@ module _ (p : Plan) (w : WellFormed p) where
       inc-skip n x = let b = incondition-begun p f v x in rw (the-skip n (b .at)) at (b .begins)
 
       -- at a task: it has the condition
-      pub pre-task : (n : ℕ) → ExternalPre p f v (whole n) ↔ (p .cond .sign pre n f ≡ some v)
+      pub pre-task : (n : ℕ) → ExternalPre p f v (whole n) ↔ (p .conditions .sign pre n f ≡ some v)
       unfolding lastAssertedOf
       pre-task n = (
         λ x. at (x .needs) (one-of n (x .at)),
         λ q. record { event = start n; before = []; at = one-later none-later; needs = q; unasserted = refl },
       )
         where
-          at : {e : Event} → PreOn p f v e → (e ≡ finish n) ⊎ (e ≡ start n) → p .cond .sign pre n f ≡ some v
+          at : {e : Event} → PreOn p f v e → (e ≡ finish n) ⊎ (e ≡ start n) → p .conditions .sign pre n f ≡ some v
           at q (inl z) = let y : PreOn p f v (finish n) = rw z at q in clash cc
           at q (inr z) = rw z at q
 
-      pub post-task : (n : ℕ) → ExternalPost p f v (whole n) ↔ (p .cond .sign post n f ≡ some v)
+      pub post-task : (n : ℕ) → ExternalPost p f v (whole n) ↔ (p .conditions .sign post n f ≡ some v)
       unfolding lastAssertedOf
-      post-task n = (to (p .cond .sign post n f) refl (p .cond .sign inc n f) refl, λ q. rw q)
+      post-task n = (to (p .conditions .sign post n f) refl (p .conditions .sign inc n f) refl, λ q. rw q)
         where
-          to : (o : Option Bool) → p .cond .sign post n f ≡ o → (i : Option Bool) → p .cond .sign inc n f ≡ i
+          to : (o : Option Bool) → p .conditions .sign post n f ≡ o → (i : Option Bool)
+              → p .conditions .sign inc n f ≡ i
               → lastAsserted p (whole n) f ≡ some v
-              → p .cond .sign post n f ≡ some v
+              → p .conditions .sign post n f ≡ some v
           to none q none r x = let y : none ≡ some v = rw (q, r) at x in clash cc
           to none q (some u) r x = let (z, y) = w .inc-post n f u r in clash cc
           to (some u) q i r x = q ∙ (rw q at x)
 
-      pub inc-task : (n : ℕ) → Incondition p f v (whole n) ↔ (p .cond .sign inc n f ≡ some v)
+      pub inc-task : (n : ℕ) → Incondition p f v (whole n) ↔ (p .conditions .sign inc n f ≡ some v)
       inc-task n = (
         λ x. let b = incondition-begun p f v x in at (b .begins) (one-of n (b .at)),
         λ q. begun-incondition p f v (record { event = start n; before = []; at = one-later none-later; begins = q }),
       )
         where
-          at : {e : Event} → BeginsInc p f v e → (e ≡ finish n) ⊎ (e ≡ start n) → p .cond .sign inc n f ≡ some v
+          at : {e : Event} → BeginsInc p f v e → (e ≡ finish n) ⊎ (e ≡ start n) → p .conditions .sign inc n f ≡ some v
           at b (inl z) = absurd (rw z at b)
           at b (inr z) = rw z at b
 

@@ -78,7 +78,7 @@ module _ (p : Plan) (w : WellFormed p) where
       no-part (one-child c hc y) = w .parent-group c (hc .not-root) (hc .node) (ap (p .tree .kind) (hc .up) ∙ k)
   clobber-task {n} f v k (inl x) = go (x .history) (x .event) (x .execution) (x .clobbers)
     where
-      fresh : {e : Event} {r : History} → TaskExecution n (e ∷ r) → preOf (p .cond) e f ≡ some v
+      fresh : {e : Event} {r : History} → TaskExecution n (e ∷ r) → preOf (p .conditions) e f ≡ some v
           → lastAsserted p r f ≡ some (not v) → ⊥
       fresh begun nd q = clash cc
       fresh ended nd q = clash cc

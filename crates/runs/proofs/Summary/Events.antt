@@ -51,8 +51,8 @@ module _ (p : Plan) (f : ℕ) where
     r-covers e = r-both _ _ (r-negate _ (r-pre e)) (r-negate _ (r-unasserted e))
 
 -- a precondition is on a flag of the plan
-pub pre-flag : (p : Plan) → WellFormed p → {f : ℕ} {v : Bool} (e : Event) → preOf (p .cond) e f ≡ some v
-    → f < p .cond .flags
+pub pre-flag : (p : Plan) → WellFormed p → {f : ℕ} {v : Bool} (e : Event) → preOf (p .conditions) e f ≡ some v
+    → f < p .conditions .flags
 pre-flag p w {f} {v} (start t) q = (w .on-task pre t f v q) .2
 pre-flag p w {f} {v} (finish t) q = clash cc
 pre-flag p w {f} {v} (skip g) q = clash cc

@@ -20,7 +20,7 @@ pub record Fails (p : Plan) (f : ℕ) (v : Bool) (h : History) : Type 0 where
   pub event : Event
   pub before : History
   pub at : Earlier (event ∷ before) h
-  pub needs : preOf (p .cond) event f ≡ some v
+  pub needs : preOf (p .conditions) event f ≡ some v
   pub opposed : lastAsserted p before f ≡ some (not v)
 
 module _ (p : Plan) (w : WellFormed p) where

@@ -22,7 +22,7 @@ use Rattle.runs.proofs.Summary.Preconditions.{may-pre-is-meet}
 module _ (p : Plan) (w : WellFormed p) where
   -- what an event needs, its task needs
   pub need-of : {f : ℕ} {v : Bool} (d : ℕ) (e : Event) → OfKind p e → Under p d (nodeOf e)
-      → preOf (p .cond) e f ≡ some v → TaskWith p pre inc f v d
+      → preOf (p .conditions) e f ≡ some v → TaskWith p pre inc f v d
   need-of d (start t) k u q = record { who = t; is-task = k; beneath = u; has = inl q }
   need-of d (finish t) k u q = clash cc
   need-of d (skip g) k u q = clash cc
@@ -42,7 +42,7 @@ module _ (p : Plan) (w : WellFormed p) where
   pub opposed-parts : {n : ℕ} (f : ℕ) (v : Bool) → Opposed p f v n → OpposedParts f v n
   opposed-parts {n} f v x = at (x .concurrent)
     where
-      leaver : (c t : ℕ) (u : Bool) → Under p c t → p .cond .sign post t f ≡ some u → TaskWith p post post f u c
+      leaver : (c t : ℕ) (u : Bool) → Under p c t → p .conditions .sign post t f ≡ some u → TaskWith p post post f u c
       leaver c t u b q = record { who = t; is-task = (w .on-task post t f u q) .1; beneath = b; has = inl q }
 
       at : Concurrent p (x .who) (x .other) n → OpposedParts f v n
@@ -67,7 +67,7 @@ module _ (p : Plan) (w : WellFormed p) where
         rw (part-append p w b g (e ∷ r), nil, append-nil (part p w b g)) (part-all p w b a)
 
     pre-to-pairs : (ev : Event) (g : History) (e : Event) (r : History) → Execution p n (ev ∷ (g ++ (e ∷ r)))
-        → preOf (p .cond) ev f ≡ some v
+        → preOf (p .conditions) ev f ≡ some v
         → All (Unasserted p f) g → asserts p e f ≡ some (not v) → ClobberByPairs p f v n
     pre-to-pairs ev g e r fr nd a wr = go (standing p w c d)
       where
@@ -134,7 +134,7 @@ module _ (p : Plan) (w : WellFormed p) where
             (assertion-of d e (enabled-of-kind p (execution-last p w fe)) (be .beneath) wr)
 
     inc-to-pairs : (e : Event) (h : History) (t : ℕ) → Execution p n (e ∷ h) → nodeOf e ≢ t
-        → p .cond .sign inc t f ≡ some v → statusAfter h t ≡ running
+        → p .conditions .sign inc t f ≡ some v → statusAfter h t ≡ running
         → asserts p e f ≡ some (not v) → ClobberByPairs p f v n
     inc-to-pairs e h t fr other ho ru br = at (placed p w kn (overlap p w f (not v) e t br fr other ru))
       where

@@ -46,7 +46,7 @@ module _ (p : Plan) (w : WellFormed p) where
     module _ (c d : ℕ) (hc : Child p n c) (hd : Child p n d) (un : Unordered p c d) where
       pre-unordered : (t : ℕ) (r₁ : History) (e : Event) (r₂ : History) → Execution p c (start t ∷ r₁)
           → Execution p d (e ∷ r₂)
-          → p .cond .sign pre t f ≡ some v → asserts p e f ≡ some (not v) → Clobbered p f v n
+          → p .conditions .sign pre t f ≡ some v → asserts p e f ≡ some (not v) → Clobbered p f v n
       pre-unordered t r₁ e r₂ f₁ f₂ nd wr = build (both-ready p w kn c d hc hd un)
         where
           build : BothReady p w kn c d → Clobbered p f v n
@@ -65,7 +65,7 @@ module _ (p : Plan) (w : WellFormed p) where
 
       inc-unordered : (t : ℕ) (r₁ : History) (e : Event) (r₂ : History) → Execution p c (start t ∷ r₁)
           → Execution p d (e ∷ r₂)
-          → p .cond .sign inc t f ≡ some v → asserts p e f ≡ some (not v) → Clobbered p f v n
+          → p .conditions .sign inc t f ≡ some v → asserts p e f ≡ some (not v) → Clobbered p f v n
       inc-unordered t r₁ e r₂ f₁ f₂ ho wr = build (both-ready p w kn c d hc hd un)
         where
           ut : Under p c t
@@ -89,7 +89,7 @@ module _ (p : Plan) (w : WellFormed p) where
           → (e : Event) × (r : History) × Execution p d (e ∷ r) × (asserts p e f ≡ some u)
       assertion {u} m = go (m .has)
         where
-          go : (p .cond .sign inc (m .who) f ≡ some u) ⊎ (p .cond .sign post (m .who) f ≡ some u)
+          go : (p .conditions .sign inc (m .who) f ≡ some u) ⊎ (p .conditions .sign post (m .who) f ≡ some u)
               → (e : Event) × (r : History) × Execution p d (e ∷ r) × (asserts p e f ≡ some u)
           go (inl q) = let (r, fr) = reached p w (hd .node) (start (m .who)) (m .is-task) (m .beneath) in
               (start (m .who), r, fr, q)
@@ -104,7 +104,8 @@ module _ (p : Plan) (w : WellFormed p) where
         where
           go : (r₁ : History) (e : Event) (r₂ : History) → Execution p c (start (x .who) ∷ r₁) → Execution p d (e ∷ r₂)
               → asserts p e f ≡ some (not v)
-              → (p .cond .sign pre (x .who) f ≡ some v) ⊎ (p .cond .sign inc (x .who) f ≡ some v) → Clobbered p f v n
+              → (p .conditions .sign pre (x .who) f ≡ some v) ⊎ (p .conditions .sign inc (x .who) f ≡ some v)
+              → Clobbered p f v n
           go r₁ e r₂ f₁ f₂ wr (inl q) = pre-unordered (x .who) r₁ e r₂ f₁ f₂ q wr
           go r₁ e r₂ f₁ f₂ wr (inr q) = inc-unordered (x .who) r₁ e r₂ f₁ f₂ q wr
 

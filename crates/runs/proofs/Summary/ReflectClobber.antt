@@ -24,13 +24,14 @@ module _ (p : Plan) (w : WellFormed p) where
     λ x. record { who = x .0; beneath = x .1; is-task = x .2; has = x .3 },
     λ x. (x .who, x .beneath, x .is-task, x .has),
   )
-      (r-some-task p w (λ t. (p .cond .sign i t f ≡ some v) ⊎ (p .cond .sign j t f ≡ some v)) _ l
+      (r-some-task p w (λ t. (p .conditions .sign i t f ≡ some v) ⊎ (p .conditions .sign j t f ≡ some v)) _ l
       (λ t. r-either _ _ (r-some _ _) (r-some _ _)))
 
   r-silent : (f c : ℕ) → Node p c → Reflects (silentB p f c) (Silent p f c)
   unfolding silentB
   r-silent f c l = r-map (quiet, λ x y. loud x (y .0) (y .1) (y .2) (y .3))
-      (r-negate _ (r-some-task p w (λ t. (p .cond .sign inc t f ≢ none) ⊎ (p .cond .sign post t f ≢ none)) _ l
+      (r-negate _ (r-some-task p w
+      (λ t. (p .conditions .sign inc t f ≢ none) ⊎ (p .conditions .sign post t f ≢ none)) _ l
       (λ t. r-either _ _ (r-negate _ (r-none _)) (r-negate _ (r-none _)))))
     where
       given : (o : Option Bool) → ¬ (o ≢ none) → o ≡ none
@@ -41,13 +42,13 @@ module _ (p : Plan) (w : WellFormed p) where
           at (no n) = absurd (k n)
 
       quiet : ¬ ((t : ℕ) × Under p c t × (p .tree .kind t ≡ task)
-          × ((p .cond .sign inc t f ≢ none) ⊎ (p .cond .sign post t f ≢ none))) → Silent p f c
+          × ((p .conditions .sign inc t f ≢ none) ⊎ (p .conditions .sign post t f ≢ none))) → Silent p f c
       quiet k (start t) kt u = given _ (λ ne. k (t, u, kt, inl ne))
       quiet k (finish t) kt u = given _ (λ ne. k (t, u, kt, inr ne))
       quiet k (skip t) kt u = refl
 
       loud : Silent p f c → (t : ℕ) → Under p c t → p .tree .kind t ≡ task
-          → (p .cond .sign inc t f ≢ none) ⊎ (p .cond .sign post t f ≢ none) → ⊥
+          → (p .conditions .sign inc t f ≢ none) ⊎ (p .conditions .sign post t f ≢ none) → ⊥
       loud x t u kt (inl ne) = ne (x (start t) kt u)
       loud x t u kt (inr ne) = ne (x (finish t) kt u)
 

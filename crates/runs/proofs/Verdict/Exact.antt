@@ -26,15 +26,15 @@ module _ (p : Plan) (w : WellFormed p) (F : ℕ → Bool) where
       (r-both _ _ (r-same _ _) (marks-exact p w 0 f (w .root-node) v k))
 
   -- what may fail is on a flag of the plan, and what must fail may fail
-  clobber-flag : (f : ℕ) (v : Bool) → MayClobber p f v 0 → f < p .cond .flags
+  clobber-flag : (f : ℕ) (v : Bool) → MayClobber p f v 0 → f < p .conditions .flags
   clobber-flag f v (inr x) = (w .on-task post (x .who) f v (x .leaves)) .2
   clobber-flag f v (inl x) = at (x .history) (x .event) (x .clobbers)
     where
-      at : (h : History) (e : Event) → Clobbers p f v h e → f < p .cond .flags
+      at : (h : History) (e : Event) → Clobbers p f v h e → f < p .conditions .flags
       at h e (precondition nd sp) = pre-flag p w e nd
       at h e (incondition t ne ho ru br) = (w .on-task inc t f v ho) .2
 
-  pub may-fail-flag : (f : ℕ) (v : Bool) → MayFail p F f v → f < p .cond .flags
+  pub may-fail-flag : (f : ℕ) (v : Bool) → MayFail p F f v → f < p .conditions .flags
   may-fail-flag f v (inl x) = clobber-flag f v x
   may-fail-flag f v (inr (q, x)) = pre-flag p w (x .holds .event) (x .holds .needs)
 
@@ -44,16 +44,16 @@ module _ (p : Plan) (w : WellFormed p) (F : ℕ → Bool) where
       inr (q, record { history = h; completed = x; holds = m h x })
 
   r-some-literal : (P : ℕ → Bool → Type 0) (t : ℕ → Bool → Bool) → ((f : ℕ) (v : Bool) → Reflects (t f v) (P f v))
-      → ((f : ℕ) (v : Bool) → P f v → f < p .cond .flags) → Reflects (someLiteralB p F t) (SomeLiteral P)
+      → ((f : ℕ) (v : Bool) → P f v → f < p .conditions .flags) → Reflects (someLiteralB p F t) (SomeLiteral P)
   unfolding someLiteralB
   r-some-literal P t r on = r-map (to, from)
       (r-any (λ f. P f true ⊎ P f false) _ _ (λ f. r-either _ _ (r f true) (r f false)))
     where
-      to : (f : ℕ) × (f < p .cond .flags) × (P f true ⊎ P f false) → SomeLiteral P
+      to : (f : ℕ) × (f < p .conditions .flags) × (P f true ⊎ P f false) → SomeLiteral P
       to (f, l, inl x) = (f, true, x)
       to (f, l, inr x) = (f, false, x)
 
-      from : SomeLiteral P → (f : ℕ) × (f < p .cond .flags) × (P f true ⊎ P f false)
+      from : SomeLiteral P → (f : ℕ) × (f < p .conditions .flags) × (P f true ⊎ P f false)
       from (f, true, x) = (f, on f true x, inl x)
       from (f, false, x) = (f, on f false x, inr x)
 

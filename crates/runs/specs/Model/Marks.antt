@@ -54,13 +54,13 @@ module _ (p : Plan) where
   unassertedB f e = isNone (asserts p e f)
 
   unfoldable pub preB : ℕ → Bool → Event → Bool
-  preB f v e = isSome (preOf (p .cond) e f) v
+  preB f v e = isSome (preOf (p .conditions) e f) v
 
   unfoldable pub assertsB : ℕ → Bool → Event → Bool
   assertsB f v e = isSome (asserts p e f) v
 
   unfoldable pub beginsIncB : ℕ → Bool → Event → Bool
-  beginsIncB f v (start t) = isSome (p .cond .sign inc t f) v
+  beginsIncB f v (start t) = isSome (p .conditions .sign inc t f) v
   beginsIncB f v (finish t) = false
   beginsIncB f v (skip g) = false
 
@@ -96,12 +96,13 @@ module _ (p : Plan) where
   -- some task under c has the literal at one of two places
   unfoldable pub conditionB : Place → Place → ℕ → Bool → ℕ → Bool
   conditionB i j f v c = someTaskB p c
-      (λ t. either (isSome (p .cond .sign i t f) v) (λ u. isSome (p .cond .sign j t f) v))
+      (λ t. either (isSome (p .conditions .sign i t f) v) (λ u. isSome (p .conditions .sign j t f) v))
 
   -- no task under c asserts the flag
   unfoldable pub silentB : ℕ → ℕ → Bool
   silentB f c = negate (someTaskB p c
-      (λ t. either (negate (isNone (p .cond .sign inc t f))) (λ u. negate (isNone (p .cond .sign post t f)))))
+      (λ t. either (negate (isNone (p .conditions .sign inc t f)))
+      (λ u. negate (isNone (p .conditions .sign post t f)))))
 
   -- each child of n that stands between d and c has a completed execution that does not assert the flag
   unfoldable pub avoidedB : ℕ → ℕ → ℕ → ℕ → Bool

@@ -74,14 +74,14 @@ module _ (p : Plan) where
 
     unfoldable pub incBrokenB : Event → Bool
     incBrokenB e = anyBelow (p .tree .size) (λ t. both (negate (eqb (nodeOf e) t)) (λ u. both (statusB (s t) running)
-        (λ u. anyBelow (p .cond .flags) (λ f. oppositeB (p .cond .sign inc t f) (asserts p e f)))))
+        (λ u. anyBelow (p .conditions .flags) (λ f. oppositeB (p .conditions .sign inc t f) (asserts p e f)))))
 
   unfoldable pub preUnmetB : (ℕ → Bool) → Event → Bool
-  preUnmetB flag e = anyBelow (p .cond .flags) (λ f. isSome (preOf (p .cond) e f) (not (flag f)))
+  preUnmetB flag e = anyBelow (p .conditions .flags) (λ f. isSome (preOf (p .conditions) e f) (not (flag f)))
 
   unfoldable pub postOpposedB : List ℕ → Bool
-  postOpposedB ts = anyIn ts (λ t. anyIn ts (λ x. anyBelow (p .cond .flags)
-      (λ f. oppositeB (p .cond .sign post t f) (p .cond .sign post x f))))
+  postOpposedB ts = anyIn ts (λ t. anyIn ts (λ x. anyBelow (p .conditions .flags)
+      (λ f. oppositeB (p .conditions .sign post t f) (p .conditions .sign post x f))))
 
 -- whole: the whole plan; p: what is left of it without the blocked nodes
 module _ (whole p : Plan) where

@@ -14,7 +14,7 @@ module _ (p : Plan) (F : ℕ → Bool) where
 
   -- some literal on the plan's flags
   unfoldable pub someLiteralB : (ℕ → Bool → Bool) → Bool
-  someLiteralB g = anyBelow (p .cond .flags) (λ f. either (g f true) (λ u. g f false))
+  someLiteralB g = anyBelow (p .conditions .flags) (λ f. either (g f true) (λ u. g f false))
 
   unfoldable pub mayFailB : Bool
   mayFailB = someLiteralB (failsB may-clobber may-pre)
