@@ -28,7 +28,7 @@ use Rattle.runs.proofs.Plan.Reflect.{r-kind, r-some-child}
 use Rattle.runs.proofs.Calls.Listed.{r-some-of, r-listed, any-same, decAmong}
 use Rattle.runs.proofs.Blocked.Standing.{r-stands, stands-down}
 use Rattle.runs.proofs.Blocked.Branches.{r-29}
-use Rattle.plan_blocked.specs.Blocked.{Standing}
+use Rattle.plan_blocked.specs.Inner.{Standing}
 use Rattle.plan_blocked.specs.Branches.{WithBranch, emptiedAt}
 use Rattle.plan_blocked.proofs.Standing.{parent-lower}
 

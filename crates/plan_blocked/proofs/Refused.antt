@@ -22,7 +22,8 @@ use Rattle.runs.specs.Blocked.{stands, without, Blocks, Refused28, names-root, 
 use Rattle.runs.proofs.Reflect.{force, decided, r-T, r-lt, true-T, T-true}
 use Rattle.runs.proofs.Calls.Listed.{r-listed}
 use Rattle.runs.proofs.Blocked.Branches.{r-28, refusal-none, nothing-refused, blocked-well-formed, without-none}
-use Rattle.plan_blocked.specs.Blocked.{planUnder, refusalUnder, Standing, ListChecked}
+use Rattle.plan_blocked.specs.Blocked.{planUnder, refusalUnder}
+use Rattle.plan_blocked.specs.Inner.{Standing, ListChecked}
 use Rattle.plan_blocked.proofs.Standing.{all-stand}
 
 module _ (b xs : List ℕ) where

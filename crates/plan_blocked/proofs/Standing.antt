@@ -24,7 +24,7 @@ use Rattle.runs.specs.Blocked.{stands}
 use Rattle.runs.proofs.Reflect.{T-true, true-T}
 use Rattle.runs.proofs.Blocked.Standing.{root-standing, child-standing}
 use Rattle.runs.proofs.Blocked.Branches.{all-standing}
-use Rattle.plan_blocked.specs.Blocked.{Standing}
+use Rattle.plan_blocked.specs.Inner.{Standing}
 
 -- the parent of a node but the root is a lower one
 pub parent-lower : (b : List ℕ) → refusal b ≡ 0 → (c g : ℕ) → 0 < c → c < nodeCount b → g ≡ parentOf b c → g < c

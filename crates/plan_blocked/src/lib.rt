@@ -18,7 +18,7 @@ ghost use Rattle.plan_check.specs.Meaning.{planOf};
 ghost use Rattle.runs.specs.Tests.{anyIn};
 ghost use Rattle.runs.specs.Blocked.{unblockableB, refused28B};
 ghost use Rattle.node_sets.specs.Sets.{marked, AllMarked, Each};
-ghost use Rattle.plan_blocked.specs.Blocked.{Standing, ListChecked};
+ghost use Rattle.plan_blocked.specs.Inner.{Standing, ListChecked};
 ghost use Rattle.plan_blocked.specs.Branches.{WithBranch, emptiedAt};
 
 // The number is that of the root, of no node, or of one whose parent is neither any-of nor optional.

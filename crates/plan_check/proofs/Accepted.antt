@@ -7,7 +7,8 @@ use native.Mathlib.Omega.{arith}
 use lib.ListN.{length}
 use lib.Dec.{leb}
 use borrow.Author.Tests.{leb-false, ltb-false, eqb-true, not-false}
-use Rattle.plan_format.specs.Format.{flagCount, startFlag, wholeLength, Whole}
+use Rattle.plan_format.specs.Format.{flagCount, startFlag, wholeLength}
+use Rattle.plan_format.specs.Whole.{Whole}
 use Rattle.plan_rules.specs.Rules.{refusal, cause1, cause2, cause3, badStart, cause4, cause5, cause6, cause7, cause8}
 use Rattle.plan_rules.specs.Rules.{cause9, cause10, cause11, cause12, cause13, cause14}
 use Rattle.base.proofs.Booleans.{and-of, not-passed}

@@ -10,7 +10,8 @@ use plan_rules_later::refuses;
 ghost use mathlib.Core.Path.{_≡_};
 ghost use Prim.Native.Nat.{_≤_};
 ghost use lib.ListN.{length};
-ghost use Rattle.plan_format.specs.Format.{Limits, Whole, wholeLength};
+ghost use Rattle.plan_format.specs.Format.{wholeLength};
+ghost use Rattle.plan_format.specs.Whole.{Limits, Whole};
 ghost use Rattle.plan_rules.specs.Rules.{refusal, cause2};
 ghost use Rattle.plan_check.specs.Parts.{fromNodes, fromConditions, fromOrders};
 

@@ -1,9 +1,8 @@
 -- The fields of a plan (01: book) as functions of its bytes. Past the end a byte counts as 0.
-use Prim.Native.Nat.{ℕ, _+_, _*_, _/_, _%_, _^_, _≤_}
-use mathlib.Core.Path.{_≡_}
+use Prim.Native.Nat.{ℕ, _+_, _*_, _/_, _%_, _^_}
 use mathlib.Core.Bool.{Bool, _&&_, _||_}
 use mathlib.Core.List.{List, [], _∷_}
-use lib.ListN.{getD, length}
+use lib.ListN.{getD}
 use lib.Dec.{eqb, ltb}
 
 -- the number of 2 bytes at i, little-endian
@@ -76,18 +75,3 @@ isGroup b n = isKind b n 1 || isKind b n 2 || isKind b n 3
 -- a group of which one branch is taken
 unfoldable pub isChoice : List ℕ → ℕ → Bool
 isChoice b n = isKind b n 2 || isKind b n 3
-
--- the sizes are within their limits
-pub record Limits (b : List ℕ) : Type 0 where
-  pub long : 16 ≤ length b
-  pub some-node : 1 ≤ nodeCount b
-  pub nodes : nodeCount b ≤ 128
-  pub conditions : condCount b ≤ 1024
-  pub orders : orderCount b ≤ 512
-  pub some-flag : 1 ≤ flagCount b
-  pub flags : flagCount b ≤ 64
-
--- and the length is the one that they give: every field can be read
-pub record Whole (b : List ℕ) : Type 0 where
-  pub limits : Limits b
-  pub whole : length b ≡ 16 + 8 * nodeCount b + 3 * condCount b + 2 * orderCount b

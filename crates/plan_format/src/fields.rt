@@ -7,7 +7,8 @@ ghost use Prim.Native.Nat.{_+_, _*_, _<_, _≤_};
 ghost use lib.ListN.{length};
 ghost use Rattle.plan_format.specs.Format.{u16At, nodeCount, condCount, orderCount, flagCount, startFlag};
 ghost use Rattle.plan_format.specs.Format.{nameChar, entryAt, parentOf, kindOf, minutesOf, condNode, condValue};
-ghost use Rattle.plan_format.specs.Format.{earlierOf, laterOf, isKind, isGroup, Whole};
+ghost use Rattle.plan_format.specs.Format.{earlierOf, laterOf, isKind, isGroup};
+ghost use Rattle.plan_format.specs.Whole.{Whole};
 
 fn wide(x: u8) -> u16
     ensures { λ r. ⌜ (r ≡ x) × (r < 256) ⌝ }

@@ -4,7 +4,8 @@ use Prim.Native.Nat.{ℕ, _+_, _-_, _<_, _^_}
 use mathlib.Core.List.{List}
 use native.Mathlib.Omega.{arith}
 use borrow.Author.Tests.{lt-ltb, le-ltb}
-use Rattle.plan_format.specs.Format.{nodeCount, condCount, Whole}
+use Rattle.plan_format.specs.Format.{nodeCount, condCount}
+use Rattle.plan_format.specs.Whole.{Whole}
 use Rattle.plan_reader.specs.Items.{nodeOf, conditionOf, orderOf, itemCount, itemOf}
 use Rattle.plan_reader.specs.declared.items.Item.the-variants as item
 

@@ -1,7 +1,8 @@
 // What a plan has one after another, nodes, then conditions, then orders, by position.
 ghost use mathlib.Core.Path.{_≡_};
 ghost use Prim.Native.Nat.{_<_};
-ghost use Rattle.plan_format.specs.Format.{nodeCount, condCount, orderCount, Whole};
+ghost use Rattle.plan_format.specs.Format.{nodeCount, condCount, orderCount};
+ghost use Rattle.plan_format.specs.Whole.{Whole};
 ghost use Rattle.plan_reader.specs.Items.{nodeOf, conditionOf, orderOf, itemCount, itemOf};
 use plan_format::fields::condition_node;
 use plan_format::fields::condition_value;

@@ -2,7 +2,7 @@
 // on the slice and the position. `table_all::fill_items` draws them all.
 ghost use mathlib.Core.Path.{_≡_};
 ghost use Prim.Native.Nat.{_<_};
-ghost use Rattle.plan_format.specs.Format.{Whole};
+ghost use Rattle.plan_format.specs.Whole.{Whole};
 ghost use Rattle.plan_reader.specs.Items.{itemCount, itemOf, moved};
 use crate::items::Item;
 use crate::items::item_at;

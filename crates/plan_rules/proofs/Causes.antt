@@ -11,7 +11,8 @@ use borrow.Author.Tests.{eq-eqb, ne-eqb, eqb-true, leb-true, ltb-true, ltb-false
 use Rattle.plan_codes.specs.Names.{nameAllowed}
 use Rattle.plan_codes.specs.Values.{flagOf, signOf, placeOf, valueBad}
 use Rattle.plan_format.specs.Format.{nodeCount, condCount, orderCount, flagCount, wholeLength, nameChar, parentOf}
-use Rattle.plan_format.specs.Format.{kindOf, condNode, condValue, isKind, isGroup, Limits, Whole}
+use Rattle.plan_format.specs.Format.{kindOf, condNode, condValue, isKind, isGroup}
+use Rattle.plan_format.specs.Whole.{Limits, Whole}
 use Rattle.plan_rules.specs.Rules.{cause2, badChar, cause5, badParent, cause7, badCondition, cause9, bothSigns}
 use Rattle.plan_rules.specs.Rules.{postOf}
 use Rattle.base.proofs.Booleans.{or-split, or-none, and-both, and-three}

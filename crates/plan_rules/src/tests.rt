@@ -21,7 +21,7 @@ use plan_format::fields::start_flag;
 ghost use mathlib.Core.Path.{_≡_};
 ghost use Prim.Native.Nat.{_+_, _*_, _<_};
 ghost use Rattle.plan_format.specs.Format.{nodeCount, condCount, orderCount, condNode, condValue, earlierOf, laterOf};
-ghost use Rattle.plan_format.specs.Format.{Whole};
+ghost use Rattle.plan_format.specs.Whole.{Whole};
 ghost use Rattle.plan_rules.specs.Rules.{badStart, badChar, badEntry, badParent, badCondition, notBelow};
 ghost use Rattle.plan_rules.specs.Rules.{notRising, isChild, badPair, badOrder};
 

@@ -13,7 +13,7 @@ use plan_rules::tests::conditions_fall;
 use plan_rules::tests::orders_fall;
 ghost use mathlib.Core.Path.{_≡_};
 ghost use Prim.Native.Nat.{_-_, _<_};
-ghost use Rattle.plan_format.specs.Format.{Whole};
+ghost use Rattle.plan_format.specs.Whole.{Whole};
 ghost use Rattle.plan_rules_each.specs.Indexed.{countOf, brokenAt, causeOf};
 
 pub enum Rule {

@@ -10,7 +10,8 @@ use lib.Dec.{eqb}
 use borrow.Author.Tests.{eq-eqb, eqb-true}
 use Rattle.plan_codes.proofs.Values.{value-parts}
 use Rattle.plan_codes.specs.Values.{flagOf, signOf, placeOf}
-use Rattle.plan_format.specs.Format.{nodeCount, condCount, parentOf, condNode, condValue, isGroup, Whole}
+use Rattle.plan_format.specs.Format.{nodeCount, condCount, parentOf, condNode, condValue, isGroup}
+use Rattle.plan_format.specs.Whole.{Whole}
 use Rattle.plan_rules.specs.Rules.{cause7, childless, cause8, cause10, bothSigns, cause11, postOf, noPost, cause12}
 use Rattle.runs.specs.Tests.{anyBelow}
 use Rattle.base.proofs.Booleans.{same, and-both, and-three, and-of}

@@ -15,7 +15,8 @@ ghost use mathlib.Core.Path.{_≡_};
 ghost use mathlib.Core.Bool.{false};
 ghost use Prim.Native.Nat.{_<_};
 ghost use Rattle.base.specs.Zeros.{Zeros};
-ghost use Rattle.plan_format.specs.Format.{nodeCount, condCount, Whole};
+ghost use Rattle.plan_format.specs.Format.{nodeCount, condCount};
+ghost use Rattle.plan_format.specs.Whole.{Whole};
 ghost use Rattle.plan_rules.specs.Rules.{cause9};
 ghost use Rattle.plan_rules_later.specs.Passes.{childStep, signStep, postStep, stepOf, stepsOf, Ready, passCause};
 

@@ -22,7 +22,7 @@ use Rattle.runs.specs.Calls.{Call, one, checks, asks, statusByte, no-task, wron
 use Rattle.runs.specs.Calls.{inc-broken, no-optional}
 use Rattle.runs.specs.Model.Monitor.{returned, refusalOf, firstOf, orElse, code, appliesB, taskB, optionalB, statusB}
 use Rattle.runs.specs.Model.Monitor.{begunB, wrongStatusB, branchBegunB, orderOpenB, preUnmetB, incBrokenB}
-use Rattle.plan_blocked.specs.Blocked.{Standing}
+use Rattle.plan_blocked.specs.Inner.{Standing}
 use Rattle.plan_blocked.proofs.Refused.{blocks}
 use Rattle.runs.specs.Tests.{either as or, negate, anyBelow, listed}
 use Rattle.runs.specs.Blocked.{stands}

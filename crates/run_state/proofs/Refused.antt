@@ -15,8 +15,8 @@ use Rattle.plan_rules.specs.Rules.{refusal}
 use Rattle.runs.specs.Tests.{anyBelow, listed}
 use Rattle.plan_check.proofs.Accepted.{Clean, clean}
 use Rattle.node_sets.specs.Sets.{marked}
-use Rattle.plan_blocked.specs.Blocked as blocked
-use Rattle.plan_blocked.specs.Blocked.{refusalUnder, Standing}
+use Rattle.plan_blocked.specs.Blocked.{refusalUnder}
+use Rattle.plan_blocked.specs.Inner.{Standing, ListChecked}
 use Rattle.plan_blocked.proofs.Refused.{plan-accepted}
 use Rattle.runs.proofs.Searches.{some-same}
 use Rattle.run_starts.specs.Starts.{nodeByte, strayOrdinal, misnumbered}
@@ -44,7 +44,7 @@ turned false false true = refl
 turned false false false = refl
 
 module _ (b xs s : List ℕ) where
-  pub room-refused : {r : ℕ} {table : List ℕ} → blocked.ListChecked b xs r table → (r ≡ 0 → ⊥)
+  pub room-refused : {r : ℕ} {table : List ℕ} → ListChecked b xs r table → (r ≡ 0 → ⊥)
       → StateChecked b xs (roomRefusalUnder b xs s) r table
   unfolding roomRefusalUnder
   room-refused c n = record {
@@ -61,7 +61,7 @@ module _ (b xs s : List ℕ) where
   unfolding roomRefusalUnder tooShort
   room-enough e l = simp (e, le-ltb _ _ l)
 
-  pub room-long-under : {r : ℕ} {table : List ℕ} → blocked.ListChecked b xs r table → r ≡ 0
+  pub room-long-under : {r : ℕ} {table : List ℕ} → ListChecked b xs r table → r ≡ 0
       → 8 + 3 * nodeCount b ≤ length s → StateChecked b xs (roomRefusalUnder b xs s) 0 table
   room-long-under c z l = record { returns = room-enough (sym (c .returns) ∙ z) l; standing = λ q. c .standing z }
 

@@ -16,7 +16,8 @@ use Rattle.base.proofs.Overlay.{at-overlay}
 use Rattle.plan_format.specs.Format.{nodeCount, flagCount}
 use Rattle.node_sets.specs.Sets.{marked}
 use Rattle.plan_rules.specs.Rules.{refusal}
-use Rattle.plan_blocked.specs.Blocked.{refusalUnder, Standing}
+use Rattle.plan_blocked.specs.Blocked.{refusalUnder}
+use Rattle.plan_blocked.specs.Inner.{Standing}
 use Rattle.plan_blocked.proofs.Refused.{plan-accepted, blocks}
 use Rattle.runs.specs.Tests.{listed}
 use Rattle.runs.specs.Blocked.{without, MarkedUnder, markedUnderB, Blocks}

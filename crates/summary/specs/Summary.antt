@@ -10,7 +10,8 @@ use lib.Dec.{eqb, ltb}
 use Rattle.base.specs.Answers.{first, overlay}
 use Rattle.plan_format.specs.Format.{nodeCount, flagCount}
 use Rattle.base.specs.Bits.{Says}
-use Rattle.plan_blocked.specs.Blocked.{refusalUnder, Standing}
+use Rattle.plan_blocked.specs.Blocked.{refusalUnder}
+use Rattle.plan_blocked.specs.Inner.{Standing}
 use Rattle.runs.specs.Tests.{listed}
 use Rattle.runs.specs.Plan.{signNumber}
 use Rattle.plan_check.specs.Meaning.{planOf}

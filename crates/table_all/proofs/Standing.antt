@@ -23,7 +23,7 @@ use Rattle.runs.proofs.Reflect.{true-T}
 use Rattle.runs.proofs.Blocked.Standing.{r-stands}
 use Rattle.runs.proofs.Blocked.Branches.{before-standing}
 use Rattle.tables.specs.Represents.{Represents, RepresentsTree}
-use Rattle.plan_blocked.specs.Blocked.{Standing}
+use Rattle.plan_blocked.specs.Inner.{Standing}
 use Rattle.table_children.specs.Children.{planWith}
 use Rattle.table_all.specs.Filled.{ItemsOf}
 

@@ -10,7 +10,7 @@ use Rattle.plan_format.specs.Format.{nodeCount}
 use Rattle.plan_check.specs.Meaning.{planOf}
 use Rattle.tables.specs.Represents.{Represents, RepresentsKinds, RepresentsOrder, RepresentsConditions}
 use Rattle.runs.specs.Blocked.{without, Blocks}
-use Rattle.plan_blocked.specs.Blocked.{Standing}
+use Rattle.plan_blocked.specs.Inner.{Standing}
 use Rattle.table_orders.specs.Links.{Linked, Leading}
 use Rattle.table_children.specs.Children.{TreeIn, planWith}
 use Rattle.plan_reader.specs.declared.items.Item.{Item}

@@ -5,7 +5,7 @@ use Prim.Native.Nat.{ℕ}
 use Rattle.runs.specs.Plan.{Node}
 use Rattle.runs.specs.Blocked.{without, Blocks}
 use Rattle.plan_check.specs.Meaning.{planOf}
-use Rattle.plan_blocked.specs.Blocked.{Standing}
+use Rattle.plan_blocked.specs.Inner.{Standing}
 use Rattle.plan_format.specs.Format.{nodeCount}
 use Rattle.marks_words.specs.Words.{MarkWords}
 use Rattle.table_children.specs.Children.{TreeIn, planWith}

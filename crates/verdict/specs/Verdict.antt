@@ -7,7 +7,8 @@ use Prim.Native.Nat.{ℕ, _≤_}
 use Rattle.base.specs.Answers.{refusedOr}
 use Rattle.plan_rules.specs.Rules.{refusal}
 use Rattle.plan_check.specs.Meaning.{planOf, startOf}
-use Rattle.plan_blocked.specs.Blocked.{planUnder, refusalUnder, Standing}
+use Rattle.plan_blocked.specs.Blocked.{planUnder, refusalUnder}
+use Rattle.plan_blocked.specs.Inner.{Standing}
 use Rattle.runs.specs.Tests.{listed}
 use Rattle.runs.specs.Plan.{Plan, WellFormed}
 use Rattle.runs.specs.Verdict as verdicts

@@ -6,7 +6,7 @@ use denote.Ref.{now}
 use Rattle.plan_check.specs.Meaning.{planOf}
 use Rattle.runs.specs.Tests.{listed}
 use Rattle.runs.specs.Blocked.{refused28B, refused29B}
-use Rattle.plan_blocked.specs.Blocked.{Standing}
+use Rattle.plan_blocked.specs.Inner.{Standing}
 use Rattle.plan_blocked.specs.Branches.{WithBranch}
 use Rattle.plan_blocked.proofs.Branches.{emptied-29}
 use Rattle.plan_blocked.proofs.Refused.{none-blocked, refused-28, refused-29, none-refused, root-free, all-nodes, small}

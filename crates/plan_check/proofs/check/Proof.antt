@@ -3,7 +3,7 @@ use native.Mathlib.Omega.{arith}
 use Rattle.plan_check.proofs.Chain.{first, second, third, rest}
 use Rattle.plan_rules.proofs.Causes.{limits, whole}
 use Rattle.plan_rules.specs.Rules.{cause2}
-use Rattle.plan_format.specs.Format.{Limits}
+use Rattle.plan_format.specs.Whole.{Limits}
 use denote.Ref.{now}
 use mathlib.Core.Bool.{false}
 use mathlib.Core.Path.{_≡_, sym, _∙_}

@@ -50,7 +50,7 @@ use denote.Triple.Spec.{Meets, tripleOf}
 use denote.Triple.Table.{entered, cited}
 use denote.Triple.Clauses.{ensured, lasts}
 use denote.Triple.Walked.{says, needs, Stays, stay-ref, walkOf, goes-ref, Walks, ends-at, walked, walk-meets}
-use Rattle.plan_format.specs.Format.{Whole}
+use Rattle.plan_format.specs.Whole.{Whole}
 use Rattle.plan_reader.specs.Items.{itemCount, itemOf, moved}
 use Rattle.plan_reader.specs.declared.Reader.{Reader}
 use Rattle.plan_reader.specs.declared.items.Item.{Item}
