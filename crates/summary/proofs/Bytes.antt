@@ -30,7 +30,8 @@ use Rattle.runs.specs.Summary.{Mark, byteOf, markAt}
 use Rattle.runs.proofs.Reflect.{Reflects, T-true, true-T}
 use Rattle.marks_words.specs.Words.{wordIndex, MarkWords}
 use Rattle.marks_words.proofs.WordColumns.{mark-small, mark-byte, byte-mark}
-use Rattle.summary.specs.Summary.{summaryRefusal, summaryByte, summaryLeft, Tells, UnderWords, Summarised}
+use Rattle.summary.specs.Summary.{summaryRefusal, summaryByte, summaryLeft, Tells, Summarised}
+use Rattle.summary.specs.Inner.{UnderWords}
 
 -- the digit of a bit that says what a test reflects
 pub digit-is : {w f : ℕ} {A : Type 0} (t : Bool) → Says w f A → Reflects t A → w / 2 ^ f % 2 ≡ cond t 1 0

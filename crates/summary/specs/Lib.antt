@@ -1,2 +1,3 @@
--- What the summary call answers and leaves.
+-- What the summary call answers and leaves; inner contracts.
 pub mod Summary
+pub mod Inner

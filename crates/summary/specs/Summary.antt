@@ -9,15 +9,12 @@ use lib.ListN.{length, getD}
 use lib.Dec.{eqb, ltb}
 use Rattle.base.specs.Answers.{first, overlay}
 use Rattle.plan_format.specs.Format.{nodeCount, flagCount}
-use Rattle.base.specs.Bits.{Says}
 use Rattle.plan_blocked.specs.Blocked.{refusalUnder}
-use Rattle.plan_blocked.specs.Inner.{Standing}
 use Rattle.runs.specs.Tests.{listed}
 use Rattle.runs.specs.Plan.{signNumber}
 use Rattle.plan_check.specs.Meaning.{planOf}
 use Rattle.runs.specs.Summary.{Mark, byteOf, markAt}
-use Rattle.runs.specs.Blocked.{MarkedUnder, markedUnderB, Blocks}
-use Rattle.marks_words.specs.Words.{wordIndex}
+use Rattle.runs.specs.Blocked.{MarkedUnder, markedUnderB}
 
 -- 1 to 14, 28 and 29; 15: under 16 V bytes; 17: no node
 unfoldable pub summaryRefusal : List ℕ → List ℕ → ℕ → List ℕ → ℕ
@@ -36,16 +33,6 @@ summaryLeft b xs n out = cond (eqb (summaryRefusal b xs n out) 0) (overlay (summ
 -- the byte is 1 and A holds, or it is 0 and A does not hold
 abbrev pub Tells : ℕ → Type 0 → Type 0
 Tells x A = ((x ≡ 1) × A) ⊎ ((x ≡ 0) × (¬ A))
-
--- what a check leaves: the refusal, and the table once nothing is refused
-pub record Refused (b xs : List ℕ) (n : ℕ) (out : List ℕ) (r : ℕ) (standing : List ℕ) : Type 0 where
-  pub returns : r ≡ summaryRefusal b xs n out
-  pub stands : r ≡ 0 → Standing b (listed xs) standing
-
--- sixteen words say the marks of n under blocked nodes: of any blocked nodes S, if a table marks the nodes that stand
-pub record UnderWords (b standing : List ℕ) (n : ℕ) (words : List ℕ) : Type 0 where
-  pub says : (S : ℕ → Bool) → Blocks (planOf b) S → Standing b S standing → (v : Bool) (m : Mark) (f : ℕ) → f < 64
-      → Says (getD words (wordIndex v m) 0) f (MarkedUnder (planOf b) S n f v m)
 
 pub record Summarised (b xs : List ℕ) (n : ℕ) (out : List ℕ) (r : ℕ) (out′ : List ℕ) : Type 0 where
   pub returns : r ≡ summaryRefusal b xs n out

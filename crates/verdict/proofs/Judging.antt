@@ -36,7 +36,8 @@ use Rattle.table_marks.specs.Marks.{LeftWords}
 use Rattle.verdict.specs.declared.Verdict.{Verdict}
 use Rattle.verdict.specs.declared.Answer.{Answer}
 use Rattle.verdict.specs.declared.Answer.the-variants.{Refused, Judged as Given}
-use Rattle.verdict.specs.Verdict.{wordOf, said, OfWords, OfStanding, answerOf, Assessed}
+use Rattle.verdict.specs.Verdict.{wordOf, said, answerOf, Assessed}
+use Rattle.verdict.specs.Inner.{OfWords, OfStanding}
 
 -- ---- a word without bits: no literal fails
 module _ (p : Plan) (F : ℕ → Bool) (m k : Mark) {w : ℕ} where

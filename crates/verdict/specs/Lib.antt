@@ -1,2 +1,3 @@
--- What the call for a verdict answers.
+-- What the call for a verdict answers; inner contracts.
 pub mod Verdict
+pub mod Inner

@@ -1,22 +1,18 @@
 -- The answer for a plan (01: book) with a list of blocked nodes (02: struck): a refusal or a verdict. Definitions only.
 use mathlib.Core.Path.{_≡_}
 use mathlib.Core.Logic.{_⊎_, inl, inr, _↔_}
-use mathlib.Core.Bool.{Bool}
 use mathlib.Core.List.{List}
-use Prim.Native.Nat.{ℕ, _≤_}
+use Prim.Native.Nat.{ℕ}
 use Rattle.base.specs.Answers.{refusedOr}
 use Rattle.plan_rules.specs.Rules.{refusal}
 use Rattle.plan_check.specs.Meaning.{planOf, startOf}
 use Rattle.plan_blocked.specs.Blocked.{planUnder, refusalUnder}
-use Rattle.plan_blocked.specs.Inner.{Standing}
 use Rattle.runs.specs.Tests.{listed}
-use Rattle.runs.specs.Plan.{Plan, WellFormed}
 use Rattle.runs.specs.Verdict as verdicts
 use Rattle.runs.specs.Verdict.{CLEAR, DOOMED, OPEN, Judged}
-use Rattle.runs.specs.Blocked.{without, Blocks, Refused28, Refused29}
+use Rattle.runs.specs.Blocked.{Refused28, Refused29}
 use Rattle.runs.specs.Demand3.{NeverViolates, NeverCompletes}
 use Rattle.runs.specs.Model.Verdicts.{verdict}
-use Rattle.marks_words.specs.Words.{MarkWords, StartWord}
 use Rattle.verdict.specs.declared.Verdict.{Verdict}
 use Rattle.verdict.specs.declared.Verdict.the-variants.{Clear, Doomed, Open}
 use Rattle.verdict.specs.declared.Answer.{Answer}
@@ -32,18 +28,6 @@ wordOf Open = OPEN
 abbrev pub said : Answer → ℕ ⊎ verdicts.Verdict
 said (answers.Refused n) = inl n
 said (answers.Judged v) = inr (wordOf v)
-
--- the verdict of every well-formed plan of at most 64 flags whose root has these marks, whatever flags F a word says to
--- be set at the start
-abbrev pub OfWords : List ℕ → ℕ → Verdict → Type 0
-OfWords words start v = (p : Plan) (F : ℕ → Bool) → WellFormed p → p .conditions .flags ≤ 64 → MarkWords p 0 words
-    → StartWord F start → wordOf v ≡ verdict p F
-
--- the verdict of the plan that the bytes b mean, without the blocked nodes: of any blocked nodes S, if a table marks the
--- nodes that stand
-abbrev pub OfStanding : List ℕ → List ℕ → Verdict → Type 0
-OfStanding b standing v = (S : ℕ → Bool) → Blocks (planOf b) S → Standing b S standing
-    → wordOf v ≡ verdict (without (planOf b) S) (startOf b)
 
 unfoldable pub answerOf : List ℕ → List ℕ → ℕ ⊎ verdicts.Verdict
 answerOf b xs = refusedOr (refusalUnder b xs) (verdict (planUnder b xs) (startOf b))
