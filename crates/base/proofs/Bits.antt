@@ -9,7 +9,8 @@ use native.Mathlib.Omega.{arith}
 use lib.Dec.{eqb}
 use lib.Pow.{pow-pos, pow-lt, pow-add, shl-exact, ones-split, ones-lt, high}
 use lib.Bits.{bitAnd, bitOr, bitXor, differ, and-step, and-shr, or-step, or-shr, xor-step, xor-shr}
-use Rattle.base.specs.Bits.{bit, ones}
+use Rattle.base.specs.Bits.{bit}
+use Rattle.base.specs.Words.{ones}
 
 -- what holds of the digits 0 and 1 holds of two digits
 two-digits : (P : ℕ → ℕ → Type 0) → P 0 0 → P 0 1 → P 1 0 → P 1 1 → (a b : ℕ) → a < 2 → b < 2 → P a b

@@ -7,7 +7,8 @@ use Prim.Native.Nat.{ℕ, _^_, _<_}
 use native.Mathlib.Decide.{ℕ-discrete}
 use lib.Dec.{T}
 use lib.Bits.{bitAnd, bitOr, bitXor}
-use Rattle.base.specs.Bits.{bit, ones, Says}
+use Rattle.base.specs.Bits.{bit}
+use Rattle.base.specs.Words.{ones, Says}
 use Rattle.base.proofs.Tests.{and-tests, or-tests, not-test}
 use Rattle.base.proofs.Bits.{bit-and, bit-or, bit-less, bit-none, bit-all, bit-not, one-same, one-other}
 

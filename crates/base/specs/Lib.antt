@@ -1,5 +1,6 @@
 -- What all crates above may cite. Definitions only.
 pub mod Bits
+pub mod Words
 pub mod Count
 pub mod Answers
 pub mod Zeros

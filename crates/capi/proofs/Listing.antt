@@ -10,11 +10,11 @@ use Rattle.plan_check.proofs.Accepted.{clean}
 use Rattle.base.specs.Answers.{refusedOr}
 use Rattle.base.proofs.First.{both-none}
 use Rattle.listing.specs.declared.Listed.{Listed}
-use Rattle.listing.specs.Text.{textOf}
+use Rattle.listing.specs.Model.{textOf}
 use Rattle.listing.specs.Listing.{told, listingRefusal, listedOf, Lists}
 use Rattle.listing.proofs.Text.{text-fits}
 use Rattle.listing.proofs.Answers.{said-value}
-use Rattle.capi_numbers.specs.Numbers.{Short}
+use Rattle.capi_numbers.specs.Inner.{Short}
 
 module _ (b out : List ℕ) where
   accepted : listingRefusal b out ≡ 0 → refusal b ≡ 0

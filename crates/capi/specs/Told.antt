@@ -10,12 +10,12 @@ use Rattle.plan_blocked.specs.Blocked.{planUnder, refusalUnder}
 use Rattle.runs.specs.Blocked.{Refused28, Refused29}
 use Rattle.runs.specs.Execution.{Complete}
 use Rattle.runs.specs.Verdict.{Verdict, CLEAR, DOOMED, Judged}
-use Rattle.runs.specs.Tests.{listed}
-use Rattle.runs.specs.Demand3.{NeverViolates, NeverCompletes}
+use Rattle.runs.specs.Searches.{listed}
+use Rattle.runs.specs.Violations.{NeverViolates, NeverCompletes}
 use Rattle.run_state.specs.State.{statusIn, stateRefusalUnder}
 use Rattle.run_monitor.specs.Status.{COMPLETE, statusAnswer}
 use Rattle.verdict.specs.Verdict.{answerOf}
-use Rattle.listing.specs.Text.{textOf}
+use Rattle.listing.specs.Model.{textOf}
 use Rattle.listing.specs.Sentences.{IsListing}
 use Rattle.listing.specs.Listing.{listedOf, listingLeft}
 use Rattle.capi_numbers.specs.Numbers.{verdictNumber, statusNumber, listingNumber}

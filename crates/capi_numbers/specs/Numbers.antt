@@ -1,6 +1,6 @@
 -- The numbers by which the C interface tells answers: a refusal is its own number. Definitions only.
 use mathlib.Core.Logic.{_⊎_, inl, inr}
-use Prim.Native.Nat.{ℕ, _+_, _≤_}
+use Prim.Native.Nat.{ℕ, _+_}
 use Rattle.runs.specs.Verdict.{Verdict, CLEAR, DOOMED, OPEN}
 use Rattle.run_monitor.specs.Status.{Word, COMPLETE, UNFINISHED}
 
@@ -19,8 +19,3 @@ statusNumber (inr UNFINISHED) = 129
 abbrev pub listingNumber : ℕ ⊎ ℕ → ℕ
 listingNumber (inl n) = n
 listingNumber (inr n) = 256 + n
-
--- a refusal, or a length of at most 2,048
-abbrev pub Short : ℕ ⊎ ℕ → Type 0
-Short (inl n) = Unit {0}
-Short (inr n) = n ≤ 2048

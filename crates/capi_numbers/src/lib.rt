@@ -7,7 +7,8 @@ ghost use mathlib.Core.Path.{_≡_};
 ghost use Rattle.verdict.specs.Verdict as verdict;
 ghost use Rattle.run_monitor.specs.Status as progress;
 ghost use Rattle.listing.specs.Listing.{told};
-ghost use Rattle.capi_numbers.specs.Numbers.{verdictNumber, statusNumber, listingNumber, Short};
+ghost use Rattle.capi_numbers.specs.Numbers.{verdictNumber, statusNumber, listingNumber};
+ghost use Rattle.capi_numbers.specs.Inner.{Short};
 
 pub fn verdict_number(answer: Answer) -> u32
     ensures { λ r. ⌜ r ≡ verdictNumber (verdict.said answer) ⌝ }

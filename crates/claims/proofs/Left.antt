@@ -9,14 +9,15 @@ use Rattle.plan_check.specs.Meaning.{planOf}
 use Rattle.plan_check.proofs.Meaning.{means-well-formed}
 use Rattle.plan_blocked.specs.Blocked.{refusalUnder}
 use Rattle.plan_blocked.proofs.Refused.{none-under, list-passes}
-use Rattle.runs.specs.Tests.{listed}
-use Rattle.runs.specs.Plan.{WellFormed}
+use Rattle.runs.specs.Searches.{listed}
+use Rattle.runs.specs.WellFormed.{WellFormed}
 use Rattle.runs.specs.Calls.{empty}
-use Rattle.runs.specs.Blocked.{Stands, blockedRefusal}
+use Rattle.runs.specs.Blocked.{Stands}
+use Rattle.runs.specs.Model.Blocked.{blockedRefusal}
 use Rattle.runs.proofs.Calls.Listed.{r-listed}
 use Rattle.runs.proofs.Blocked.Standing.{r-stands, r-standing-order}
 use Rattle.runs.proofs.Blocked.Branches.{refusal-28, refusal-29, refusal-none, passes-28-29, blocks-nothing}
-use Rattle.claims.specs.Left.{Present, WhatIsLeft, Reading, ListsRead}
+use Rattle.claims.specs.Left.{Present, WhatIsLeft, ListsRead}
 
 module _ (b : List ℕ) (ok : refusal b ≡ 0) where
   w : WellFormed (planOf b)

@@ -1,28 +1,25 @@
 -- The two promises hold. Assumes nothing.
-use mathlib.Core.Path.{_≡_, refl, sym, ap, _∙_, fun-ext}
+use mathlib.Core.Path.{_≡_, refl, ap, _∙_, fun-ext}
 use mathlib.Core.Logic.{by-cases}
-use mathlib.Core.Bool.{Bool, true, false, cond, _&&_}
-use mathlib.Core.Option.{Option, some, none}
 use mathlib.Core.List.{List, List·Memᴰ as Among}
 use Prim.Native.Nat.{ℕ, _<_}
 use native.Mathlib.Decide.{decLt}
 use native.Mathlib.Omega.{arith}
-use lib.Dec.{T, eqb}
 use borrow.Author.Tests.{le-ltb}
-use Rattle.plan_codes.specs.Values.{flagOf, signOf, placeOf}
-use Rattle.plan_format.specs.Format.{nodeCount, condCount, flagCount, condNode, condValue}
+use Rattle.plan_format.specs.Format.{condCount, flagCount}
 use Rattle.plan_rules.specs.Rules.{refusal}
 use Rattle.runs.proofs.Searches.{some-same}
-use Rattle.plan_check.specs.Meaning.{planOf, startOf, kindAt, conditionIs, hasCondition, signIn, hasOrder}
+use Rattle.plan_check.specs.Meaning.{planOf, startOf, kindAt, conditionIs, hasCondition, signIn}
 use Rattle.plan_check.proofs.Accepted.{clean}
 use Rattle.plan_check.proofs.Meaning.{means-well-formed, order-is, has-order}
 use Rattle.plan_check.proofs.Nodes.{node-is}
 use Rattle.plan_blocked.specs.Blocked.{planUnder, refusalUnder}
 use Rattle.plan_blocked.proofs.Refused.{plan-accepted, strictly-rises, blocks, list-passes}
-use Rattle.runs.specs.Tests.{anyBelow, listed}
-use Rattle.runs.specs.Plan.{itself, Place, placeNumber}
+use Rattle.runs.specs.Searches.{anyBelow, listed}
+use Rattle.runs.specs.Plan.{itself, placeNumber}
 use Rattle.runs.specs.Verdict.{CLEAR, DOOMED}
-use Rattle.runs.specs.Blocked as plans
+use Rattle.runs.specs.Blocked.{Stands}
+use Rattle.runs.specs.Branches.{Keeps, OrdersAdded}
 use Rattle.runs.proofs.Calls.Listed.{r-listed}
 use Rattle.runs.proofs.Blocked.Branches.{blocks-out, more-keeps, orders-keep}
 use Rattle.verdict.specs.declared.Answer.{Answer}
@@ -31,7 +28,7 @@ use Rattle.claims.specs.Promises.{AnswerKeeps, BlockingKeeps, BytesAddOr
 
 -- what holds of the plans holds of the answers
 answers-keep : (b c xs ys : List ℕ) → refusalUnder b xs ≡ 0 → refusalUnder c ys ≡ 0 → startOf b ≡ startOf c
-    → plans.Keeps (planUnder b xs) (planUnder c ys) → (a d : Answer) → Assessed b xs a → Assessed c ys d
+    → Keeps (planUnder b xs) (planUnder c ys) → (a d : Answer) → Assessed b xs a → Assessed c ys d
     → AnswerKeeps a d
 answers-keep b c xs ys okb okc s k a d x y = record {
   clear = λ q. y .judged okc CLEAR .1 (rw s at (k .clear (startOf b) (x .judged okb CLEAR .0 q)));
@@ -44,7 +41,7 @@ blocking-promise b xs ys okx oky h a c x y = answers-keep b b xs ys okx oky refl
     (blocks b ys oky) (λ s t. h s ((r-listed xs s) .to t))) a c x y
 
 pub included-more : (b xs ys : List ℕ) → ((s : ℕ) → Among s xs → Among s ys) → (s : ℕ) → Among s xs
-    → ¬ plans.Stands (planOf b) (listed ys) s
+    → ¬ Stands (planOf b) (listed ys) s
 included-more b xs ys h s i x = x .outside s ((r-listed ys s) .from (h s i)) itself
 
 -- ---- orders added
@@ -67,7 +64,7 @@ module _ (b c : List ℕ) (okb : refusal b ≡ 0) (h : BytesAddOrders b c) where
       (λ n. let z : flagCount b < 65 = omega (arith, clean b okb .fits .limits .flags) in
       rw (le-ltb f (flagCount b) (omega arith), le-ltb f (flagCount c) (omega (arith, h .flags)))))
 
-  added : plans.OrdersAdded (planOf b) (planOf c)
+  added : OrdersAdded (planOf b) (planOf c)
   unfolding planOf
   added = record {
     same-nodes = λ i. rw (h .nodes);

@@ -10,7 +10,7 @@ use Rattle.plan_rules.specs.Rules.{refusal}
 use Rattle.plan_check.specs.Meaning.{planOf}
 use Rattle.plan_blocked.specs.Blocked.{planUnder, refusalUnder}
 use Rattle.runs.specs.Plan.{Node, Under}
-use Rattle.runs.specs.Tests.{listed}
+use Rattle.runs.specs.Searches.{listed}
 use Rattle.runs.specs.Blocked.{Stands, Refused28, Refused29}
 
 -- 02's "neither struck nor under a struck node": node i of the plan, with the list xs

@@ -8,7 +8,7 @@ use Rattle.plan_format.specs.Format.{nodeCount, condCount, flagCount, parentOf,
 use Rattle.plan_rules.specs.Rules.{refusal}
 use Rattle.plan_check.specs.Meaning.{planOf, OrderPair}
 use Rattle.plan_blocked.specs.Blocked.{refusalUnder}
-use Rattle.runs.specs.Tests.{listed}
+use Rattle.runs.specs.Searches.{listed}
 use Rattle.runs.specs.Blocked.{Stands}
 use Rattle.runs.specs.Verdict.{CLEAR, DOOMED}
 use Rattle.verdict.specs.declared.Answer.{Answer}

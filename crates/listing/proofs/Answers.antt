@@ -16,7 +16,7 @@ use Rattle.plan_rules.specs.Rules.{refusal}
 use Rattle.text_decimals.specs.Decimals.{written, Wrote}
 use Rattle.text_decimals.proofs.Written.{wrote-long, wrote-same}
 use Rattle.plan_check.proofs.Accepted.{clean}
-use Rattle.listing.specs.Text.{textOf, refusedText, printed}
+use Rattle.listing.specs.Model.{textOf, refusedText, printed}
 use Rattle.listing.specs.Listing.{listingRefusal, listedOf, listingLeft, Lists, Prints}
 use Rattle.listing.specs.declared.Listed.the-variants.{Refused, Text}
 use Rattle.listing.proofs.Sentences.{listing-is, refusal-is}

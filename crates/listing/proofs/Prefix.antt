@@ -13,7 +13,7 @@ use Rattle.plan_rules.specs.Rules.{refusal, cause2}
 use Rattle.base.proofs.Booleans.{either}
 use Rattle.plan_rules.proofs.Causes.{limits}
 use Rattle.plan_check.proofs.Chain.{second, third}
-use Rattle.listing.specs.Text.{refusedText, printed}
+use Rattle.listing.specs.Model.{refusedText, printed}
 use Rattle.listing.proofs.Text.{printed-refused}
 
 module _ (xs : List ℕ) (long : 5137 < length xs) where

@@ -12,13 +12,14 @@ use Rattle.runs.specs.Model.Verdicts as model
 use Rattle.runs.proofs.Verdict.Exact.{verdict-exact}
 use Rattle.wait_lengths.specs.Waits.{lengthOf, waitWithin, longestWait}
 use Rattle.wait_lengths.proofs.Sentences.{times, length-one, longest-one}
-use Rattle.text_decimals.specs.Decimals.{decimal}
+use Rattle.text_decimals.specs.Model.{decimal}
 use Rattle.text_decimals.proofs.Decimals.{plain, plain-only}
-use Rattle.text_order.specs.Order.{ranking}
+use Rattle.text_order.specs.Model.{ranking}
 use Rattle.text_order.proofs.Order.{arranged, arranged-node, arranged-only}
-use Rattle.text_lines.specs.Lines.{ending, linesOf}
+use Rattle.text_lines.specs.Model.{ending, linesOf}
 use Rattle.text_lines.proofs.Text.{ending-then, task-lines, lines-only}
-use Rattle.listing.specs.Text.{letters, refusedLetters, firstLine, textOf, refusedText}
+use Rattle.listing.specs.Text.{letters, refusedLetters}
+use Rattle.listing.specs.Model.{firstLine, textOf, refusedText}
 use Rattle.listing.specs.Sentences.{IsListing, IsRefusal}
 
 is-listing : (b : List ℕ) → refusal b ≡ 0 → IsListing b (textOf b)

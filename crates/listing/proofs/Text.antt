@@ -14,10 +14,11 @@ use Rattle.runs.specs.Verdict.{Verdict, CLEAR, DOOMED, OPEN}
 use Rattle.runs.specs.Model.Verdicts.{verdict}
 use Rattle.wait_lengths.specs.Waits.{lengthOf}
 use Rattle.wait_lengths.proofs.Bounds.{end-limit}
-use Rattle.text_order.specs.Order.{ranking}
-use Rattle.text_lines.specs.Lines.{ending, linesOf}
+use Rattle.text_order.specs.Model.{ranking}
+use Rattle.text_lines.specs.Model.{ending, linesOf}
 use Rattle.text_lines.proofs.Text.{ending-limit, lines-limit}
-use Rattle.listing.specs.Text.{letters, refusedLetters, firstLine, textOf, refusedText, printed}
+use Rattle.listing.specs.Text.{letters, refusedLetters}
+use Rattle.listing.specs.Model.{firstLine, textOf, refusedText, printed}
 
 pub letters-limit : (v : Verdict) → length (letters v) ≤ 6
 letters-limit CLEAR = omega arith

@@ -9,7 +9,7 @@ use lib.ListN.{length, take}
 use Rattle.base.specs.Answers.{first, refusedOr}
 use Rattle.plan_rules.specs.Rules.{refusal}
 use Rattle.text_decimals.specs.Decimals.{written, Wrote}
-use Rattle.listing.specs.Text.{textOf, printed}
+use Rattle.listing.specs.Model.{textOf, printed}
 use Rattle.listing.specs.Sentences.{IsListing, IsRefusal}
 use Rattle.listing.specs.declared.Listed.{Listed}
 use Rattle.listing.specs.declared.Listed.the-variants.{Refused, Text}

@@ -1,17 +1,8 @@
--- The text of the listing, and all that the program prints. Definitions only.
+-- The letters of each word of the listing, in ASCII. Definitions only.
 use Prim.Native.Nat.{ℕ}
-use mathlib.Core.Bool.{cond}
-use mathlib.Core.List.{List, [], _∷_, _++_}
-use lib.Dec.{eqb}
-use Rattle.plan_rules.specs.Rules.{refusal}
-use Rattle.plan_check.specs.Meaning.{planOf, startOf}
+use mathlib.Core.List.{List, [], _∷_}
 use Rattle.runs.specs.Verdict.{Verdict, CLEAR, DOOMED, OPEN}
-use Rattle.runs.specs.Model.Verdicts.{verdict}
-use Rattle.wait_lengths.specs.Waits.{lengthOf}
-use Rattle.text_order.specs.Order.{ranking}
-use Rattle.text_lines.specs.Lines.{ending, linesOf}
 
--- 01's words, in ASCII
 abbrev pub letters : Verdict → List ℕ
 letters CLEAR = 67 ∷ 76 ∷ 69 ∷ 65 ∷ 82 ∷ []
 letters DOOMED = 68 ∷ 79 ∷ 79 ∷ 77 ∷ 69 ∷ 68 ∷ []
@@ -20,20 +11,3 @@ letters OPEN = 79 ∷ 80 ∷ 69 ∷ 78 ∷ []
 -- REFUSED
 abbrev pub refusedLetters : List ℕ
 refusedLetters = 82 ∷ 69 ∷ 70 ∷ 85 ∷ 83 ∷ 69 ∷ 68 ∷ []
-
--- ---- the text, computed
--- first line: answer, space, root's length
-unfoldable pub firstLine : List ℕ → List ℕ
-firstLine b = letters (verdict (planOf b) (startOf b)) ++ ending (lengthOf b 0)
-
--- then each task, in order
-unfoldable pub textOf : List ℕ → List ℕ
-textOf b = firstLine b ++ linesOf b (ranking b)
-
--- REFUSED, space, number, byte 10
-unfoldable pub refusedText : ℕ → List ℕ
-refusedText n = refusedLetters ++ ending n
-
--- what the program prints
-unfoldable pub printed : List ℕ → List ℕ
-printed b = cond (eqb (refusal b) 0) (textOf b) (refusedText (refusal b))

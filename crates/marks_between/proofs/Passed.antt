@@ -7,7 +7,8 @@ use Prim.Native.Nat.{ℕ, _+_, _≤_, _<_}
 use native.Mathlib.Omega.{arith}
 use lib.Dec.{T}
 use lib.ListN.{getD}
-use Rattle.base.specs.Bits.{bit, Says}
+use Rattle.base.specs.Bits.{bit}
+use Rattle.base.specs.Words.{Says}
 use Rattle.base.proofs.Says.{says-map, says-self, says-none, no-flag}
 use Rattle.runs.specs.Plan.{Plan, Child}
 use Rattle.tables.specs.declared.Segment.{Segment}

@@ -3,7 +3,8 @@ use mathlib.Core.Path.{_≡_}
 use mathlib.Core.Logic.{_≢_, _↔_}
 use Prim.Native.Nat.{ℕ, _<_, _≤_}
 use native.Mathlib.Omega.{arith}
-use Rattle.runs.specs.Plan.{task, all-of, pre, inc, post, Plan, Node, Child, WellFormed}
+use Rattle.runs.specs.Plan.{task, all-of, pre, inc, post, Plan, Node, Child}
+use Rattle.runs.specs.WellFormed.{WellFormed}
 use Rattle.runs.proofs.Reflect.{clash}
 use Rattle.runs.proofs.Plan.Chains.{before-child}
 use Rattle.runs.specs.Classes.{Neutral, Covers}
@@ -12,7 +13,7 @@ use Rattle.runs.proofs.Summary.Meet.{meet-all}
 use Rattle.runs.proofs.Summary.ByChildren.{avoids-all, may-pre-all, may-post-all, may-inc-all, must-inc-all}
 use Rattle.marks_row.specs.Columns.{Column, avoid, quiet, covered, may-pre, may-post, may-inc, requires, asserts}
 use Rattle.marks_row.specs.Columns.{posts, may-clobber, must-inc, must-clobber}
-use Rattle.marks_row.specs.Columns.{indexOf, firstOf, Fact}
+use Rattle.marks_row.specs.Columns.{indexOf, firstWord, Fact}
 use Rattle.marks_group.specs.Groups.{Others, Within}
 use Rattle.runs.proofs.Plan.Numbers.{sign-small}
 use Rattle.marks_group.proofs.Any.{with-child}
@@ -21,7 +22,7 @@ module _ (p : Plan) (w : WellFormed p) {n : ℕ} (l : Node p n) (k : p .tree .ki
   group-all : p .tree .kind n ≢ task
   group-all e = clash cc
 
-  pub every-part : (c : Column) → indexOf c < firstOf covered → Within p n f c ↔ ((b : ℕ) → Child p n b → Fact p b f c)
+  pub every-part : (c : Column) → indexOf c < firstWord covered → Within p n f c ↔ ((b : ℕ) → Child p n b → Fact p b f c)
   every-part avoid s = avoids-all p w f k
   every-part (quiet v) s = quiet-all p w (Neutral p f v) k
   every-part (covered v) s = absurd (omega arith)
@@ -40,7 +41,7 @@ module _ (p : Plan) (w : WellFormed p) {n : ℕ} (l : Node p n) (k : p .tree .ki
       → A ↔ ((c : ℕ) × Child p n c × (P c × Unit {0}))
   alone e = (λ a. let x = e .0 a in (x .0, x .1, (x .2, tt)), λ x. e .1 (x .0, x .1, x .2 .0))
 
-  pub some-part : (c : Column) → firstOf covered ≤ indexOf c
+  pub some-part : (c : Column) → firstWord covered ≤ indexOf c
       → Within p n f c ↔ ((b : ℕ) × Child p n b × (Fact p b f c × Others p n b f c))
   some-part avoid s = absurd (omega arith)
   some-part (quiet v) s = absurd (omega (arith, sign-small v))

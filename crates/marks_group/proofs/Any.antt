@@ -8,9 +8,11 @@ use mathlib.Core.Bool.{Bool}
 use mathlib.Core.Option.{none}
 use Prim.Native.Nat.{ℕ, _<_, _≤_}
 use native.Mathlib.Omega.{arith}
-use Rattle.runs.specs.Plan.{task, any-of, optional, Place, pre, inc, post, Plan, Child, WellFormed}
+use Rattle.runs.specs.Plan.{task, any-of, optional, Place, pre, inc, post, Plan, Child}
+use Rattle.runs.specs.WellFormed.{WellFormed}
 use Rattle.runs.specs.Execution.{lastAsserted, skip}
-use Rattle.runs.specs.Summary.{TaskWith, ExternalPre, ExternalPost, Incondition}
+use Rattle.runs.specs.Summary.{ExternalPre, ExternalPost, Incondition}
+use Rattle.runs.specs.Pairs.{TaskWith}
 use Rattle.runs.proofs.Reflect.{clash}
 use Rattle.runs.proofs.Plan.Trees.{Branch, branch, child-under, under-trans}
 use Rattle.runs.specs.Classes.{All, all-nil, all-cons, Neutral, Covers}
@@ -21,7 +23,7 @@ use Rattle.runs.proofs.Summary.Clobber.{clobber-any, clobber-optional}
 use Rattle.runs.proofs.Summary.ReflectClobber.{must-clobber-any, must-clobber-optional}
 use Rattle.marks_row.specs.Columns.{Column, avoid, quiet, covered, may-pre, may-post, may-inc, requires, asserts}
 use Rattle.marks_row.specs.Columns.{posts, may-clobber, must-inc, must-clobber}
-use Rattle.marks_row.specs.Columns.{indexOf, firstOf, Fact}
+use Rattle.marks_row.specs.Columns.{indexOf, firstWord, Fact}
 use Rattle.runs.proofs.Plan.Numbers.{sign-small}
 
 module _ (p : Plan) (w : WellFormed p) where
@@ -55,7 +57,7 @@ module _ (p : Plan) (w : WellFormed p) where
   group-optional k e = clash cc
 
   module _ {n : ℕ} (k : p .tree .kind n ≡ any-of) (f : ℕ) where
-    pub some-branch : (c : Column) → indexOf c < firstOf must-inc
+    pub some-branch : (c : Column) → indexOf c < firstWord must-inc
         → Fact p n f c ↔ ((b : ℕ) × Child p n b × Fact p b f c)
     some-branch avoid l = may-any p w (λ h. lastAsserted p h f ≡ none) k
     some-branch (quiet v) l = may-any p w (All (Neutral p f v)) k
@@ -70,7 +72,7 @@ module _ (p : Plan) (w : WellFormed p) where
     some-branch (must-inc v) l = absurd (omega arith)
     some-branch (must-clobber v) l = absurd (omega arith)
 
-    pub every-branch : (c : Column) → firstOf must-inc ≤ indexOf c
+    pub every-branch : (c : Column) → firstWord must-inc ≤ indexOf c
         → Fact p n f c ↔ ((b : ℕ) → Child p n b → Fact p b f c)
     every-branch avoid l = absurd (omega arith)
     every-branch (quiet v) l = absurd (omega (arith, sign-small v))
@@ -101,7 +103,7 @@ module _ (p : Plan) (w : WellFormed p) where
           to (inl y) = y
           to (inr z) = absurd (covers-skip p w f v n z)
 
-    pub optional-branch : (c : Column) → firstOf covered ≤ indexOf c → indexOf c < firstOf must-inc
+    pub optional-branch : (c : Column) → firstWord covered ≤ indexOf c → indexOf c < firstWord must-inc
         → Fact p n f c ↔ ((b : ℕ) × Child p n b × Fact p b f c)
     optional-branch avoid m l = absurd (omega arith)
     optional-branch (quiet v) m l = absurd (omega (arith, sign-small v))

@@ -2,7 +2,7 @@
 use mathlib.Core.Path.{refl}
 use mathlib.Core.Bool.{true, false}
 use Prim.Native.Nat.{ℕ, _<_}
-use Rattle.base.specs.Bits.{Says}
+use Rattle.base.specs.Words.{Says}
 use Rattle.base.proofs.Says.{says-all}
 use Rattle.runs.specs.Plan.{Plan, Child}
 use Rattle.marks_row.specs.Columns.{Column, avoid, quiet, covered, may-pre, may-post, may-inc, requires, asserts}

@@ -7,14 +7,14 @@ use native.Mathlib.Decide.{ℕ-discrete, decLt}
 use native.Mathlib.Omega.{arith}
 use lib.ListN.{length, getD, set, length-set}
 use lib.Seq.{getD-set-same, getD-set-other}
-use Rattle.base.specs.Bits.{ones, Says}
+use Rattle.base.specs.Words.{ones, Says}
 use Rattle.base.proofs.Says.{says-map, says-eq, says-and, says-all, says-none}
 use Rattle.runs.specs.Plan.{all-of, any-of, optional, Plan}
 use Rattle.tables.specs.declared.Segment.{Segment}
 use Rattle.tables.specs.Segments.{Position}
 use Rattle.marks_row.specs.Columns.{Column, avoid, quiet, covered, may-pre, may-post, may-inc, requires, asserts}
 use Rattle.marks_row.specs.Columns.{posts, may-clobber, must-inc, must-clobber}
-use Rattle.marks_row.specs.Columns.{indexOf, firstOf, Fact, wordAt, Right, Row, RowIs}
+use Rattle.marks_row.specs.Columns.{indexOf, firstWord, Fact, wordAt, Right, Row, RowIs}
 use Rattle.marks_siblings.specs.Group.{Group}
 use Rattle.marks_group.specs.Groups.{Others, WithinRow, Merged, Unmerged, Joined}
 use Rattle.marks_group.specs.Empty.{withEmpty}
@@ -94,15 +94,15 @@ module _ {kids : List ℕ} {segment : Segment} {rows : List ℕ} {p : Plan} {n :
 
   -- the words of an any-of group, over all its children
   abbrev pub AnyWords : ℕ → List ℕ → Type 0
-  AnyWords i r = Joined (firstOf must-inc) 23 kids (segment .start) i (λ k f c. Fact p c f k) (λ k f c. Unit {0}) r
+  AnyWords i r = Joined (firstWord must-inc) 23 kids (segment .start) i (λ k f c. Fact p c f k) (λ k f c. Unit {0}) r
 
   pub any-row : p .tree .kind n ≡ any-of → {r : List ℕ} → AnyWords (segment .end) r → Row p n r
   any-row kn j = record {
-    says = λ k f l. by-cases (decLt (indexOf k) (firstOf must-inc))
+    says = λ k f l. by-cases (decLt (indexOf k) (firstWord must-inc))
         (λ s. says-map (Iff·trans (some-child (g .listed) (λ c hc. (λ x. x .0, λ x. (x, tt))))
         (Iff·symm (some-branch p (g .well-formed) kn f k s)))
         (j .some k (inl s) f l))
-        (λ ns. let s : firstOf must-inc ≤ indexOf k = omega (arith, ns) in
+        (λ ns. let s : firstWord must-inc ≤ indexOf k = omega (arith, ns) in
         says-map (Iff·trans (every-child (g .listed) (λ c hc. (λ x. x, λ x. x)))
         (Iff·symm (every-branch p (g .well-formed) kn f k s)))
         (j .every k s (index-small k) f l));
@@ -113,7 +113,7 @@ module _ {kids : List ℕ} {segment : Segment} {rows : List ℕ} {p : Plan} {n :
       → Row p n r
   optional-row kn {a} j e = record { says = λ k f l. says-eq (e .is k) (at k f l) }
     where
-      branch : (k : Column) → firstOf covered ≤ indexOf k → indexOf k < firstOf must-inc → (f : ℕ) → f < 64
+      branch : (k : Column) → firstWord covered ≤ indexOf k → indexOf k < firstWord must-inc → (f : ℕ) → f < 64
           → Says (getD a (indexOf k) 0) f (Fact p n f k)
       branch k m s f l = says-map (Iff·trans (some-child (g .listed) (λ c hc. (λ x. x .0, λ x. (x, tt))))
           (Iff·symm (optional-branch p (g .well-formed) kn f k m s)))
@@ -135,16 +135,16 @@ module _ {kids : List ℕ} {segment : Segment} {rows : List ℕ} {p : Plan} {n :
 
   -- the words of an all-of group, over all its children
   abbrev pub AllWords : ℕ → List ℕ → Type 0
-  AllWords i r = Joined (indexOf avoid) (firstOf covered) kids (segment .start) i (λ k f c. Fact p c f k)
+  AllWords i r = Joined (indexOf avoid) (firstWord covered) kids (segment .start) i (λ k f c. Fact p c f k)
       (λ k f c. Others p n c f k) r
 
   pub all-row : p .tree .kind n ≡ all-of → {r : List ℕ} → AllWords (segment .end) r → WithinRow p n r
   all-row kn j = record {
-    says = λ k f l. by-cases (decLt (indexOf k) (firstOf covered))
+    says = λ k f l. by-cases (decLt (indexOf k) (firstWord covered))
         (λ s. says-map (Iff·trans (every-child (g .listed) (λ c hc. (λ x. x, λ x. x)))
         (Iff·symm (every-part p (g .well-formed) (g .node) kn f k s)))
         (j .every k (omega arith) s f l))
-        (λ ns. let s : firstOf covered ≤ indexOf k = omega (arith, ns) in
+        (λ ns. let s : firstWord covered ≤ indexOf k = omega (arith, ns) in
         says-map (Iff·trans (some-child (g .listed) (λ c hc. (λ x. x, λ x. x)))
         (Iff·symm (some-part p (g .well-formed) (g .node) kn f k s)))
         (j .some k (inr s) f l));

@@ -2,7 +2,7 @@
 use mathlib.Core.List.{List}
 use Prim.Native.Nat.{ℕ}
 use lib.ListN.{getD}
-use Rattle.base.specs.Bits.{ones}
+use Rattle.base.specs.Words.{ones}
 use Rattle.marks_row.specs.Columns.{Column, avoid, quiet, covered, may-pre, may-post, may-inc, requires, asserts}
 use Rattle.marks_row.specs.Columns.{posts, may-clobber, must-inc, must-clobber, indexOf}
 

@@ -1,7 +1,7 @@
 -- What each column of a child of an all-of group is masked by. Definitions only.
 use mathlib.Core.Bool.{true, false}
 use Prim.Native.Nat.{ℕ}
-use Rattle.base.specs.Bits.{ones}
+use Rattle.base.specs.Words.{ones}
 use Rattle.marks_row.specs.Columns.{Column, avoid, quiet, covered, may-pre, may-post, may-inc, requires, asserts}
 use Rattle.marks_row.specs.Columns.{posts, may-clobber, must-inc, must-clobber}
 use Rattle.marks_siblings.specs.declared.Siblings.{Siblings}

@@ -8,7 +8,8 @@ use native.Mathlib.Decide.{ℕ-discrete}
 use native.Mathlib.Omega.{arith}
 use lib.Bits.{bitAnd, bitOr, bitXor}
 use lib.Dec.{T}
-use Rattle.base.specs.Bits.{bit, Says}
+use Rattle.base.specs.Bits.{bit}
+use Rattle.base.specs.Words.{Says}
 use Rattle.base.proofs.Says.{says-dec, says-self, says-and, says-or, says-less, no-flag}
 use Rattle.base.proofs.Words.{no-bits, less-add}
 use Rattle.runs.specs.Plan.{Plan, Child}
@@ -18,7 +19,7 @@ use Rattle.marks_between.specs.Passing.{SomePair, Pairing}
 use Rattle.marks_may_pairs.specs.declared.Found.{Found}
 use Rattle.marks_pair.specs.declared.Literals.{Literals}
 use Rattle.marks_pair.specs.Pairs.{Pair, signWord}
-use Rattle.marks_may_pairs.specs.Search.{Unclobbered, Stands, Search, AllPairs}
+use Rattle.marks_may_pairs.specs.Search.{Unclobbered, SearchedTo, Search, AllPairs}
 
 -- one literal word more, one less
 abbrev pub gained : Literals → Literals → Literals
@@ -43,7 +44,7 @@ lost-says a b true f = says-less {x = a .set} {y = b .set} refl (says-self _ f) 
 -- what no pair passed clobbers, when fewer literals are wanted
 fewer-wanted : {kids : List ℕ} {segment : Segment} {order rows : List ℕ} {i j : ℕ} (wanted left : Literals)
     → ((v : Bool) (f : ℕ) → T (bit (signWord left v) f) → T (bit (signWord wanted v) f))
-    → Stands kids segment order rows wanted i j → Stands kids segment order rows left i j
+    → SearchedTo kids segment order rows wanted i j → SearchedTo kids segment order rows left i j
 fewer-wanted wanted left e s = record {
   child = s .child;
   partner = s .partner;
@@ -59,7 +60,7 @@ module _ (kids : List ℕ) (segment : Segment) (order rows : List ℕ) (wanted :
     pub sound : (p : Plan) (n : ℕ) → Pairing kids segment order rows p n → (v : Bool) (f : ℕ) → f < 64
         → T (bit (signWord found v) f)
         → T (bit (signWord wanted v) f) × SomePair p n (Pair p n f v)
-    pub stands : Stands kids segment order rows left i j
+    pub stands : SearchedTo kids segment order rows left i j
 
   no-literal : (v : Bool) (f : ℕ) → ¬ T (bit (signWord (record { clear = 0; set = 0 }) v) f)
   no-literal false f t = no-flag 0 f refl t

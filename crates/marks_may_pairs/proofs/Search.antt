@@ -22,7 +22,7 @@ use Rattle.marks_between.proofs.Passed.{kid}
 use Rattle.marks_pair.specs.declared.Literals.{Literals}
 use Rattle.marks_pair.specs.Pairs.{Opposite, signWord, PairWords, NextPartner}
 use Rattle.marks_pair.proofs.Pairs.{pair-opposite}
-use Rattle.marks_may_pairs.specs.Search.{NoClobber, Stands, Search}
+use Rattle.marks_may_pairs.specs.Search.{NoClobber, SearchedTo, Search}
 
 word-zero : (r : Literals) → bitOr (r .clear) (r .set) ≡ 0 → (v : Bool) → signWord r v ≡ 0
 word-zero r e false = (or-zero (r .clear) (r .set) e) .0
@@ -32,10 +32,10 @@ next : {segment : Segment} {i : ℕ} → Position segment i → Reached segment 
 next at = record { low = omega (arith, at .low); high = omega (arith, at .high) }
 
 module _ {kids : List ℕ} {segment : Segment} {order rows : List ℕ} {wanted : Literals} {i j : ℕ}
-    (s : Stands kids segment order rows wanted i j) where
+    (s : SearchedTo kids segment order rows wanted i j) where
   -- the pairs with c that are passed over clobber no wanted literal
   pub goes-on : {k c : ℕ} → Position segment i → c ≡ getD kids i 0 → NextPartner rows wanted c j (segment .end) k
-      → Stands kids segment order rows wanted i k
+      → SearchedTo kids segment order rows wanted i k
   goes-on at e (inl q) = rw q s
   goes-on {k} {c} at e (inr h) = record {
     child = s .child;
@@ -59,7 +59,7 @@ module _ {kids : List ℕ} {segment : Segment} {order rows : List ℕ} {wanted :
 
   module _ {c : ℕ} {r : Literals} (at : Position segment i) (to : Position segment j) (e : c ≡ getD kids i 0)
       (w : PairWords kids segment order rows wanted c (getD kids j 0) r) where
-    pub partner-passed : bitOr (r .clear) (r .set) ≡ 0 → Stands kids segment order rows wanted i (j + 1)
+    pub partner-passed : bitOr (r .clear) (r .set) ≡ 0 → SearchedTo kids segment order rows wanted i (j + 1)
     partner-passed z = record {
       child = s .child;
       partner = next to;
@@ -85,7 +85,7 @@ module _ {kids : List ℕ} {segment : Segment} {order rows : List ℕ} {wanted :
 
   -- all partners of the child at i are passed: on to the next child, and the first partner
   pub child-passed : Position segment i → j ≡ segment .end
-      → Stands kids segment order rows wanted (i + 1) (segment .start)
+      → SearchedTo kids segment order rows wanted (i + 1) (segment .start)
   child-passed at z = record {
     child = next at;
     partner = record { low = omega arith; high = omega (arith, at .low, at .high) };

@@ -6,7 +6,8 @@ use Prim.Native.Nat.{ℕ, _<_}
 use lib.Bits.{bitOr}
 use lib.Dec.{T}
 use lib.ListN.{getD}
-use Rattle.base.specs.Bits.{bit, Says}
+use Rattle.base.specs.Bits.{bit}
+use Rattle.base.specs.Words.{Says}
 use Rattle.runs.specs.Plan.{Plan, Child}
 use Rattle.tables.specs.declared.Segment.{Segment}
 use Rattle.tables.specs.Segments.{Reached, Every}
@@ -24,7 +25,7 @@ Unclobbered p n wanted c = (d : ℕ) → Child p n d → NoClobber p n wanted c 
 
 -- The search stands at the child at position i and the partner at position j: no pair that it has passed clobbers a
 -- wanted literal. These are the pairs of the children before i, and those of the child at i with a partner before j.
-pub record Stands (kids : List ℕ) (segment : Segment) (order rows : List ℕ) (wanted : Literals) (i j : ℕ) : Type 0 where
+pub record SearchedTo (kids : List ℕ) (segment : Segment) (order rows : List ℕ) (wanted : Literals) (i j : ℕ) : Type 0 where
   pub child : Reached segment i
   pub partner : Reached segment j
   pub before : OfGroups kids segment order rows (λ p n. Every kids (segment .start) i (Unclobbered p n wanted))
@@ -38,7 +39,7 @@ pub record Search (kids : List ℕ) (segment : Segment) (order rows : List ℕ) 
   pub among : (v : Bool) (f : ℕ) → f < 64 → T (bit (signWord (r .literals) v) f) → T (bit (signWord wanted v) f)
   pub sound : OfGroups kids segment order rows
       (λ p n. (v : Bool) (f : ℕ) → f < 64 → T (bit (signWord (r .literals) v) f) → SomePair p n (Pair p n f v))
-  pub stands : Stands kids segment order rows wanted (r .child) (r .partner)
+  pub stands : SearchedTo kids segment order rows wanted (r .child) (r .partner)
   pub ended : bitOr (r .literals .clear) (r .literals .set) ≡ 0 → r .child ≡ segment .end
 
 -- the wanted literals that some pair clobbers

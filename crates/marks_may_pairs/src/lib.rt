@@ -1,7 +1,7 @@
 // The pairs of children of an all-of group that may clobber a literal: a search that ends as soon as a pair is found,
 // asked again for what is still wanted.
 ghost use Rattle.tables.specs.Segments.{AtSegment};
-ghost use Rattle.marks_may_pairs.specs.Search.{Stands, Search, AllPairs};
+ghost use Rattle.marks_may_pairs.specs.Search.{SearchedTo, Search, AllPairs};
 use base::wide;
 use marks_pair::Literals;
 use marks_pair::next_partner;
@@ -31,7 +31,7 @@ pub fn clobbering_pair(
     partner: usize,
 ) -> Found
     requires { ⌜ AtSegment (now kids) segment
-        × Stands (now kids) segment (now order) (now rows) wanted child partner ⌝ }
+        × SearchedTo (now kids) segment (now order) (now rows) wanted child partner ⌝ }
     ensures { λ r. ⌜ Search (now (kids .entry)) segment (now (order .entry)) (now (rows .entry)) wanted r ⌝ }
 {
     let mut found = Literals { clear: 0, set: 0 };

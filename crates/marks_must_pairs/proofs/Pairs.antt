@@ -8,7 +8,8 @@ use native.Mathlib.Omega.{arith}
 use lib.Bits.{bitAnd, bitOr, bitXor}
 use lib.Dec.{T}
 use lib.ListN.{getD}
-use Rattle.base.specs.Bits.{bit, ones, Says}
+use Rattle.base.specs.Bits.{bit}
+use Rattle.base.specs.Words.{ones, Says}
 use Rattle.base.proofs.Says.{says-map, says-dec, says-self, says-and, says-or, says-not, no-flag}
 use Rattle.runs.specs.Plan.{Plan, Child}
 use Rattle.runs.specs.Summary.{Must, ExternalPre, ExternalPost}

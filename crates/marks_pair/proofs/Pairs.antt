@@ -7,15 +7,18 @@ use Prim.Native.Nat.{ℕ, _+_, _-_, _<_}
 use native.Mathlib.Omega.{arith}
 use lib.Bits.{bitAnd, bitOr}
 use lib.Dec.{T}
-use Rattle.base.specs.Bits.{bit, Says}
+use Rattle.base.specs.Bits.{bit}
+use Rattle.base.specs.Words.{Says}
 use Rattle.base.proofs.Says.{says-map, says-self, says-and, says-or, no-flag}
 use Rattle.base.proofs.Words.{or-zero}
-use Rattle.runs.specs.Plan.{Plan, Child, Before, Unordered, WellFormed}
-use Rattle.runs.specs.Summary.{MayClobber, ClobberByPairs, in-child, unordered-pair, opposed-pair, passed-on}
+use Rattle.runs.specs.Plan.{Plan, Child, Before, Unordered}
+use Rattle.runs.specs.WellFormed.{WellFormed}
+use Rattle.runs.specs.Summary.{MayClobber}
+use Rattle.runs.specs.Pairs.{ClobberByPairs, in-child, unordered-pair, opposed-pair, passed-on}
 use Rattle.runs.proofs.Summary.External.{external-pre-with, external-post-with}
 use Rattle.tables.specs.declared.Segment.{Segment}
 use Rattle.tables.specs.Represents.{code}
-use Rattle.marks_row.specs.Columns.{may-pre, may-post, requires, asserts, posts, indexOf, firstOf, Fact, wordAt}
+use Rattle.marks_row.specs.Columns.{may-pre, may-post, requires, asserts, posts, indexOf, firstWord, Fact, wordAt}
 use Rattle.runs.proofs.Plan.Numbers.{opposite}
 use Rattle.marks_row.proofs.Rows.{read}
 use Rattle.marks_siblings.specs.Siblings.{Apart}
@@ -55,14 +58,14 @@ module _ {p : Plan} {n c d f : ℕ} {v : Bool} where
 -- a word for each place where `pair_word` returns
 module _ {kids : List ℕ} {segment : Segment} {order rows : List ℕ} {s c d : ℕ} (w x y : ℕ) where
   -- d stands before c: what d may leave, and c may require
-  module _ (q : code order d c ≡ 1) (ex : x ≡ wordAt rows d (firstOf may-post + (1 - s)))
-      (ey : y ≡ wordAt rows c (firstOf may-pre + s)) where
+  module _ (q : code order d c ≡ 1) (ex : x ≡ wordAt rows d (firstWord may-post + (1 - s)))
+      (ey : y ≡ wordAt rows c (firstWord may-pre + s)) where
     shared : OfGroups kids segment order rows (λ p n. Child p n c → Child p n d
         → SaysOf s (bitAnd x y) (λ f v. Fact p d f (may-post (not v)) × Fact p c f (may-pre v)))
     shared p n g hc hd v e f l = says-and {x = x} {y = y} refl
-        (read (g .group .children d hd) (may-post (not v)) (firstOf may-post + (1 - s)) x f
+        (read (g .group .children d hd) (may-post (not v)) (firstWord may-post + (1 - s)) x f
         (omega (arith, opposite v s e)) ex l)
-        (read (g .group .children c hc) (may-pre v) (firstOf may-pre + s) y f (omega (arith, e)) ey l)
+        (read (g .group .children c hc) (may-pre v) (firstWord may-pre + s) y f (omega (arith, e)) ey l)
 
     pub none-shared : bitAnd w (bitAnd x y) ≡ 0 → PairWord Pair kids segment order rows s w c d 0
     none-shared = pass-none w (bitAnd x y) false q (λ p n b f v. passed-pair b) shared
@@ -72,17 +75,17 @@ module _ {kids : List ℕ} {segment : Segment} {order rows : List ℕ} {s c d : 
     shared-passes = pass-some w (bitAnd x y) false q (λ p n b f v. passed-pair b) shared
 
   -- c and d are unordered: what c requires and d asserts, what both leave
-  pub apart-both : (a b : ℕ) → Apart order c d → x ≡ wordAt rows c (firstOf requires + s)
-      → y ≡ wordAt rows d (firstOf asserts + (1 - s)) → a ≡ wordAt rows c (firstOf posts + s)
-      → b ≡ wordAt rows d (firstOf posts + (1 - s))
+  pub apart-both : (a b : ℕ) → Apart order c d → x ≡ wordAt rows c (firstWord requires + s)
+      → y ≡ wordAt rows d (firstWord asserts + (1 - s)) → a ≡ wordAt rows c (firstWord posts + s)
+      → b ≡ wordAt rows d (firstWord posts + (1 - s))
       → PairWord Pair kids segment order rows s w c d (bitAnd w (bitOr (bitAnd x y) (bitAnd a b)))
   apart-both a b u ex ey ea eb = pair-of w (bitOr (bitAnd x y) (bitAnd a b))
       (λ p n g hc hd v e f l. let rc = g .group .children c hc in let rd = g .group .children d hd in
       says-map (apart-pair ((apart-is (g .orders) hc hd) .0 u)) (says-or {x = bitAnd x y} {y = bitAnd a b} refl
-      (says-and {x = x} {y = y} refl (read rc (requires v) (firstOf requires + s) x f (omega (arith, e)) ex l)
-      (read rd (asserts (not v)) (firstOf asserts + (1 - s)) y f (omega (arith, opposite v s e)) ey l))
-      (says-and {x = a} {y = b} refl (read rc (posts v) (firstOf posts + s) a f (omega (arith, e)) ea l)
-      (read rd (posts (not v)) (firstOf posts + (1 - s)) b f (omega (arith, opposite v s e)) eb l))))
+      (says-and {x = x} {y = y} refl (read rc (requires v) (firstWord requires + s) x f (omega (arith, e)) ex l)
+      (read rd (asserts (not v)) (firstWord asserts + (1 - s)) y f (omega (arith, opposite v s e)) ey l))
+      (says-and {x = a} {y = b} refl (read rc (posts v) (firstWord posts + s) a f (omega (arith, e)) ea l)
+      (read rd (posts (not v)) (firstWord posts + (1 - s)) b f (omega (arith, opposite v s e)) eb l))))
 
 pub neither-rule : {kids : List ℕ} {segment : Segment} {order rows : List ℕ} {s c d : ℕ} (w : ℕ)
     → ¬ (code order d c ≡ 1) → ¬ Apart order c d

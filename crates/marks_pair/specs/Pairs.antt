@@ -5,7 +5,8 @@ use mathlib.Core.Bool.{Bool, true, false, not}
 use mathlib.Core.List.{List}
 use Prim.Native.Nat.{ℕ, _<_}
 use lib.Dec.{T}
-use Rattle.base.specs.Bits.{bit, Says}
+use Rattle.base.specs.Bits.{bit}
+use Rattle.base.specs.Words.{Says}
 use Rattle.runs.specs.Plan.{Plan, Child, Before, Unordered}
 use Rattle.tables.specs.declared.Segment.{Segment}
 use Rattle.marks_row.specs.Columns.{may-pre, may-post, requires, asserts, posts, Fact, wordIn}

@@ -6,9 +6,10 @@ use mathlib.Core.List.{List}
 use Prim.Native.Nat.{ℕ, _+_, _-_, _<_}
 use native.Mathlib.Omega.{arith}
 use lib.Bits.{bitOr, bitXor}
-use Rattle.base.specs.Bits.{ones, Says}
+use Rattle.base.specs.Words.{ones, Says}
 use Rattle.base.proofs.Says.{says-map, says-neither}
-use Rattle.runs.specs.Plan.{Plan, Node, WellFormed, signNumber}
+use Rattle.runs.specs.Plan.{Plan, Node, signNumber}
+use Rattle.runs.specs.WellFormed.{WellFormed}
 use Rattle.runs.specs.Summary.{Must, ExternalPre, ExternalPost}
 use Rattle.runs.proofs.Summary.Preconditions.{must-pre-is}
 use Rattle.runs.proofs.Summary.Postconditions.{must-post-is}

@@ -9,7 +9,8 @@ use native.Mathlib.Omega.{arith}
 use lib.ListN.{length, getD, set}
 use lib.Seq.{getD-set-same, getD-set-other}
 use lib.Dec.{T}
-use Rattle.base.specs.Bits.{bit, Says}
+use Rattle.base.specs.Bits.{bit}
+use Rattle.base.specs.Words.{Says}
 use Rattle.base.proofs.Says.{says-eq}
 use Rattle.runs.specs.Plan.{Plan}
 use Rattle.marks_row.specs.Columns.{Column, avoid, quiet, covered, may-pre, may-post, may-inc, requires, asserts}

@@ -4,9 +4,10 @@ use mathlib.Core.Logic.{_⊎_, inl, inr, ⊎-elim, _↔_, Iff·trans, Iff·symm}
 use mathlib.Core.Bool.{Bool, true, false}
 use mathlib.Core.Option.{Option, none, some}
 use Prim.Native.Nat.{ℕ}
-use Rattle.runs.specs.Plan.{task, Place, pre, inc, post, Plan, itself, WellFormed}
+use Rattle.runs.specs.Plan.{task, Place, pre, inc, post, Plan, itself}
+use Rattle.runs.specs.WellFormed.{WellFormed}
 use Rattle.runs.specs.Execution.{start, finish, lastAssertedOf, lastAsserted}
-use Rattle.runs.specs.Summary.{TaskWith}
+use Rattle.runs.specs.Pairs.{TaskWith}
 use Rattle.runs.proofs.Reflect.{clash}
 use Rattle.runs.proofs.Execution.Final.{under-task}
 use Rattle.runs.specs.Classes.{Neutral, Covers}

@@ -8,7 +8,7 @@ use Prim.Native.Nat.{ℕ, _+_, _*_, _<_}
 use native.Mathlib.Omega.{arith}
 use lib.Bits.{bitAnd, bitOr, bitXor}
 use lib.ListN.{getD}
-use Rattle.base.specs.Bits.{ones, Says}
+use Rattle.base.specs.Words.{ones, Says}
 use Rattle.base.proofs.Says.{says-map, says-eq, says-or, says-less, says-neither, says-none}
 use Rattle.runs.specs.Plan.{Place, pre, inc, post, Plan, placeNumber, signNumber}
 use Rattle.runs.proofs.Summary.Clobber.{clobber-task}
@@ -17,7 +17,7 @@ use Rattle.marks_row.specs.declared.SignWords.{SignWords}
 use Rattle.marks_row.specs.Columns.{Column, avoid, quiet, covered, may-pre, may-post, may-inc, requires, asserts}
 use Rattle.marks_row.specs.Columns.{posts, may-clobber, must-inc, must-clobber}
 use Rattle.marks_row.specs.Columns.{Fact, Row}
-use Rattle.marks_row.specs.Tasks.{Task, WordsOfSign}
+use Rattle.marks_row.specs.Tasks.{AtTask, WordsOfSign}
 use Rattle.marks_row.proofs.Rows.{rowOf, row-of}
 use Rattle.marks_row.proofs.Task.{no-sign, a-sign, avoid-task, quiet-is, covered-is, may-pre-is, may-post-is}
 use Rattle.marks_row.proofs.Task.{may-inc-is, must-inc-is, with-is, posts-is}
@@ -42,7 +42,7 @@ taskWord x w (may-clobber v) = 0
 taskWord x w (must-inc v) = w v .inc
 taskWord x w (must-clobber v) = 0
 
-module _ {conds : List ℕ} {n : ℕ} {p : Plan} (t : Task conds n p) where
+module _ {conds : List ℕ} {n : ℕ} {p : Plan} (t : AtTask conds n p) where
   -- a word read from the table of conditions
   word : (k : Place) (v : Bool) (i x f : ℕ) → i ≡ 2 * placeNumber k + signNumber v → x ≡ getD conds (n * 6 + i) 0
       → f < 64 → Says x f (p .conditions .sign k n f ≡ some v)

@@ -5,11 +5,12 @@ use mathlib.Core.Option.{none}
 use mathlib.Core.List.{List}
 use Prim.Native.Nat.{ℕ, _+_, _*_, _<_}
 use lib.ListN.{length, getD}
-use Rattle.base.specs.Bits.{Says}
+use Rattle.base.specs.Words.{Says}
 use Rattle.tables.specs.Sizes.{NODES}
 use Rattle.runs.specs.Plan.{pre, inc, post, Plan, signNumber}
 use Rattle.runs.specs.Execution.{lastAsserted}
-use Rattle.runs.specs.Summary.{May, Must, ExternalPre, ExternalPost, Incondition, MayClobber, TaskWith, MustClobber}
+use Rattle.runs.specs.Summary.{May, Must, ExternalPre, ExternalPost, Incondition, MayClobber, MustClobber}
+use Rattle.runs.specs.Pairs.{TaskWith}
 use Rattle.runs.specs.Classes.{Neutral, Covers, MayQuiet, MayMeet}
 
 -- Each but the first is for a sign. `requires`: some task has the literal as pre- or incondition; `asserts`: as in- or
@@ -41,8 +42,8 @@ indexOf (must-inc v) = 19 + signNumber v
 indexOf (must-clobber v) = 21 + signNumber v
 
 -- the first word of a column that has one for each sign
-abbrev pub firstOf : (Bool → Column) → ℕ
-firstOf k = indexOf (k false)
+abbrev pub firstWord : (Bool → Column) → ℕ
+firstWord k = indexOf (k false)
 
 -- what a column says of node n and flag f. (Must precondition is 'neither quiet nor covered', must postcondition
 -- 'neither avoid nor may post of the opposite': the theory's must-pre-is and must-post-is.)

@@ -3,8 +3,9 @@ use mathlib.Core.Path.{_≡_}
 use mathlib.Core.Bool.{Bool}
 use mathlib.Core.List.{List}
 use Prim.Native.Nat.{ℕ, _<_}
-use Rattle.base.specs.Bits.{Says}
-use Rattle.runs.specs.Plan.{Plan, Node, WellFormed, signNumber}
+use Rattle.base.specs.Words.{Says}
+use Rattle.runs.specs.Plan.{Plan, Node, signNumber}
+use Rattle.runs.specs.WellFormed.{WellFormed}
 use Rattle.runs.specs.Summary.{Must, ExternalPre, ExternalPost}
 use Rattle.marks_row.specs.Columns.{Right}
 

@@ -3,14 +3,15 @@ use mathlib.Core.Path.{_≡_}
 use mathlib.Core.Bool.{Bool}
 use mathlib.Core.List.{List}
 use Prim.Native.Nat.{ℕ, _<_}
-use Rattle.base.specs.Bits.{Says}
-use Rattle.runs.specs.Plan.{task, Plan, Node, WellFormed}
+use Rattle.base.specs.Words.{Says}
+use Rattle.runs.specs.Plan.{task, Plan, Node}
+use Rattle.runs.specs.WellFormed.{WellFormed}
 use Rattle.marks_row.specs.declared.SignWords.{SignWords}
 use Rattle.tables.specs.Represents.{RepresentsConditions}
 use Rattle.marks_row.specs.Columns.{quiet, covered, may-pre, may-post, may-inc, requires, asserts, Fact}
 
 -- what is known of a task whose words are worked out
-pub record Task (conds : List ℕ) (n : ℕ) (p : Plan) : Type 0 where
+pub record AtTask (conds : List ℕ) (n : ℕ) (p : Plan) : Type 0 where
   pub well-formed : WellFormed p
   pub conditions : RepresentsConditions conds p
   pub node : Node p n

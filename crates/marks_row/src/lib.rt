@@ -7,11 +7,11 @@ ghost use mathlib.Core.Bool.{Bool};
 ghost use Prim.Native.Nat.{_+_, _*_, _<_};
 ghost use lib.Bits.{bitOr, bitXor};
 ghost use lib.ListN.{length, getD};
-ghost use Rattle.base.specs.Bits.{ones};
+ghost use Rattle.base.specs.Words.{ones};
 ghost use Rattle.runs.specs.Plan.{Plan, signNumber};
 ghost use Rattle.tables.specs.Sizes.{NODES, WORDS};
 ghost use Rattle.marks_row.specs.Columns.{COLUMNS, ROWS, wordAt, Row, Written};
-ghost use Rattle.marks_row.specs.Tasks.{Task, WordsOfSign};
+ghost use Rattle.marks_row.specs.Tasks.{AtTask, WordsOfSign};
 ghost use Rattle.marks_row.specs.Musts.{MustPreWord, MustPostWord};
 use base::ALL;
 use columns::AVOID;
@@ -53,7 +53,7 @@ fn condition_word(conds: &Conditions, node: usize, at: usize) -> u64
 // A task has one execution, so its facts are read off its conditions. An incondition's flag has a postcondition too.
 fn words_of_sign(conds: &Conditions, node: usize, sign: usize) -> SignWords
     requires { ⌜ (node < NODES) × (sign < 2) ⌝ }
-    ensures { λ r. ⌜ ((p : Plan) → Task (now (conds .entry)) node p → (v : Bool) → sign ≡ signNumber v
+    ensures { λ r. ⌜ ((p : Plan) → AtTask (now (conds .entry)) node p → (v : Bool) → sign ≡ signNumber v
         → WordsOfSign p node v r) ⌝ }
 {
     let pre = condition_word(conds, node, sign);
@@ -75,7 +75,7 @@ fn words_of_sign(conds: &Conditions, node: usize, sign: usize) -> SignWords
 // The row of a task.
 pub fn task_words(conds: &Conditions, node: usize) -> Words
     requires { ⌜ node < NODES ⌝ }
-    ensures { λ r. ⌜ ((p : Plan) → Task (now (conds .entry)) node p → Row p node r) ⌝ }
+    ensures { λ r. ⌜ ((p : Plan) → AtTask (now (conds .entry)) node p → Row p node r) ⌝ }
 {
     let asserted = condition_word(conds, node, 4) | condition_word(conds, node, 5);
     let clear = words_of_sign(conds, node, 0);

@@ -9,12 +9,14 @@ use native.Mathlib.Omega.{arith}
 use lib.Bits.{bitAnd, bitOr, bitXor}
 use lib.Dec.{T, eqb}
 use lib.ListN.{getD}
-use Rattle.base.specs.Bits.{bit, ones, Says}
+use Rattle.base.specs.Bits.{bit}
+use Rattle.base.specs.Words.{ones, Says}
 use Rattle.base.proofs.Tests.{unequal}
 use Rattle.base.proofs.Says.{says-map, says-eq, says-self, says-and, says-neither}
 use Rattle.runs.specs.Plan.{task, inc, post, Plan, Child, Before, Under, Unordered}
 use Rattle.runs.specs.Execution.{Event, start, finish, skip, nodeOf, asserts as signOf}
-use Rattle.runs.specs.Summary.{TaskWith, Silent}
+use Rattle.runs.specs.Summary.{Silent}
+use Rattle.runs.specs.Pairs.{TaskWith}
 use Rattle.runs.proofs.Reflect.{clash}
 use Rattle.marks_siblings.specs.declared.Siblings.{Siblings}
 use Rattle.tables.specs.declared.Segment.{Segment}
@@ -22,7 +24,7 @@ use Rattle.tables.specs.Represents.{code, RepresentsOrder}
 use Rattle.marks_row.specs.Columns.{avoid, quiet, asserts, Fact, wordIn, Right}
 use Rattle.tables.specs.Segments.{Every}
 use Rattle.marks_siblings.specs.Group.{Group}
-use Rattle.marks_siblings.specs.Siblings.{Apart, Narrows, Limits, SiblingWords}
+use Rattle.marks_siblings.specs.Siblings.{Apart, Narrows, Narrowed, SiblingWords}
 use Rattle.marks_row.proofs.Rows.{cell}
 use Rattle.tables.proofs.Segments.{every-next, every-none, every-child}
 
@@ -135,7 +137,7 @@ narrows-more q l m e h f k = says-map (
 module _ {kids : List ℕ} {segment : Segment} {order rows : List ℕ} {p : Plan} {n c : ℕ}
     (g : Group kids segment rows p n) (o : RepresentsOrder order p) (hc : Child p n c) where
   module _ {lo i : ℕ} (l : lo ≤ i) where
-    pub with-sibling : {b : ℕ} → b ≡ getD kids i 0 → Child p n b → {s r : Siblings} → Limits order rows c b s r
+    pub with-sibling : {b : ℕ} → b ≡ getD kids i 0 → Child p n b → {s r : Siblings} → Narrowed order rows c b s r
         → SiblingWords p c (Every kids lo i) s
         → SiblingWords p c (Every kids lo (i + 1)) r
     with-sibling {b} e hb m h = record {

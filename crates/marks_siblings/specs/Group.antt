@@ -1,7 +1,8 @@
 -- What is known of a group n whose words are worked out from the rows of its children. Definitions only.
 use mathlib.Core.List.{List}
 use Prim.Native.Nat.{ℕ}
-use Rattle.runs.specs.Plan.{Plan, Node, Child, WellFormed}
+use Rattle.runs.specs.Plan.{Plan, Node, Child}
+use Rattle.runs.specs.WellFormed.{WellFormed}
 use Rattle.tables.specs.declared.Segment.{Segment}
 use Rattle.tables.specs.Segments.{ChildrenOf}
 use Rattle.marks_row.specs.Columns.{Right}

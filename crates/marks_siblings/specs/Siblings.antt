@@ -5,7 +5,8 @@ use mathlib.Core.Bool.{true, false}
 use mathlib.Core.List.{List}
 use Prim.Native.Nat.{ℕ, _<_}
 use lib.Dec.{T}
-use Rattle.base.specs.Bits.{bit, Says}
+use Rattle.base.specs.Bits.{bit}
+use Rattle.base.specs.Words.{Says}
 use Rattle.runs.specs.Plan.{Plan, Child, Before, Unordered}
 use Rattle.runs.specs.Summary.{Silent}
 use Rattle.marks_siblings.specs.declared.Siblings.{Siblings}
@@ -25,7 +26,7 @@ pub record Narrows (w r : ℕ) (C : Type 0) (A : ℕ → Type 0) : Type 0 where
   pub says : (f : ℕ) → f < 64 → Says r f (T (bit w f) × (C → A f))
 
 -- the words r are the words s with one sibling more
-pub record Limits (order rows : List ℕ) (child sibling : ℕ) (s r : Siblings) : Type 0 where
+pub record Narrowed (order rows : List ℕ) (child sibling : ℕ) (s r : Siblings) : Type 0 where
   pub avoid-before : Narrows (s .«avoid_before») (r .«avoid_before») (code order sibling child ≡ beforeCode)
       (λ f. T (bit (wordIn rows sibling avoid) f))
   pub clear-before : Narrows (s .«clear_before») (r .«clear_before») (code order sibling child ≡ beforeCode)

@@ -5,7 +5,7 @@ ghost use lib.Dec.{T};
 ghost use Rattle.base.specs.Bits.{bit};
 ghost use Rattle.tables.specs.Segments.{AtSegment};
 ghost use Rattle.tables.specs.Sizes.{NODES};
-ghost use Rattle.marks_siblings.specs.Siblings.{Apart, Narrows, Limits, SiblingsOf};
+ghost use Rattle.marks_siblings.specs.Siblings.{Apart, Narrows, Narrowed, SiblingsOf};
 use base::ALL;
 use base::wide;
 use marks_row::Rows;
@@ -58,7 +58,7 @@ pub fn narrowed(word: u64, applies: bool, by: u64) -> u64
 
 fn with_sibling(order: &Orders, rows: &Rows, child: usize, sibling: usize, s: Siblings) -> Siblings
     requires { ⌜ (child < NODES) × (sibling < NODES) ⌝ }
-    ensures { λ r. ⌜ Limits (now (order .entry)) (now (rows .entry)) child sibling s r ⌝ }
+    ensures { λ r. ⌜ Narrowed (now (order .entry)) (now (rows .entry)) child sibling s r ⌝ }
 {
     let stands = order[sibling * NODES + child];
     if stands == BEFORE {

@@ -7,7 +7,8 @@ use native.Mathlib.Decide.{ℕ-discrete}
 use native.Mathlib.Omega.{arith}
 use lib.ListN.{length, getD}
 use Rattle.base.proofs.Says.{says-eq}
-use Rattle.runs.specs.Plan.{Kind, task, all-of, any-of, optional, Picks, Plan, Node, itself, WellFormed, kindNumber}
+use Rattle.runs.specs.Plan.{Kind, task, all-of, any-of, optional, Picks, Plan, Node, itself, kindNumber}
+use Rattle.runs.specs.WellFormed.{WellFormed}
 use Rattle.runs.proofs.Plan.Trees.{under-root}
 use Rattle.runs.proofs.Plan.Numbers.{kind-inj}
 use Rattle.runs.proofs.Execution.Final.{under-task}
@@ -15,7 +16,7 @@ use Rattle.tables.specs.declared.Segment.{Segment}
 use Rattle.tables.specs.Segments.{segmentOf, Position}
 use Rattle.tables.specs.Represents.{RepresentsKinds, RepresentsConditions, Represents}
 use Rattle.marks_row.specs.Columns.{indexOf, Right, Row, Written}
-use Rattle.marks_row.specs.Tasks.{Task}
+use Rattle.marks_row.specs.Tasks.{AtTask}
 use Rattle.marks_siblings.specs.Group.{Group}
 use Rattle.marks_row.proofs.Rows.{index-small, written-right, written-keeps}
 use Rattle.tables.proofs.Segments.{has-children, listed, every-child}
@@ -123,7 +124,7 @@ module _ {kind conds rows : List ℕ} where
 
   pub task-more : {i : ℕ} {rows′ rows″ words : List ℕ} → rows″ ≡ rows′ → TasksFilled kind conds rows i
       → Written rows rows′ i words
-      → ((p : Plan) → Task conds i p → Row p i words) → TasksFilled kind conds rows″ (i + 1)
+      → ((p : Plan) → AtTask conds i p → Row p i words) → TasksFilled kind conds rows″ (i + 1)
   task-more {i} {rows′} e h x r =
       rw e (record { long = x .long; right = λ p w k c t l n q. at p w k c t l n q (ℕ-discrete t i) })
     where

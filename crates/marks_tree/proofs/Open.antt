@@ -6,10 +6,11 @@ use mathlib.Core.List.{List}
 use Prim.Native.Nat.{ℕ, _<_}
 use lib.Bits.{bitAnd, bitOr, bitXor}
 use lib.ListN.{getD}
-use Rattle.base.specs.Bits.{Says}
+use Rattle.base.specs.Words.{Says}
 use Rattle.base.proofs.Says.{says-map, says-and, says-or, says-less}
-use Rattle.runs.specs.Plan.{task, all-of, Place, Plan, Child, WellFormed}
-use Rattle.runs.specs.Summary.{TaskWith}
+use Rattle.runs.specs.Plan.{task, all-of, Place, Plan, Child}
+use Rattle.runs.specs.WellFormed.{WellFormed}
+use Rattle.runs.specs.Pairs.{TaskWith}
 use Rattle.runs.proofs.Reflect.{clash}
 use Rattle.marks_row.specs.Columns.{Column, requires, asserts, posts, may-clobber, indexOf, Fact}
 use Rattle.marks_group.specs.Groups.{Within, WithinRow}

@@ -6,7 +6,7 @@ use mathlib.Core.List.{List}
 use Prim.Native.Nat.{ℕ, _<_}
 use lib.Bits.{bitOr}
 use lib.ListN.{getD}
-use Rattle.base.specs.Bits.{Says}
+use Rattle.base.specs.Words.{Says}
 use Rattle.runs.specs.Plan.{all-of, Plan}
 use Rattle.tables.specs.declared.Segment.{Segment}
 use Rattle.marks_row.specs.Columns.{Column, avoid, quiet, covered, may-pre, may-post, may-inc, requires, asserts}

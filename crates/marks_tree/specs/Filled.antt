@@ -3,7 +3,8 @@ use mathlib.Core.Path.{_≡_}
 use mathlib.Core.List.{List}
 use Prim.Native.Nat.{ℕ, _<_}
 use lib.ListN.{length}
-use Rattle.runs.specs.Plan.{Kind, task, Plan, Node, WellFormed}
+use Rattle.runs.specs.Plan.{Kind, task, Plan, Node}
+use Rattle.runs.specs.WellFormed.{WellFormed}
 use Rattle.tables.specs.Represents.{RepresentsKinds, RepresentsTree, RepresentsOrder, RepresentsConditions, Represents}
 use Rattle.marks_row.specs.Columns.{Right, ROWS}
 use Rattle.tables.specs.declared.Segment.{Segment}

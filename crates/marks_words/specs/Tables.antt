@@ -1,7 +1,8 @@
 -- The marks of a node, as words, of every plan that tables represent. Definitions only.
 use mathlib.Core.List.{List}
 use Prim.Native.Nat.{ℕ}
-use Rattle.runs.specs.Plan.{Plan, Node, WellFormed}
+use Rattle.runs.specs.Plan.{Plan, Node}
+use Rattle.runs.specs.WellFormed.{WellFormed}
 use Rattle.tables.specs.Represents.{Represents}
 use Rattle.marks_words.specs.Words.{MarkWords}
 

@@ -5,12 +5,13 @@ use mathlib.Core.Bool.{Bool, true}
 use mathlib.Core.List.{List, [], _∷_}
 use Prim.Native.Nat.{ℕ, _+_, _*_, _<_}
 use lib.ListN.{getD}
-use Rattle.base.specs.Bits.{Says}
-use Rattle.runs.specs.Plan.{Plan, Node, WellFormed, signNumber}
+use Rattle.base.specs.Words.{Says}
+use Rattle.runs.specs.Plan.{Plan, Node, signNumber}
+use Rattle.runs.specs.WellFormed.{WellFormed}
 use Rattle.runs.specs.Summary.{Mark, byteOf, Marked}
 use Rattle.runs.specs.Verdict.{Fails}
 use Rattle.marks_row.specs.Columns as columns
-use Rattle.marks_row.specs.Columns.{firstOf, Right}
+use Rattle.marks_row.specs.Columns.{firstWord, Right}
 
 -- the word of a sign and a mark
 abbrev pub wordIndex : Bool → Mark → ℕ
@@ -18,8 +19,8 @@ wordIndex v m = byteOf m + 8 * signNumber v
 
 -- the first word, in a node's row, of the column of each mark; must precondition and must postcondition have no column
 abbrev pub firstWords : List ℕ
-firstWords = firstOf columns.may-pre ∷ 0 ∷ firstOf columns.may-post ∷ 0 ∷ firstOf columns.may-inc ∷ firstOf
-    columns.must-inc ∷ firstOf columns.may-clobber ∷ firstOf columns.must-clobber ∷ []
+firstWords = firstWord columns.may-pre ∷ 0 ∷ firstWord columns.may-post ∷ 0 ∷ firstWord columns.may-inc ∷ firstWord
+    columns.must-inc ∷ firstWord columns.may-clobber ∷ firstWord columns.must-clobber ∷ []
 
 -- sixteen words say the marks of n
 pub record MarkWords (p : Plan) (n : ℕ) (words : List ℕ) : Type 0 where

@@ -10,7 +10,8 @@ use native.Mathlib.Numerals.{add-one}
 use lib.ListN.{length, getD, drop}
 use lib.Seq.{drop-cons}
 use borrow.Author.Tests.{lt-ltb, le-ltb}
-use Rattle.runs.specs.Tests.{either, both, anyIn}
+use Rattle.runs.specs.Tests.{both}
+use Rattle.runs.specs.Searches.{either, anyIn}
 use Rattle.runs.specs.Model.Monitor.{risingB}
 
 pub drop-none : (l : List ℕ) → drop (length l) l ≡ []

@@ -1,5 +1,5 @@
 -- Sets of nodes: those of a list, those marked in a table. Assumes nothing.
-use mathlib.Core.Path.{_≡_, refl, sym, _∙_, fun-ext}
+use mathlib.Core.Path.{_≡_, refl, _∙_, fun-ext}
 use mathlib.Core.Logic.{by-cases}
 use mathlib.Core.Bool.{Bool, true, false}
 use mathlib.Core.List.{List, [], _∷_, List·Memᴰ as Among, List·Memᴰ·not-nil as among-none}
@@ -11,7 +11,7 @@ use lib.Seq.{getD-set-same, getD-set-other}
 use lib.Dec.{eqb}
 use borrow.Author.Tests.{eq-eqb, ne-eqb}
 use Rattle.base.specs.Zeros.{Zeros}
-use Rattle.runs.specs.Tests.{either, anyIn, listed}
+use Rattle.runs.specs.Searches.{either, anyIn, listed}
 use Rattle.runs.proofs.Reflect.{true-T, T-true}
 use Rattle.runs.proofs.Calls.Listed.{r-listed}
 use Rattle.node_sets.specs.Sets.{marked}

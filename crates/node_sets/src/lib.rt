@@ -2,7 +2,7 @@
 use tables::no_nodes;
 ghost use mathlib.Core.Path.{_≡_};
 ghost use Prim.Native.Nat.{_<_};
-ghost use Rattle.runs.specs.Tests.{listed};
+ghost use Rattle.runs.specs.Searches.{listed};
 ghost use Rattle.runs.specs.Model.Monitor.{risingB};
 ghost use Rattle.node_sets.specs.Sets.{marked, AllMarked, Each};
 ghost use Rattle.node_sets.specs.One.{only};

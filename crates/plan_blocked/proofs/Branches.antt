@@ -1,28 +1,30 @@
 -- 29: groups with a child that stands, and any-of groups without one. Assumes nothing.
 use mathlib.Core.Path.{_≡_, refl, sym, ap, _∙_}
-use mathlib.Core.Bool.{Bool, true, false, not, _&&_}
+use mathlib.Core.Bool.{Bool, true, false, _&&_}
 unfoldable use mathlib.Core.Bool.{decide}
 use mathlib.Core.List.{List, List·Memᴰ as Among}
 use Prim.Native.Nat.{ℕ, zero, suc, _+_, _<_, _≤_}
 use native.Mathlib.Omega.{arith}
 use native.Mathlib.Numerals.{add-one}
-use lib.ListN.{length, getD, set, length-set}
-use lib.Dec.{eqb, ltb}
-use borrow.Author.Tests.{lt-ltb, ne-eqb}
+use lib.ListN.{length, set, length-set}
+use lib.Dec.{eqb}
+use borrow.Author.Tests.{lt-ltb}
 use Rattle.base.specs.Zeros.{Zeros}
 use Rattle.node_sets.specs.Sets.{marked, Each}
 use Rattle.node_sets.proofs.Sets.{marked-none, marked-more}
 use Rattle.plan_format.specs.Format.{nodeCount, parentOf, kindOf, isKind}
 use Rattle.plan_rules.specs.Rules.{refusal}
-use Rattle.runs.proofs.Searches.{some-same}
 use Rattle.plan_check.specs.Meaning.{kindAt, planOf}
 use Rattle.plan_check.proofs.Accepted.{clean}
 use Rattle.plan_check.proofs.Meaning.{kind-limit, means-well-formed}
-use Rattle.runs.specs.Tests.{both, either, negate, anyBelow, anyIn, listed}
-use Rattle.runs.specs.Plan.{any-of, Kind-discrete, Plan, Child, WellFormed}
+use Rattle.runs.specs.Tests.{both, negate}
+use Rattle.runs.specs.Searches.{either, anyBelow, anyIn, listed}
+use Rattle.runs.specs.Plan.{any-of, Plan, Child}
+use Rattle.runs.specs.WellFormed.{WellFormed}
 use Rattle.runs.specs.Calls.{SomeOf}
 use Rattle.runs.specs.Model.Trees.{kindB, childB, someChildB}
-use Rattle.runs.specs.Blocked.{Stands, stands, Refused29, no-branch, refused29B}
+use Rattle.runs.specs.Blocked.{Stands, Refused29, no-branch}
+use Rattle.runs.specs.Model.Blocked.{stands, refused29B}
 use Rattle.runs.proofs.Reflect.{Reflects, same-test, force, r-map, r-eq, r-both, r-negate}
 use Rattle.runs.proofs.Plan.Reflect.{r-kind, r-some-child}
 use Rattle.runs.proofs.Calls.Listed.{r-some-of, r-listed, any-same, decAmong}

@@ -1,23 +1,22 @@
 -- 28: numbers that are not those of branches. Assumes nothing.
-use mathlib.Core.Path.{_≡_, refl, sym, ap, _∙_}
-use mathlib.Core.Logic.{_⊎_, inl, inr, ⊎-elim}
-use mathlib.Core.Bool.{Bool, true, false, not, cond, _||_}
+use mathlib.Core.Path.{_≡_, refl, sym, ap}
+use mathlib.Core.Bool.{Bool, true, false, not, _||_}
 use mathlib.Core.List.{List}
 use Prim.Native.Nat.{ℕ, zero, suc, _<_, _≤_}
 use native.Mathlib.Omega.{arith}
-use lib.Dec.{eqb, ltb, leb}
+use lib.Dec.{eqb}
 use borrow.Author.Tests.{eq-eqb, ne-eqb, lt-ltb, le-ltb}
 use Rattle.plan_format.specs.Format.{nodeCount, kindOf, parentOf, isKind}
 use Rattle.plan_rules.specs.Rules.{refusal}
 use Rattle.plan_rules.proofs.Causes.{parent-group}
-use Rattle.base.proofs.Booleans.{or-split}
 use Rattle.plan_check.specs.Meaning.{kindAt, planOf}
 use Rattle.plan_check.proofs.Accepted.{clean}
 use Rattle.plan_check.proofs.Meaning.{kind-limit}
-use Rattle.runs.specs.Tests.{either, negate, anyIn}
+use Rattle.runs.specs.Tests.{negate}
+use Rattle.runs.specs.Searches.{either, anyIn}
 use Rattle.runs.specs.Model.Trees.{picksB}
 use Rattle.runs.specs.Model.Monitor.{risingB}
-use Rattle.runs.specs.Blocked.{unblockableB, refused28B}
+use Rattle.runs.specs.Model.Blocked.{unblockableB, refused28B}
 
 either-yes : (x : Bool) → either x (λ u. true) ≡ true
 unfolding either

@@ -1,13 +1,12 @@
 -- The refusals of plan and list, one after another. Assumes nothing.
-use mathlib.Core.Path.{_≡_, refl, sym, ap, _∙_}
-use mathlib.Core.Bool.{true, false, cond, true≢false}
+use mathlib.Core.Path.{_≡_, refl, sym, _∙_}
+use mathlib.Core.Bool.{true, false, true≢false}
 use mathlib.Core.List.{List, [], _∷_}
 use Prim.Native.Nat.{ℕ, _<_}
 use native.Mathlib.Omega.{arith}
 use lib.ListN.{length}
-use Rattle.base.specs.Answers.{first}
 use Rattle.base.proofs.First.{first-none, first-some, both-none}
-use Rattle.node_sets.specs.Sets.{marked, AllMarked, Each}
+use Rattle.node_sets.specs.Sets.{AllMarked, Each}
 use Rattle.plan_format.specs.Format.{nodeCount}
 use Rattle.plan_rules.specs.Rules.{refusal}
 use Rattle.base.proofs.Booleans.{not-passed}
@@ -15,10 +14,12 @@ use Rattle.plan_check.specs.Meaning.{planOf}
 use Rattle.plan_check.proofs.Accepted.{clean}
 use Rattle.plan_check.proofs.Meaning.{means-well-formed}
 use Rattle.plan_check.proofs.Nodes.{node-is}
-use Rattle.runs.specs.Tests.{listed}
-use Rattle.runs.specs.Plan.{WellFormed, Node}
+use Rattle.runs.specs.Searches.{listed}
+use Rattle.runs.specs.WellFormed.{WellFormed}
 use Rattle.runs.specs.Calls.{Rising}
-use Rattle.runs.specs.Blocked.{stands, without, Blocks, Refused28, names-root, no-node, refused28B, refused29B, blockedRefusal}
+use Rattle.runs.specs.Blocked.{Refused28, names-root, no-node}
+use Rattle.runs.specs.Branches.{Blocks}
+use Rattle.runs.specs.Model.Blocked.{refused28B, refused29B, blockedRefusal}
 use Rattle.runs.proofs.Reflect.{force, decided, r-T, r-lt, true-T, T-true}
 use Rattle.runs.proofs.Calls.Listed.{r-listed}
 use Rattle.runs.proofs.Blocked.Branches.{r-28, refusal-none, nothing-refused, blocked-well-formed, without-none}

@@ -8,8 +8,7 @@ use native.Mathlib.Decide.{ℕ-discrete}
 use native.Mathlib.Omega.{arith}
 use lib.ListN.{length, getD, set, length-set}
 use lib.Seq.{getD-set-same, getD-set-other}
-use lib.Dec.{T, eqb}
-use Rattle.base.specs.Zeros.{Zeros}
+use lib.Dec.{T}
 use Rattle.node_sets.specs.Sets.{marked, AllMarked}
 use Rattle.plan_format.specs.Format.{nodeCount, parentOf}
 use Rattle.plan_rules.specs.Rules.{refusal}
@@ -18,10 +17,9 @@ use Rattle.plan_check.specs.Meaning.{planOf}
 use Rattle.plan_check.proofs.Accepted.{clean}
 use Rattle.plan_check.proofs.Meaning.{means-well-formed}
 use Rattle.plan_check.proofs.Nodes.{is-node}
-use Rattle.runs.specs.Tests.{both, negate, listed}
-use Rattle.runs.specs.Plan.{Node, WellFormed}
-use Rattle.runs.specs.Blocked.{stands}
-use Rattle.runs.proofs.Reflect.{T-true, true-T}
+use Rattle.runs.specs.Tests.{both, negate}
+use Rattle.runs.specs.Searches.{listed}
+use Rattle.runs.specs.Model.Blocked.{stands}
 use Rattle.runs.proofs.Blocked.Standing.{root-standing, child-standing}
 use Rattle.runs.proofs.Blocked.Branches.{all-standing}
 use Rattle.plan_blocked.specs.Inner.{Standing}

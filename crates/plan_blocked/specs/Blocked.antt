@@ -5,9 +5,9 @@ use Prim.Native.Nat.{ℕ}
 use Rattle.base.specs.Answers.{first}
 use Rattle.plan_rules.specs.Rules.{refusal}
 use Rattle.plan_check.specs.Meaning.{planOf}
-use Rattle.runs.specs.Tests.{listed}
+use Rattle.runs.specs.Searches.{listed}
 use Rattle.runs.specs.Plan.{Plan}
-use Rattle.runs.specs.Blocked.{without, blockedRefusal}
+use Rattle.runs.specs.Model.Blocked.{without, blockedRefusal}
 
 -- what is left of the plan without the blocked nodes of a list
 abbrev pub planUnder : List ℕ → List ℕ → Plan

@@ -8,7 +8,7 @@ use Rattle.plan_format.specs.Format.{nodeCount, parentOf, isKind}
 use Rattle.node_sets.specs.Sets.{marked}
 use Rattle.plan_check.specs.Meaning.{planOf}
 use Rattle.runs.specs.Model.Trees.{someChildB}
-use Rattle.runs.specs.Blocked.{stands}
+use Rattle.runs.specs.Model.Blocked.{stands}
 
 -- marks of the groups that have a child that stands where the nodes in S are blocked
 pub record WithBranch (b : List ℕ) (S : ℕ → Bool) (marks : List ℕ) : Type 0 where

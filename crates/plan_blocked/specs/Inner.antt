@@ -6,8 +6,8 @@ use Prim.Native.Nat.{ℕ, _<_}
 use Rattle.node_sets.specs.Sets.{marked}
 use Rattle.plan_format.specs.Format.{nodeCount}
 use Rattle.plan_check.specs.Meaning.{planOf}
-use Rattle.runs.specs.Tests.{listed}
-use Rattle.runs.specs.Blocked.{stands}
+use Rattle.runs.specs.Searches.{listed}
+use Rattle.runs.specs.Model.Blocked.{stands}
 use Rattle.plan_blocked.specs.Blocked.{refusalUnder}
 
 -- a table marks, of the nodes, those that stand where the nodes in S are blocked

@@ -16,15 +16,16 @@ use Rattle.plan_format.specs.Format.{nodeCount, condCount, orderCount, flagCoun
 use Rattle.plan_format.specs.Format.{condValue, earlierOf, laterOf, isKind, isGroup}
 use Rattle.plan_rules.specs.Rules.{refusal, badEntry, cause6, childless, cause8, bothSigns, cause11, noPost, postOf}
 use Rattle.plan_rules.specs.Rules.{cause12, isChild, badPair, badOrder, cause13}
-use Rattle.runs.specs.Tests.{anyBelow}
+use Rattle.runs.specs.Searches.{anyBelow}
 use Rattle.base.proofs.Booleans.{or-none, or-split, and-both, and-three, and-of, not-passed}
 use Rattle.runs.proofs.Searches.{none-at, found-at, some-yes}
-use Rattle.runs.specs.Plan.{task, all-of, any-of, optional, Place, inc, post, Accepted, WellFormed, kindNumber}
-use Rattle.runs.specs.Plan.{placeNumber, signNumber}
+use Rattle.runs.specs.Plan.{task, all-of, any-of, optional, Place, inc, post, kindNumber, placeNumber, signNumber}
+use Rattle.runs.specs.WellFormed.{Accepted, WellFormed}
 use Rattle.runs.proofs.Reflect.{clash, true-T, T-true}
 use Rattle.runs.proofs.Plan.Accepted.{accepted-well-formed, accepted-rank}
 use Rattle.plan_check.specs.Meaning.{kindAt, conditionIs, hasCondition, signIn, orderIs, hasOrder, planOf}
-use Rattle.plan_check.specs.Meaning.{ConditionPair, OrderPair, Means}
+use Rattle.plan_check.specs.Meaning.{OrderPair}
+use Rattle.plan_check.specs.Means.{ConditionPair, Means}
 use Rattle.plan_rules.proofs.Causes.{condition-fits, parent-group, root-parent, both-signs-of, post-of}
 use Rattle.plan_check.proofs.Accepted.{Clean, clean}
 

@@ -1,17 +1,15 @@
 -- The meaning of a plan's bytes: the plan of `runs`, and the flags at the start. (Its minutes are `minutesOf`.)
 use Prim.Native.Nat.{ℕ, _<_}
 use mathlib.Core.Path.{_≡_}
-use mathlib.Core.Logic.{_↔_}
 use mathlib.Core.Bool.{Bool, true, false, cond, _&&_}
 use mathlib.Core.List.{List}
 use mathlib.Core.Option.{Option, some, none}
-use lib.Dec.{T, eqb, ltb}
-use Rattle.plan_codes.specs.Values.{valueOf, flagOf, signOf, placeOf}
+use lib.Dec.{eqb, ltb}
+use Rattle.plan_codes.specs.Values.{flagOf, signOf, placeOf}
 use Rattle.plan_format.specs.Format.{nodeCount, condCount, orderCount, flagCount, parentOf, kindOf, condNode, condValue}
 use Rattle.plan_format.specs.Format.{earlierOf, laterOf, startFlag}
-use Rattle.runs.specs.Tests.{anyBelow}
-use Rattle.runs.specs.Plan.{Kind, task, all-of, any-of, optional, Place, Plan, Accepted, kindNumber, placeNumber}
-use Rattle.runs.specs.Plan.{signNumber}
+use Rattle.runs.specs.Searches.{anyBelow}
+use Rattle.runs.specs.Plan.{Kind, task, all-of, any-of, optional, Place, Plan, placeNumber}
 
 -- the kind of a number
 unfoldable pub kindAt : ℕ → Kind
@@ -53,27 +51,9 @@ planOf b =
 unfoldable pub startOf : List ℕ → ℕ → Bool
 startOf b f = ltb f (flagCount b) && startFlag b f
 
--- the pair (t, v) is among the conditions of the bytes
-pub record ConditionPair (b : List ℕ) (t v : ℕ) : Type 0 where
-  pub at : ℕ
-  pub below : at < condCount b
-  pub node : condNode b at ≡ t
-  pub value : condValue b at ≡ v
-
 -- the pair (x, y) is among the orders of the bytes
 pub record OrderPair (b : List ℕ) (x y : ℕ) : Type 0 where
   pub at : ℕ
   pub below : at < orderCount b
   pub earlier : earlierOf b at ≡ x
   pub later : laterOf b at ≡ y
-
--- the plan says what the bytes say, no more and no less, and is one that the theory of runs takes
-pub record Means (b : List ℕ) (p : Plan) : Type 0 where
-  pub size : p .tree .size ≡ nodeCount b
-  pub flags : p .conditions .flags ≡ flagCount b
-  pub kind : (n : ℕ) → n < nodeCount b → kindNumber (p .tree .kind n) ≡ kindOf b n
-  pub parent : (n : ℕ) → n < nodeCount b → p .tree .parent n ≡ parentOf b n
-  pub condition : (k : Place) (t f : ℕ) (v : Bool) → f < 64
-      → p .conditions .sign k t f ≡ some v ↔ ConditionPair b t (valueOf f (signNumber v) (placeNumber k))
-  pub order : (x y : ℕ) → T (p .order x y) ↔ OrderPair b x y
-  pub accepted : Accepted p

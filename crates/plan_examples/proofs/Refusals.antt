@@ -11,7 +11,7 @@ use Rattle.plan_codes.specs.Values.{flagOf, signOf, placeOf, valueBad}
 use Rattle.plan_format.specs.Format.{u16At, nodeCount, condCount, orderCount, flagCount, wholeLength, startFlag}
 use Rattle.plan_format.specs.Format.{nameChar, entryAt, parentOf, kindOf, minutesOf, condNode, condValue, earlierOf}
 use Rattle.plan_format.specs.Format.{laterOf, isKind, isGroup}
-use Rattle.runs.specs.Tests.{anyBelow, either}
+use Rattle.runs.specs.Searches.{anyBelow, either}
 use Rattle.plan_rules.specs.Rules.{cause1, cause2, cause3, badStart, cause4, badChar, cause5, badEntry, cause6}
 use Rattle.plan_rules.specs.Rules.{badParent, cause7, childless, cause8, badCondition, cause9, notBelow, notRising}
 use Rattle.plan_rules.specs.Rules.{cause10, bothSigns, cause11, postOf, noPost, cause12, isChild, badPair, badOrder}

@@ -6,10 +6,10 @@ use native.Mathlib.Omega.{arith}
 use borrow.Author.Tests.{lt-ltb, le-ltb}
 use Rattle.plan_format.specs.Format.{nodeCount, condCount}
 use Rattle.plan_format.specs.Whole.{Whole}
-use Rattle.plan_reader.specs.Items.{nodeOf, conditionOf, orderOf, itemCount, itemOf}
+use Rattle.plan_reader.specs.Items.{nodeItem, conditionOf, orderOf, itemCount, itemOf}
 use Rattle.plan_reader.specs.declared.items.Item.the-variants as item
 
-pub item-node : (b : List ℕ) {at : ℕ} → at < nodeCount b → itemOf b at ≡ item.Node (nodeOf b at)
+pub item-node : (b : List ℕ) {at : ℕ} → at < nodeCount b → itemOf b at ≡ item.Node (nodeItem b at)
 unfolding itemOf
 item-node b l = simp (lt-ltb _ _ l)
 

@@ -12,8 +12,8 @@ use Rattle.plan_reader.specs.declared.items.Item.{Item}
 use Rattle.plan_reader.specs.declared.items.Item.the-variants as item
 use Rattle.plan_reader.specs.declared.Reader.{Reader}
 
-abbrev pub nodeOf : List ℕ → ℕ → Node
-nodeOf b n = record { parent = parentOf b n; kind = kindOf b n; minutes = minutesOf b n }
+abbrev pub nodeItem : List ℕ → ℕ → Node
+nodeItem b n = record { parent = parentOf b n; kind = kindOf b n; minutes = minutesOf b n }
 
 abbrev pub conditionOf : List ℕ → ℕ → Condition
 conditionOf b i = record { node = condNode b i; value = condValue b i }
@@ -27,10 +27,10 @@ itemCount b = nodeCount b + condCount b + orderCount b
 -- first all nodes, then all conditions, then all orders
 unfoldable pub itemOf : List ℕ → ℕ → Item
 itemOf b at =
-    cond (ltb at (nodeCount b)) (item.Node (nodeOf b at))
+    cond (ltb at (nodeCount b)) (item.Node (nodeItem b at))
     (cond (ltb (at - nodeCount b) (condCount b)) (item.Condition (conditionOf b (at - nodeCount b)))
     (item.Order (orderOf b (at - nodeCount b - condCount b))))
 
 -- the reader at the next position
-abbrev pub moved : Reader → Reader
-moved r = record { plan = r .plan; at = r .at + 1 }
+abbrev pub advanced : Reader → Reader
+advanced r = record { plan = r .plan; at = r .at + 1 }

@@ -3,7 +3,7 @@ ghost use mathlib.Core.Path.{_≡_};
 ghost use Prim.Native.Nat.{_<_};
 ghost use Rattle.plan_format.specs.Format.{nodeCount, condCount, orderCount};
 ghost use Rattle.plan_format.specs.Whole.{Whole};
-ghost use Rattle.plan_reader.specs.Items.{nodeOf, conditionOf, orderOf, itemCount, itemOf};
+ghost use Rattle.plan_reader.specs.Items.{nodeItem, conditionOf, orderOf, itemCount, itemOf};
 use plan_format::fields::condition_node;
 use plan_format::fields::condition_value;
 use plan_format::fields::conditions;
@@ -39,7 +39,7 @@ pub enum Item {
 
 fn node_at(plan: &[u8], n: usize) -> Node
     requires { ⌜ (n < nodeCount (now plan)) × Whole (now plan) ⌝ }
-    ensures { λ r. ⌜ r ≡ nodeOf (now (plan .entry)) n ⌝ }
+    ensures { λ r. ⌜ r ≡ nodeItem (now (plan .entry)) n ⌝ }
 {
     Node {
         parent: parent(plan, n),

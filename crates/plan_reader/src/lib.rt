@@ -3,7 +3,7 @@
 ghost use mathlib.Core.Path.{_≡_};
 ghost use Prim.Native.Nat.{_<_};
 ghost use Rattle.plan_format.specs.Whole.{Whole};
-ghost use Rattle.plan_reader.specs.Items.{itemCount, itemOf, moved};
+ghost use Rattle.plan_reader.specs.Items.{itemCount, itemOf, advanced};
 use crate::items::Item;
 use crate::items::item_at;
 
@@ -19,7 +19,7 @@ impl<'a> Reader<'a> {
     pub fn next<'s>(&'s mut self) -> Item
         requires { ⌜ (now self .at < itemCount (now (now self .plan))) × Whole (now (now self .plan)) ⌝ }
         ensures { λ r. ⌜ (r ≡ itemOf (now (now (self .entry) .plan)) (now (self .entry) .at))
-            × (now (self .exit) ≡ moved (now (self .entry))) ⌝ }
+            × (now (self .exit) ≡ advanced (now (self .entry))) ⌝ }
     {
         let at = self.at;
         let item = item_at(self.plan, at);

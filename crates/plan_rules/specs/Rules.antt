@@ -10,7 +10,7 @@ use Rattle.plan_codes.specs.Values.{flagOf, signOf, placeOf, valueBad}
 use Rattle.plan_format.specs.Format.{nodeCount, condCount, orderCount, flagCount, wholeLength, startFlag, nameChar}
 use Rattle.plan_format.specs.Format.{parentOf, kindOf, minutesOf, condNode, condValue, earlierOf, laterOf, isKind}
 use Rattle.plan_format.specs.Format.{isGroup}
-use Rattle.runs.specs.Tests.{anyBelow}
+use Rattle.runs.specs.Searches.{anyBelow}
 
 -- under 16 bytes
 unfoldable pub cause1 : List ℕ → Bool

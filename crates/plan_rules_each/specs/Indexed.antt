@@ -21,15 +21,15 @@ countOf Orders b = orderCount b
 countOf RisingOrders b = orderCount b - 1
 
 -- a rule's test
-abbrev pub brokenAt : Rule → List ℕ → ℕ → Bool
-brokenAt Starts b = badStart b
-brokenAt Names b = badChar b
-brokenAt Entries b = badEntry b
-brokenAt Parents b = badParent b
-brokenAt Conditions b = badCondition b
-brokenAt RisingConditions b = notRising (condNode b) (condValue b)
-brokenAt Orders b = badOrder b
-brokenAt RisingOrders b = notRising (earlierOf b) (laterOf b)
+abbrev pub testOf : Rule → List ℕ → ℕ → Bool
+testOf Starts b = badStart b
+testOf Names b = badChar b
+testOf Entries b = badEntry b
+testOf Parents b = badParent b
+testOf Conditions b = badCondition b
+testOf RisingConditions b = notRising (condNode b) (condValue b)
+testOf Orders b = badOrder b
+testOf RisingOrders b = notRising (earlierOf b) (laterOf b)
 
 -- the cause that applies where the rule is broken at some index
 abbrev pub causeOf : Rule → List ℕ → Bool

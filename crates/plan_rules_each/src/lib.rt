@@ -14,7 +14,7 @@ use plan_rules::tests::orders_fall;
 ghost use mathlib.Core.Path.{_≡_};
 ghost use Prim.Native.Nat.{_-_, _<_};
 ghost use Rattle.plan_format.specs.Whole.{Whole};
-ghost use Rattle.plan_rules_each.specs.Indexed.{countOf, brokenAt, causeOf};
+ghost use Rattle.plan_rules_each.specs.Indexed.{countOf, testOf, causeOf};
 
 pub enum Rule {
     Starts,
@@ -53,7 +53,7 @@ fn count(plan: &[u8], rule: Rule) -> usize
 // The test of the rule at i.
 fn broken_at(plan: &[u8], rule: Rule, i: usize) -> bool
     requires { ⌜ (i < countOf rule (now plan)) × Whole (now plan) ⌝ }
-    ensures { λ r. ⌜ r ≡ brokenAt rule (now (plan .entry)) i ⌝ }
+    ensures { λ r. ⌜ r ≡ testOf rule (now (plan .entry)) i ⌝ }
 {
     match rule {
         Rule::Starts => bad_start(plan, i),

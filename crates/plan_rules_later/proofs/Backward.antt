@@ -9,7 +9,7 @@ use lib.Dec.{eqb}
 use borrow.Author.Tests.{eqb-true, eq-eqb}
 use Rattle.plan_rules_later.specs.declared.Step.{Step}
 use Rattle.plan_rules_later.proofs.Table.{latest, refuses, refusesAt, backwards}
-use Rattle.runs.specs.Tests.{anyBelow}
+use Rattle.runs.specs.Searches.{anyBelow}
 use Rattle.base.proofs.Booleans.{either, same, and-both, and-of, or-none}
 use Rattle.runs.proofs.Searches.{found-at, some-yes, some-same, some-back}
 

@@ -13,12 +13,12 @@ use Rattle.plan_codes.specs.Values.{flagOf, signOf, placeOf}
 use Rattle.plan_format.specs.Format.{nodeCount, condCount, parentOf, condNode, condValue, isGroup}
 use Rattle.plan_format.specs.Whole.{Whole}
 use Rattle.plan_rules.specs.Rules.{cause7, childless, cause8, cause10, bothSigns, cause11, postOf, noPost, cause12}
-use Rattle.runs.specs.Tests.{anyBelow}
+use Rattle.runs.specs.Searches.{anyBelow}
 use Rattle.base.proofs.Booleans.{same, and-both, and-three, and-of}
 use Rattle.runs.proofs.Searches.{found-at, some-yes, some-same}
 use Rattle.plan_rules_later.specs.declared.Pass.the-variants.{Children, Signs, Posts}
 use Rattle.plan_rules_later.specs.declared.Pass.{Pass}
-use Rattle.plan_rules_later.specs.Passes.{childStep, slotOf, signStep, postStep, stepOf, stepsOf, Ready}
+use Rattle.plan_rules_later.specs.Passes.{childStep, slotOf, signStep, postStep, stepOf, stepsOf, NoneBefore}
 use Rattle.plan_rules_later.specs.Passes.{passCause}
 use Rattle.plan_rules_later.proofs.Table.{refuses, backwards}
 use Rattle.plan_rules_later.proofs.Backward.{answers, judged, pass-finds}
@@ -172,7 +172,7 @@ module _ (b : List ℕ) (rising : cause10 b ≡ false) where
       (some-same (condCount b) (answers (postStep b) i) (postOf b i) (λ j k. post-same b i j)))
 
 -- ---- a pass finds its cause
-pub pass-is : (p : Pass) (b : List ℕ) → Whole b → Ready p b → passRefuses p b ≡ passCause p b
+pub pass-is : (p : Pass) (b : List ℕ) → Whole b → NoneBefore p b → passRefuses p b ≡ passCause p b
 pass-is Children b w r = children b w r
 pass-is Signs b w r = signs b (r .1)
 pass-is Posts b w r = posts b (r .1)

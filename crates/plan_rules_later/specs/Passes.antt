@@ -58,7 +58,7 @@ passCause Signs b = cause11 b
 passCause Posts b = cause12 b
 
 -- the causes that must not apply before
-abbrev pub Ready : Pass → List ℕ → Type 0
-Ready Children b = cause7 b ≡ false
-Ready Signs b = (cause9 b ≡ false) × (cause10 b ≡ false)
-Ready Posts b = (cause9 b ≡ false) × (cause10 b ≡ false)
+abbrev pub NoneBefore : Pass → List ℕ → Type 0
+NoneBefore Children b = cause7 b ≡ false
+NoneBefore Signs b = (cause9 b ≡ false) × (cause10 b ≡ false)
+NoneBefore Posts b = (cause9 b ≡ false) × (cause10 b ≡ false)

@@ -18,7 +18,7 @@ ghost use Rattle.base.specs.Zeros.{Zeros};
 ghost use Rattle.plan_format.specs.Format.{nodeCount, condCount};
 ghost use Rattle.plan_format.specs.Whole.{Whole};
 ghost use Rattle.plan_rules.specs.Rules.{cause9};
-ghost use Rattle.plan_rules_later.specs.Passes.{childStep, signStep, postStep, stepOf, stepsOf, Ready, passCause};
+ghost use Rattle.plan_rules_later.specs.Passes.{childStep, signStep, postStep, stepOf, stepsOf, NoneBefore, passCause};
 
 // Which rule: groups without child, conditions with both signs, inconditions without postcondition.
 pub enum Pass {
@@ -102,7 +102,7 @@ fn steps(plan: &[u8], pass: Pass) -> usize
 
 // What the pass does at place i.
 fn step_at(plan: &[u8], pass: Pass, i: usize) -> Step
-    requires { ⌜ (i < stepsOf pass (now plan)) × (Whole (now plan) × Ready pass (now plan)) ⌝ }
+    requires { ⌜ (i < stepsOf pass (now plan)) × (Whole (now plan) × NoneBefore pass (now plan)) ⌝ }
     ensures { λ r. ⌜ r ≡ stepOf pass (now (plan .entry)) i ⌝ }
 {
     match pass {
@@ -121,7 +121,7 @@ fn blank() -> [u8; 256]
 
 // The cause of the pass applies.
 pub fn refuses(plan: &[u8], pass: Pass) -> bool
-    requires { ⌜ Whole (now plan) × Ready pass (now plan) ⌝ }
+    requires { ⌜ Whole (now plan) × NoneBefore pass (now plan) ⌝ }
     ensures { λ r. ⌜ r ≡ passCause pass (now (plan .entry)) ⌝ }
 {
     let n = steps(plan, pass);

@@ -9,7 +9,7 @@ use borrow.Author.Tests.{lt-ltb}
 use Rattle.plan_format.specs.Format.{nodeCount}
 use Rattle.plan_blocked.specs.Blocked.{planUnder, refusalUnder}
 use Rattle.plan_blocked.proofs.Refused.{plan-accepted, blocks}
-use Rattle.runs.specs.Tests.{listed}
+use Rattle.runs.specs.Searches.{listed}
 use Rattle.plan_check.specs.Meaning.{planOf, startOf}
 use Rattle.plan_check.proofs.Meaning.{means-well-formed}
 use Rattle.runs.specs.Verdict.{Verdict, CLEAR, DOOMED, OPEN}
@@ -20,7 +20,8 @@ use Rattle.verdict.specs.declared.Answer.the-variants.{Judged as Given}
 use Rattle.verdict.specs.Verdict.{Assessed}
 use Rattle.verdict.proofs.Judging.{assessed}
 use Rattle.runs.specs.Calls.{Call, World, acceptedStarts}
-use Rattle.runs.specs.Demand3 as plans
+use Rattle.runs.specs.Demand3.{Demand3On}
+use Rattle.runs.specs.Violations.{NoViolation, NeverViolates}
 use Rattle.runs.proofs.Calls.Demand3 as proved
 use Rattle.run_starts.specs.Starts.{ordinalIn}
 use Rattle.run_state.specs.State.{ordinalShown, statusIn, worldOf}
@@ -29,15 +30,15 @@ use Rattle.run_calls.specs.Demand3.{Bytes, Demand3Of, Demand3}
 use Rattle.run_calls.proofs.Followed.{list-follows, list-made, list-each}
 
 module _ (b xs : List ℕ) (h : Bytes b) (acc : refusalUnder b xs ≡ 0) where
-  on-plans : plans.Demand3On (planOf b) (listed xs) (startOf b)
+  on-plans : Demand3On (planOf b) (listed xs) (startOf b)
   on-plans = proved.demand3 (planOf b) (means-well-formed b (plan-accepted b xs acc)) (listed xs) (blocks b xs acc)
       (startOf b)
 
   abbrev Never : Type 0
-  Never = (s : List ℕ) (cs : List Call) (rs z : List ℕ) → ListMade b xs s cs rs z → plans.NoViolation rs
+  Never = (s : List ℕ) (cs : List Call) (rs z : List ℕ) → ListMade b xs s cs rs z → NoViolation rs
 
   -- the states worked out are those of some list of calls that was made
-  never-worked : Never → plans.NeverViolates (planOf b) (listed xs) (startOf b)
+  never-worked : Never → NeverViolates (planOf b) (listed xs) (startOf b)
   never-worked g cs ns a w n x =
       let s : List ℕ = replicate {A = ℕ} (8 + 3 * nodeCount b) 0 in
       let m = list-made b xs acc s (omega (arith, length-replicate {A = ℕ} (8 + 3 * nodeCount b) 0)) cs in

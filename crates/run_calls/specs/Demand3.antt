@@ -14,7 +14,7 @@ use Rattle.plan_check.specs.Meaning.{planOf, startOf}
 use Rattle.runs.specs.Execution.{Complete}
 use Rattle.runs.specs.Verdict.{Verdict, CLEAR, DOOMED, Judged}
 use Rattle.runs.specs.Calls.{Call, World, fresh, Answered, Worked, acceptedStarts}
-use Rattle.runs.specs.Demand3.{Violation}
+use Rattle.runs.specs.Violations.{Violation}
 use Rattle.run_starts.specs.Starts.{nodeByte, ordinalIn}
 use Rattle.run_state.specs.State.{worldOf, stateRefusalUnder}
 use Rattle.base.specs.Answers.{overlay}

@@ -24,8 +24,9 @@ use Rattle.plan_rules.proofs.Causes.{Usable, usable, condition-fits}
 use Rattle.plan_check.proofs.Meaning.{is, has, sign-is, sign-has, kind-is}
 use Rattle.runs.specs.Plan.{Place, post, placeNumber, signNumber}
 use Rattle.runs.specs.Calls.{finishes, Rising, World, happenAll}
-use Rattle.runs.specs.Tests.{sameB, anyIn, listed}
-use Rattle.runs.specs.Tests as tests
+use Rattle.runs.specs.Tests.{sameB}
+use Rattle.runs.specs.Searches.{anyIn, listed}
+use Rattle.runs.specs.Searches as tests
 use Rattle.runs.proofs.Reflect.{clash}
 use Rattle.runs.proofs.Calls.Listed.{rising-above, rising-tail}
 use Rattle.run_starts.specs.Starts.{nodeByte}

@@ -21,7 +21,8 @@ use Rattle.plan_check.specs.Meaning.{planOf, signIn}
 use Rattle.runs.specs.Plan.{Place, pre, inc, post, placeNumber}
 use Rattle.runs.specs.Execution.{Event, start, nodeOf, asserts, running}
 use Rattle.runs.specs.Calls.{together, finishes, Rising, fresh, happenAll, inc-broken, PreUnmet, IncBroken, PostOpposed}
-use Rattle.runs.specs.Tests.{anyBelow, sameB, listed}
+use Rattle.runs.specs.Tests.{sameB}
+use Rattle.runs.specs.Searches.{anyBelow, listed}
 use Rattle.runs.specs.Model.Monitor.{preUnmetB, incBrokenB, postOpposedB, appliesB}
 use Rattle.runs.proofs.Calls.Reflect.{r-pre-unmet, r-inc-broken, r-post-opposed, r-applies}
 use Rattle.runs.proofs.Calls.Together.{Unkept, Turned, opposed-unkept, broken-turned}

@@ -17,7 +17,7 @@ use Rattle.plan_check.proofs.Meaning.{kind-is, group-is}
 use Rattle.plan_check.proofs.Nodes.{is-child, child-test, is-node, node-is, plan-kind, other-kind, kind-choice}
 use Rattle.plan_check.proofs.Nodes.{choice-kind}
 use Rattle.runs.specs.Plan.{Picks, Child, Under}
-use Rattle.runs.specs.Execution.{done, start, Begun, Rival, by-branch, by-skip}
+use Rattle.runs.specs.Execution.{done, Begun, Rival, by-branch, by-skip}
 use Rattle.runs.specs.Calls.{BranchBegun}
 use Rattle.runs.specs.Model.Monitor.{begunB, branchBegunB}
 use Rattle.runs.proofs.Reflect.{Reflects, true-T, T-true}

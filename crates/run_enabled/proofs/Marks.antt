@@ -15,7 +15,8 @@ use Rattle.plan_check.proofs.Accepted.{clean}
 use Rattle.plan_rules.proofs.Causes.{parent-group}
 use Rattle.plan_check.proofs.Meaning.{means-well-formed}
 use Rattle.plan_check.proofs.Nodes.{is-node}
-use Rattle.runs.specs.Plan.{itself, below, Under, WellFormed}
+use Rattle.runs.specs.Plan.{itself, below, Under}
+use Rattle.runs.specs.WellFormed.{WellFormed}
 use Rattle.runs.specs.Model.Trees.{underB}
 use Rattle.runs.proofs.Plan.Reflect.{r-under}
 use Rattle.runs.proofs.Plan.Trees.{under-le, under-trans}

@@ -9,14 +9,14 @@ use lib.Dec.{T, eqb}
 use borrow.Author.Tests.{not-true}
 use Rattle.plan_format.specs.Format.{nodeCount, orderCount, earlierOf, laterOf}
 use Rattle.plan_rules.specs.Rules.{refusal, badOrder, cause13}
-use Rattle.runs.specs.Tests.{anyBelow}
+use Rattle.runs.specs.Searches.{anyBelow}
 use Rattle.base.proofs.Booleans.{and-both, and-of}
 use Rattle.runs.proofs.Searches.{none-at, found-at, some-yes}
 use Rattle.plan_check.specs.Meaning.{planOf}
 use Rattle.plan_check.proofs.Accepted.{clean}
 use Rattle.plan_check.proofs.Meaning.{siblings, child-is, order-is, has-order}
 use Rattle.plan_check.proofs.Nodes.{is-node}
-use Rattle.runs.specs.Execution.{start, Complete}
+use Rattle.runs.specs.Execution.{Complete}
 use Rattle.runs.specs.Calls.{OrderOpen}
 use Rattle.runs.specs.Model.Monitor.{completeB, orderOpenB}
 use Rattle.runs.specs.Model.Trees.{underB}

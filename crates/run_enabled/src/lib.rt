@@ -16,7 +16,7 @@ ghost use Prim.Native.Nat.{ℕ, _<_};
 ghost use lib.ListN.{length, getD};
 ghost use Rattle.plan_format.specs.Format.{nodeCount, orderCount, parentOf};
 ghost use Rattle.plan_rules.specs.Rules.{refusal};
-ghost use Rattle.runs.specs.Tests.{anyBelow};
+ghost use Rattle.runs.specs.Searches.{anyBelow};
 ghost use Rattle.plan_check.specs.Meaning.{planOf};
 ghost use Rattle.runs.specs.Model.Monitor.{branchBegunB};
 ghost use Rattle.runs.specs.Model.Trees.{underB};

@@ -7,9 +7,9 @@ use Rattle.base.proofs.First.{answer-some}
 use Rattle.plan_check.specs.Meaning.{planOf}
 use Rattle.plan_blocked.specs.Blocked.{planUnder}
 use Rattle.plan_blocked.proofs.Refused.{blocks, under-well-formed}
-use Rattle.runs.specs.Tests.{listed}
-use Rattle.runs.specs.Plan.{WellFormed}
-use Rattle.runs.specs.Blocked.{Blocks}
+use Rattle.runs.specs.Searches.{listed}
+use Rattle.runs.specs.WellFormed.{WellFormed}
+use Rattle.runs.specs.Branches.{Blocks}
 use Rattle.runs.proofs.Blocked.Standing.{r-stands}
 use Rattle.runs.proofs.Blocked.Monitor.{complete-same}
 use Rattle.runs.specs.Execution as execution

@@ -12,16 +12,16 @@ use Rattle.plan_check.proofs.Meaning.{kind-is}
 use Rattle.runs.specs.Execution.{Event, finish, History, nodeOf, moved, asserts}
 use Rattle.runs.specs.Calls.{Call, one, together, finishes, events, Rising, asks, statusByte, counted, numbered}
 use Rattle.runs.specs.Calls.{Refusal, World, happen, happenAll}
-use Rattle.runs.specs.Model.Monitor.{returned, refusalOf, step, code, settle}
-use Rattle.runs.proofs.Calls.First.{code-inj}
+use Rattle.runs.specs.Model.Monitor.{returned, refusalOf, step, refusalNumber, settle}
+use Rattle.runs.proofs.Calls.First.{number-inj}
 use Rattle.runs.proofs.Calls.Listed.{rising-once, rising-tail}
 use Rattle.run_starts.specs.Starts.{nodeByte, startedCount}
 use Rattle.run_state.specs.State.{statusIn, flagShown, ordinalShown, worldOf, stateRefusalUnder}
 use Rattle.run_state.specs.Inner.{stateRefusal}
 use Rattle.run_state.proofs.Passed.{passed, list-passed, absent-byte, under-passed}
 use Rattle.plan_blocked.specs.Blocked.{planUnder}
-use Rattle.runs.specs.Tests.{listed}
-use Rattle.runs.specs.Blocked.{stands}
+use Rattle.runs.specs.Searches.{listed}
+use Rattle.runs.specs.Model.Blocked.{stands}
 use Rattle.run_starts.proofs.Numbering.{Numbering}
 use Rattle.node_sets.specs.Sets.{Each}
 use Rattle.run_refusals.specs.Events.{callRefusal}
@@ -134,7 +134,7 @@ happen-left b xs a [] = refl
 happen-left b xs a (e ∷ h) = ap (λ (w : World). happen (planOf b) w e) (happen-left b xs a h)
 
 -- ---- after a call, accepted or refused, the state passes all checks and shows the states that 01 works out
-settled : (o : Option Refusal) (old new : World) → (code o ≡ 0 → ⊥) → settle o old new ≡ old
+settled : (o : Option Refusal) (old new : World) → (refusalNumber o ≡ 0 → ⊥) → settle o old new ≡ old
 settled none old new h = absurd (h refl)
 settled (some r) old new h = refl
 
@@ -147,7 +147,7 @@ module _ (b xs s : List ℕ) (under : stateRefusalUnder b xs s ≡ 0) (c : Call)
   moves z =
       let q = sym (accepted b xs s c under z .1) in
       let w = goes-under b xs s under (call-goes b xs s under c z) in
-      let n : refusalOf (planOf b) (planUnder b xs) (worldOf b s) c ≡ none = code-inj {x = none} z in
+      let n : refusalOf (planOf b) (planUnder b xs) (worldOf b s) c ≡ none = number-inj {x = none} z in
       record {
         well-formed = ap (stateRefusalUnder b xs) q ∙ w .well-formed;
         shows = ap (worldOf b) q ∙ w .shows ∙ rw (n, happen-left b xs (worldOf b s) (events c));

@@ -20,12 +20,13 @@ use Rattle.runs.specs.Plan.{Kind, task, all-of, any-of, optional, post, Node, i
 use Rattle.runs.specs.Execution.{Status, waiting, running, Status-discrete, Event, start, finish, skip, nodeOf, asserts}
 use Rattle.runs.specs.Calls.{Call, one, checks, asks, statusByte, no-task, wrong-status, branch-begun, order-open, pre-unmet}
 use Rattle.runs.specs.Calls.{inc-broken, no-optional}
-use Rattle.runs.specs.Model.Monitor.{returned, refusalOf, firstOf, orElse, code, appliesB, taskB, optionalB, statusB}
+use Rattle.runs.specs.Model.Monitor.{returned, firstOf, orElse, refusalNumber, appliesB, taskB, optionalB, statusB}
 use Rattle.runs.specs.Model.Monitor.{begunB, wrongStatusB, branchBegunB, orderOpenB, preUnmetB, incBrokenB}
 use Rattle.plan_blocked.specs.Inner.{Standing}
 use Rattle.plan_blocked.proofs.Refused.{blocks}
-use Rattle.runs.specs.Tests.{either as or, negate, anyBelow, listed}
-use Rattle.runs.specs.Blocked.{stands}
+use Rattle.runs.specs.Tests.{negate}
+use Rattle.runs.specs.Searches.{either as or, anyBelow, listed}
+use Rattle.runs.specs.Model.Blocked.{stands}
 use Rattle.runs.proofs.Blocked.Monitor.{testedB, tested-is}
 use Rattle.runs.proofs.Reflect.{Reflects, r-eq, r-map, clash, true-T, T-true, same-test}
 use Rattle.runs.proofs.Calls.Reflect.{r-task, r-optional, r-status, r-begun, r-wrong-status}
@@ -86,7 +87,7 @@ number-kind any-of = refl
 number-kind optional = refl
 
 start-chain : (a b c d e f : Bool) →
-    code (orElse a no-task (λ u. orElse b wrong-status
+    refusalNumber (orElse a no-task (λ u. orElse b wrong-status
     (λ u. orElse c branch-begun (λ u. orElse d order-open
     (λ u. orElse e pre-unmet (λ u. orElse f inc-broken (λ u. none)))))))
     ≡ cond a 17 (cond b 18 (first (first (cond c 19 (cond d 20 0)) (cond e 21 0)) (cond f 22 0)))
@@ -98,7 +99,7 @@ start-chain false false false false true f = refl
 start-chain false false false false false true = refl
 start-chain false false false false false false = refl
 
-finish-chain : (a b f : Bool) → code
+finish-chain : (a b f : Bool) → refusalNumber
     (orElse a no-task (λ u. orElse b wrong-status (λ u. orElse f inc-broken (λ u. none))))
     ≡ cond a 17 (cond b 18 (first 0 (cond f 22 0)))
 finish-chain true b f = refl
@@ -106,7 +107,7 @@ finish-chain false true f = refl
 finish-chain false false true = refl
 finish-chain false false false = refl
 
-skip-chain : (a b c d : Bool) → code
+skip-chain : (a b c d : Bool) → refusalNumber
     (orElse a no-optional (λ u. orElse b wrong-status
     (λ u. orElse c branch-begun (λ u. orElse d order-open (λ u. none)))))
     ≡ cond a 27 (cond b 18 (cond c 19 (cond d 20 0)))
@@ -189,10 +190,10 @@ module _ (b xs s : List ℕ) (under : stateRefusalUnder b xs s ≡ 0) where
   stood t = stands (planOf b) (listed xs) t
 
   -- a call's refusal, by the table of the whole plan and the nodes that stand
-  pub by-table : (c : Call) → callRefusal b xs s c ≡ code (firstOf (testedB (planOf b) (well-formed b s ok) (listed xs)
+  pub by-table : (c : Call) → callRefusal b xs s c ≡ refusalNumber (firstOf (testedB (planOf b) (well-formed b s ok) (listed xs)
       (blocks b xs (list-passed b xs s under)) (worldOf b s) c) (checks c))
   unfolding returned worldOf
-  by-table c = ap code (tested-is (planOf b) (well-formed b s ok) (listed xs) (blocks b xs (list-passed b xs s under))
+  by-table c = ap refusalNumber (tested-is (planOf b) (well-formed b s ok) (listed xs) (blocks b xs (list-passed b xs s under))
       (worldOf b s) (absent-waits b xs s under) c)
 
   -- the end of the chain: 22

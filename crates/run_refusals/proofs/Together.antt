@@ -15,8 +15,9 @@ use Rattle.plan_check.specs.Meaning.{planOf}
 use Rattle.runs.specs.Plan.{post, placeNumber}
 use Rattle.runs.specs.Execution.{running}
 use Rattle.runs.specs.Calls.{together, Rising, no-task, wrong-status, inc-broken, not-rising, post-opposed}
-use Rattle.runs.specs.Model.Monitor.{firstOf, orElse, code, appliesB, taskB, statusB, notRisingB, postOpposedB}
-use Rattle.runs.specs.Tests.{anyBelow, anyIn, negate, listed}
+use Rattle.runs.specs.Model.Monitor.{firstOf, orElse, refusalNumber, appliesB, taskB, statusB, notRisingB, postOpposedB}
+use Rattle.runs.specs.Tests.{negate}
+use Rattle.runs.specs.Searches.{anyBelow, anyIn, listed}
 use Rattle.runs.proofs.Reflect.{T-true}
 use Rattle.runs.proofs.Calls.Listed.{r-not-rising, any-same, none-in, rises}
 use Rattle.run_starts.specs.Starts.{nodeByte}
@@ -31,7 +32,7 @@ use Rattle.run_conditions.proofs.Refusals.{opposed-is, broken-unless}
 use Rattle.run_refusals.specs.Events.{callRefusal}
 use Rattle.run_refusals.proofs.Chain.{task-is, status-is, by-table}
 
-together-chain : (a b c d e : Bool) → code
+together-chain : (a b c d e : Bool) → refusalNumber
     (orElse a not-rising (λ u. orElse b no-task (λ u. orElse c wrong-status
     (λ u. orElse d post-opposed (λ u. orElse e inc-broken (λ u. none))))))
     ≡ cond a 25 (cond b 17 (cond c 18 (cond d 26 (cond e 22 0))))

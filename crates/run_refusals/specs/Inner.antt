@@ -3,7 +3,7 @@ use Prim.Native.Nat.{ℕ}
 use mathlib.Core.Path.{_≡_}
 use mathlib.Core.List.{List}
 use Rattle.plan_blocked.specs.Inner.{Standing}
-use Rattle.runs.specs.Tests.{listed}
+use Rattle.runs.specs.Searches.{listed}
 use Rattle.runs.specs.Plan.{Place, inc, post}
 use Rattle.runs.specs.Execution.{Event, start, finish, skip}
 use Rattle.runs.specs.Calls.{Call, one}

@@ -3,7 +3,8 @@ use Prim.Native.Nat.{ℕ}
 use mathlib.Core.Bool.{Bool, cond}
 use mathlib.Core.List.{List}
 use Rattle.plan_check.specs.Meaning.{planOf}
-use Rattle.runs.specs.Tests.{either, negate}
+use Rattle.runs.specs.Tests.{negate}
+use Rattle.runs.specs.Searches.{either}
 use Rattle.runs.specs.Execution.{Event, start, finish, skip}
 use Rattle.runs.specs.Model.Monitor.{branchBegunB, orderOpenB, preUnmetB}
 use Rattle.base.specs.Answers.{first}

@@ -41,7 +41,7 @@ pub enum Move {
 }
 
 // The place of the literals that a move makes true: inconditions, postconditions.
-pub fn place_of(m: Move) -> u16
+pub fn asserted_place(m: Move) -> u16
     ensures { λ r. ⌜ r ≡ placeNumber (eventPlace (eventOf m 0)) ⌝ }
 {
     match m {
@@ -134,7 +134,7 @@ pub fn refused(plan: &[u8], state: &[u8], standing: &[u8; 128], m: Move, task: u
         return r;
     }
     let own = mark_one(task);
-    if inc_broken(plan, state, place_of(m), &own) {
+    if inc_broken(plan, state, asserted_place(m), &own) {
         return 22;
     }
     0

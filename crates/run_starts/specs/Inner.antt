@@ -6,6 +6,6 @@ use Rattle.plan_format.specs.Format.{nodeCount}
 use Rattle.plan_format.specs.Whole.{Whole}
 
 -- what is asked where a state's bytes are read: the plan is whole, and there is room
-pub record Fits (b s : List ℕ) : Type 0 where
+pub record StateFits (b s : List ℕ) : Type 0 where
   pub plan : Whole b
   pub room : 8 + 3 * nodeCount b ≤ length s

@@ -7,7 +7,7 @@ use lib.ListN.{getD, set}
 use lib.Dec.{eqb}
 use Rattle.base.specs.Count.{countBelow}
 use Rattle.plan_format.specs.Format.{u16At, nodeCount, isKind}
-use Rattle.runs.specs.Tests.{anyBelow}
+use Rattle.runs.specs.Searches.{anyBelow}
 
 -- the byte of node n
 unfoldable pub nodeByte : List ℕ → ℕ → ℕ

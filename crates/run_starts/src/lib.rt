@@ -12,7 +12,7 @@ ghost use lib.ListN.{length, getD};
 ghost use Rattle.plan_format.specs.Format.{nodeCount};
 ghost use Rattle.plan_format.specs.Whole.{Whole};
 ghost use Rattle.run_starts.specs.Starts.{ordinalAt, ordinalIn, startedIn, startedCount, strayOrdinal};
-ghost use Rattle.run_starts.specs.Inner.{Fits};
+ghost use Rattle.run_starts.specs.Inner.{StateFits};
 ghost use Rattle.run_starts.specs.Starts.{holders, misnumbered, withOrdinal};
 
 // Where the ordinal of node n stands.
@@ -24,7 +24,7 @@ fn ordinal_at(plan: &[u8], n: usize) -> usize
 }
 
 fn ordinal(plan: &[u8], state: &[u8], n: usize) -> usize
-    requires { ⌜ (n < nodeCount (now plan)) × Fits (now plan) (now state) ⌝ }
+    requires { ⌜ (n < nodeCount (now plan)) × StateFits (now plan) (now state) ⌝ }
     ensures { λ r. ⌜ r ≡ ordinalIn (now (plan .entry)) (now (state .entry)) n ⌝ }
 {
     u16_at(state, ordinal_at(plan, n)) as usize
@@ -32,7 +32,7 @@ fn ordinal(plan: &[u8], state: &[u8], n: usize) -> usize
 
 // Node n is a started task.
 fn is_started(plan: &[u8], state: &[u8], n: usize) -> bool
-    requires { ⌜ (n < nodeCount (now plan)) × Fits (now plan) (now state) ⌝ }
+    requires { ⌜ (n < nodeCount (now plan)) × StateFits (now plan) (now state) ⌝ }
     ensures { λ r. ⌜ r ≡ startedIn (now (plan .entry)) (now (state .entry)) n ⌝ }
 {
     is_kind(plan, n, TASK) & (state[8 + n] != WAITING)
@@ -40,7 +40,7 @@ fn is_started(plan: &[u8], state: &[u8], n: usize) -> bool
 
 // Node n has an ordinal and has not been started.
 pub fn is_stray(plan: &[u8], state: &[u8], n: usize) -> bool
-    requires { ⌜ (n < nodeCount (now plan)) × Fits (now plan) (now state) ⌝ }
+    requires { ⌜ (n < nodeCount (now plan)) × StateFits (now plan) (now state) ⌝ }
     ensures { λ r. ⌜ r ≡ strayOrdinal (now (plan .entry)) (now (state .entry)) n ⌝ }
 {
     !is_started(plan, state, n) & (ordinal(plan, state, n) != 0)
@@ -48,7 +48,7 @@ pub fn is_stray(plan: &[u8], state: &[u8], n: usize) -> bool
 
 // How many tasks have been started.
 pub fn started(plan: &[u8], state: &[u8]) -> usize
-    requires { ⌜ Fits (now plan) (now state) ⌝ }
+    requires { ⌜ StateFits (now plan) (now state) ⌝ }
     ensures { λ r. ⌜ r ≡ startedCount (now (plan .entry)) (now (state .entry)) ⌝ }
 {
     let n = nodes(plan);
@@ -65,7 +65,7 @@ pub fn started(plan: &[u8], state: &[u8]) -> usize
 
 // For each k up to 128, how many started tasks have the ordinal k.
 fn holders(plan: &[u8], state: &[u8]) -> [u8; 129]
-    requires { ⌜ Fits (now plan) (now state) ⌝ }
+    requires { ⌜ StateFits (now plan) (now state) ⌝ }
     ensures { λ r. ⌜ (length r ≡ 129) × ((k : ℕ) → k < 129
         → getD r k 0 ≡ holders (now (plan .entry)) (now (state .entry)) k) ⌝ }
 {
@@ -84,7 +84,7 @@ fn holders(plan: &[u8], state: &[u8]) -> [u8; 129]
 
 // The ordinals of the started tasks are not each of 1 to their number exactly once.
 pub fn ordinals_bad(plan: &[u8], state: &[u8]) -> bool
-    requires { ⌜ Fits (now plan) (now state) ⌝ }
+    requires { ⌜ StateFits (now plan) (now state) ⌝ }
     ensures { λ r. ⌜ r ≡ misnumbered (now (plan .entry)) (now (state .entry)) ⌝ }
 {
     let m = started(plan, state);
@@ -101,7 +101,7 @@ pub fn ordinals_bad(plan: &[u8], state: &[u8]) -> bool
 
 // Writes the ordinal k at node n.
 pub fn write_ordinal(plan: &[u8], state: &mut [u8], n: usize, k: usize)
-    requires { ⌜ (n < nodeCount (now plan)) × ((k < 65536) × Fits (now plan) (now state)) ⌝ }
+    requires { ⌜ (n < nodeCount (now plan)) × ((k < 65536) × StateFits (now plan) (now state)) ⌝ }
     ensures { λ _. ⌜ now (state .exit) ≡ withOrdinal (now (plan .entry)) n k (now (state .entry)) ⌝ }
 {
     let at = ordinal_at(plan, n);

@@ -14,7 +14,8 @@ use Rattle.base.proofs.Booleans.{either, or-none, or-split, not-passed}
 use Rattle.plan_check.specs.Meaning.{planOf}
 use Rattle.plan_check.proofs.Meaning.{means-well-formed, kind-is, kind-task}
 use Rattle.plan_check.proofs.Nodes.{is-node, node-is, plan-kind, kind-optional}
-use Rattle.runs.specs.Plan.{Moves, Node, WellFormed}
+use Rattle.runs.specs.Plan.{Moves, Node}
+use Rattle.runs.specs.WellFormed.{WellFormed}
 use Rattle.runs.specs.Execution.{Status, waiting, running, done}
 use Rattle.runs.specs.Calls.{statusByte, empty}
 use Rattle.run_starts.specs.Starts.{nodeByte}
@@ -22,8 +23,9 @@ use Rattle.run_state.specs.State.{badByte, statusAt, moves, statusIn, ba
 use Rattle.run_state.specs.Inner.{stateRefusal}
 use Rattle.plan_blocked.specs.Blocked.{refusalUnder}
 use Rattle.plan_blocked.proofs.Refused.{list-passes}
-use Rattle.runs.specs.Tests.{listed}
-use Rattle.runs.specs.Blocked.{Stands, stands}
+use Rattle.runs.specs.Searches.{listed}
+use Rattle.runs.specs.Blocked.{Stands}
+use Rattle.runs.specs.Model.Blocked.{stands}
 use Rattle.runs.proofs.Reflect.{true-T}
 use Rattle.runs.proofs.Blocked.Standing.{r-stands}
 use Rattle.runs.proofs.Blocked.Branches.{all-standing, blocks-nothing}

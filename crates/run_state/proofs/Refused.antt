@@ -12,7 +12,7 @@ use Rattle.run_flags.specs.Flags.{flagIn}
 use Rattle.run_flags.proofs.Laws.{in-first}
 use Rattle.plan_format.specs.Format.{nodeCount, flagCount, isKind}
 use Rattle.plan_rules.specs.Rules.{refusal}
-use Rattle.runs.specs.Tests.{anyBelow, listed}
+use Rattle.runs.specs.Searches.{anyBelow, listed}
 use Rattle.plan_check.proofs.Accepted.{Clean, clean}
 use Rattle.node_sets.specs.Sets.{marked}
 use Rattle.plan_blocked.specs.Blocked.{refusalUnder}
@@ -20,7 +20,7 @@ use Rattle.plan_blocked.specs.Inner.{Standing, ListChecked}
 use Rattle.plan_blocked.proofs.Refused.{plan-accepted}
 use Rattle.runs.proofs.Searches.{some-same}
 use Rattle.run_starts.specs.Starts.{nodeByte, strayOrdinal, misnumbered}
-use Rattle.run_starts.specs.Inner.{Fits}
+use Rattle.run_starts.specs.Inner.{StateFits}
 use Rattle.run_state.specs.State.{badAbsent, malformedUnder, roomRefusalUnder, stateRefusalUnder}
 use Rattle.run_state.specs.Inner.{badByteIn, badNodeIn, StateChecked}
 use Rattle.run_state.specs.State.{tooShort, badFlag, badByte, badNode}
@@ -32,7 +32,7 @@ module _ (b s : List ℕ) where
     pub plan : Clean b
     pub room : 8 + 3 * nodeCount b ≤ length s
 
-  pub fits : Roomy → Fits b s
+  pub fits : Roomy → StateFits b s
   fits r = record { plan = r .plan .fits; room = r .room }
 
 -- a byte or an ordinal, or, in another order, an ordinal or a byte

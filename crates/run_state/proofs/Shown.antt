@@ -1,5 +1,5 @@
 -- What the fresh state shows, and that it is well formed. Assumes nothing.
-use mathlib.Core.Path.{_≡_, refl, sym, _∙_, fun-ext}
+use mathlib.Core.Path.{_≡_, refl, _∙_, fun-ext}
 use mathlib.Core.Logic.{by-cases, ⊎-elim}
 use mathlib.Core.Bool.{Bool, true, false, cond, not, and-false}
 use mathlib.Core.List.{List}
@@ -23,8 +23,8 @@ use Rattle.run_starts.specs.Starts.{nodeByte, ordinalAt, ordinalIn, startedIn, 
 use Rattle.run_state.specs.State.{badFlag, badByte, statusAt, moves}
 use Rattle.run_state.specs.State.{statusIn, flagShown, ordinalShown, worldOf}
 use Rattle.run_state.specs.State.{badAbsent, roomRefusalUnder, stateRefusalUnder}
-use Rattle.runs.specs.Tests.{listed}
-use Rattle.runs.specs.Blocked.{stands}
+use Rattle.runs.specs.Searches.{listed}
+use Rattle.runs.specs.Model.Blocked.{stands}
 use Rattle.run_state.specs.Fresh.{freshByte, freshState}
 use Rattle.run_state.proofs.Refused.{Roomy, room-passed, room-blocked, state-passed}
 use Rattle.run_state.proofs.Well.{Well, from-under}

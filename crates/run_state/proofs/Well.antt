@@ -1,10 +1,10 @@
 -- A state that is not malformed, part by part. Assumes nothing.
 use mathlib.Core.Path.{_≡_}
-use mathlib.Core.Bool.{false, not, _||_}
+use mathlib.Core.Bool.{false, _||_}
 use mathlib.Core.List.{List}
 use Prim.Native.Nat.{ℕ, _<_}
 use Rattle.plan_format.specs.Format.{nodeCount}
-use Rattle.runs.specs.Tests.{anyBelow}
+use Rattle.runs.specs.Searches.{anyBelow}
 use Rattle.base.proofs.Booleans.{or-none}
 use Rattle.runs.proofs.Searches.{none-at, none-all}
 use Rattle.run_starts.proofs.Numbers.{WellNumbered, all-once, once-all}

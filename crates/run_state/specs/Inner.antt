@@ -8,7 +8,7 @@ use lib.Dec.{eqb}
 use Rattle.node_sets.specs.Sets.{marked}
 use Rattle.plan_format.specs.Format.{nodeCount}
 use Rattle.plan_blocked.specs.Inner.{Standing}
-use Rattle.runs.specs.Tests.{listed}
+use Rattle.runs.specs.Searches.{listed}
 use Rattle.run_starts.specs.Starts.{nodeByte, strayOrdinal}
 use Rattle.run_state.specs.State.{badByte, stateRefusalUnder}
 

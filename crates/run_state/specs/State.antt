@@ -12,10 +12,10 @@ use Rattle.run_starts.specs.Starts.{nodeByte, ordinalIn, startedCount, strayOrd
 use Rattle.plan_format.specs.Format.{nodeCount, flagCount, isKind}
 use Rattle.plan_check.specs.Meaning.{planOf}
 use Rattle.plan_blocked.specs.Blocked.{refusalUnder}
-use Rattle.runs.specs.Tests.{anyBelow, listed}
+use Rattle.runs.specs.Searches.{anyBelow, listed}
 use Rattle.runs.specs.Execution.{Status, waiting, running, done}
 use Rattle.runs.specs.Calls.{World}
-use Rattle.runs.specs.Blocked.{stands}
+use Rattle.runs.specs.Model.Blocked.{stands}
 
 -- 15: under 8 + 3N bytes
 unfoldable pub tooShort : List ℕ → List ℕ → Bool

@@ -15,8 +15,8 @@ ghost use mathlib.Core.Path.{_≡_};
 ghost use Prim.Native.Nat.{_+_, _<_, _≤_};
 ghost use lib.ListN.{length};
 ghost use Rattle.plan_format.specs.Format.{nodeCount};
-ghost use Rattle.runs.specs.Tests.{anyBelow};
-ghost use Rattle.run_starts.specs.Inner.{Fits};
+ghost use Rattle.runs.specs.Searches.{anyBelow};
+ghost use Rattle.run_starts.specs.Inner.{StateFits};
 ghost use Rattle.node_sets.specs.Sets.{AllMarked};
 ghost use Rattle.run_state.specs.State.{badFlag, roomRefusalUnder, stateRefusalUnder};
 ghost use Rattle.run_state.specs.Inner.{badByteIn, badNodeIn, StateChecked};
@@ -41,7 +41,7 @@ fn flags_bad(plan: &[u8], state: &[u8]) -> bool
 
 // The byte of node n is none that it may have: one that does not stand waits.
 fn byte_bad(plan: &[u8], state: &[u8], standing: &[u8; 128], n: usize) -> bool
-    requires { ⌜ (n < nodeCount (now plan)) × Fits (now plan) (now state) ⌝ }
+    requires { ⌜ (n < nodeCount (now plan)) × StateFits (now plan) (now state) ⌝ }
     ensures { λ r. ⌜ r ≡ badByteIn (now (plan .entry)) (now (standing .entry)) (now (state .entry)) n ⌝ }
 {
     let x = state[8 + n];
@@ -59,14 +59,14 @@ fn byte_bad(plan: &[u8], state: &[u8], standing: &[u8; 128], n: usize) -> bool
 
 // The byte of node n is bad, or it has an ordinal and has not been started.
 fn node_bad(plan: &[u8], state: &[u8], standing: &[u8; 128], n: usize) -> bool
-    requires { ⌜ (n < nodeCount (now plan)) × Fits (now plan) (now state) ⌝ }
+    requires { ⌜ (n < nodeCount (now plan)) × StateFits (now plan) (now state) ⌝ }
     ensures { λ r. ⌜ r ≡ badNodeIn (now (plan .entry)) (now (standing .entry)) (now (state .entry)) n ⌝ }
 {
     byte_bad(plan, state, standing, n) | is_stray(plan, state, n)
 }
 
 fn nodes_bad(plan: &[u8], state: &[u8], standing: &[u8; 128]) -> bool
-    requires { ⌜ Fits (now plan) (now state) ⌝ }
+    requires { ⌜ StateFits (now plan) (now state) ⌝ }
     ensures { λ r. ⌜ r ≡ anyBelow (nodeCount (now (plan .entry)))
         (badNodeIn (now (plan .entry)) (now (standing .entry)) (now (state .entry))) ⌝ }
 {

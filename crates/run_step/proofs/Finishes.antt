@@ -10,7 +10,7 @@ use Rattle.runs.specs.Plan.{post, placeNumber}
 use Rattle.runs.specs.Calls.{finishes, Rising}
 use Rattle.runs.proofs.Calls.Listed.{rising-tail}
 use Rattle.run_state.specs.Made.{made}
-use Rattle.runs.specs.Tests.{listed}
+use Rattle.runs.specs.Searches.{listed}
 use Rattle.node_sets.specs.One.{only}
 use Rattle.run_conditions.proofs.Laws.{made-nil, made-cons, made-length}
 use Rattle.run_step.specs.Steps.{withEvent, afterAll}

@@ -8,7 +8,7 @@ use run_conditions::with_literals;
 use run_flags::load;
 use run_flags::store;
 use run_refusals::Move;
-use run_refusals::place_of;
+use run_refusals::asserted_place;
 use run_starts::started;
 use run_starts::write_ordinal;
 ghost use mathlib.Core.Path.{_≡_};
@@ -37,11 +37,11 @@ pub fn write_move(plan: &[u8], state: &mut [u8], m: Move, task: usize)
     match m {
         Move::Start => {
             let k = started(plan, state) + 1;
-            write_event(plan, state, place_of(m), task, RUNNING);
+            write_event(plan, state, asserted_place(m), task, RUNNING);
             write_ordinal(plan, state, task, k);
         }
         Move::Finish => {
-            write_event(plan, state, place_of(m), task, DONE);
+            write_event(plan, state, asserted_place(m), task, DONE);
         }
     }
 }

@@ -10,7 +10,7 @@ ghost use lib.ListN.{length};
 ghost use lib.Dec.{eqb};
 ghost use Rattle.plan_format.specs.Format.{isKind};
 ghost use Rattle.plan_format.specs.Whole.{Whole};
-ghost use Rattle.runs.specs.Tests.{anyIn};
+ghost use Rattle.runs.specs.Searches.{anyIn};
 ghost use Rattle.runs.specs.Model.Monitor.{notRisingB};
 ghost use Rattle.run_starts.specs.Starts.{nodeByte};
 ghost use Rattle.node_sets.specs.Sets.{Each};

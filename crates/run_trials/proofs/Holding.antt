@@ -19,7 +19,8 @@ use Rattle.run_starts.specs.Starts.{misnumbered}
 use Rattle.run_state.specs.State.{tooShort, badFlag, badByte, badNode, statusAt, moves, statusIn}
 use Rattle.run_state.specs.State.{badAbsent, malformedUnder, roomRefusalUnder, stateRefusalUnder}
 use Rattle.plan_blocked.specs.Blocked.{refusalUnder}
-use Rattle.runs.specs.Blocked.{stands, standingOrder, markedUnderB, unblockableB, refused28B, refused29B, blockedRefusal}
+use Rattle.runs.specs.Model.Blocked.{stands, standingOrder, markedUnderB, unblockableB, refused28B, refused29B}
+use Rattle.runs.specs.Model.Blocked.{blockedRefusal}
 use Rattle.run_calls.specs.Shown.{flagByte, numberByte, shownByte}
 use Rattle.run_trials.specs.Written.{two, twos, eight, names, nodes, conditionNodes, conditionValues}
 use Rattle.run_trials.specs.Written.{earlierNodes, laterNodes, bytesOf}

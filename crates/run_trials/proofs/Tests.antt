@@ -13,14 +13,16 @@ use Rattle.base.specs.Answers.{overlay}
 use Rattle.plan_format.specs.Format.{nodeCount, flagCount}
 use Rattle.plan_blocked.specs.Blocked.{planUnder, refusalUnder}
 use Rattle.plan_blocked.proofs.Refused.{plan-accepted, blocks, under-well-formed}
-use Rattle.runs.specs.Blocked.{MarkedUnder, markedUnderB}
+use Rattle.runs.specs.Blocked.{MarkedUnder}
+use Rattle.runs.specs.Model.Blocked.{markedUnderB}
 use Rattle.runs.proofs.Blocked.Branches.{blocked-marks}
 use Rattle.base.proofs.Booleans.{and-both}
 use Rattle.plan_check.specs.Meaning.{planOf, startOf}
 use Rattle.plan_check.proofs.Meaning.{means-well-formed}
 use Rattle.runs.specs.Calls.{World, fresh}
 use Rattle.runs.specs.Summary.{Mark}
-use Rattle.runs.specs.Tests.{both, allBelow, listed, sameList}
+use Rattle.runs.specs.Tests.{both, allBelow, sameList}
+use Rattle.runs.specs.Searches.{listed}
 use Rattle.runs.specs.Verdict.{Verdict-discrete}
 use Rattle.runs.specs.Model.Monitor.{returns, states}
 use Rattle.runs.specs.Model.Verdicts.{verdict}

@@ -3,14 +3,14 @@ use Prim.Native.Nat.{ℕ}
 use mathlib.Core.List.{List, [], _∷_}
 use Rattle.runs.specs.Plan.{any-of, optional}
 use Rattle.runs.specs.Execution.{Status, waiting, running, done}
-use Rattle.runs.specs.Summary.{may-pre, may-post, must-post}
+use Rattle.runs.specs.Summary.{must-post}
 use Rattle.runs.specs.Verdict.{CLEAR, DOOMED}
 use Rattle.runs.specs.Calls.{together, no-task, wrong-status, branch-begun, order-open, pre-unmet, number}
 use Rattle.run_monitor.specs.Status.{Word, COMPLETE, UNFINISHED}
 use Rattle.run_trials.specs.Written.{PlanPieces}
 use Rattle.run_trials.specs.Trial.{Trial, shown, stateBytes}
 use Rattle.run_trials.specs.Checked.{StateRow, Worded, Listing}
-use Rattle.run_trials.specs.Terms.{off, on, none-set, one-set, two-set, begin, end, omit, ok, trial-without}
+use Rattle.run_trials.specs.Terms.{off, none-set, one-set, two-set, begin, end, omit, ok, trial-without}
 use Rattle.run_trials.specs.Terms.{waits}
 use Rattle.run_trials.specs.Terms.{unstarted}
 use Rattle.run_trials.specs.Starred.{picked}

@@ -8,7 +8,7 @@ use lib.ListN.{getD}
 use Rattle.base.specs.Answers.{overlay}
 use Rattle.plan_format.specs.Format.{nodeCount}
 use Rattle.plan_blocked.specs.Blocked.{refusalUnder}
-use Rattle.runs.specs.Tests.{listed}
+use Rattle.runs.specs.Searches.{listed}
 use Rattle.runs.specs.Blocked.{MarkedUnder}
 use Rattle.runs.specs.Plan.{signNumber}
 use Rattle.plan_check.specs.Meaning.{planOf}

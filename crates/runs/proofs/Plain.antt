@@ -2,7 +2,7 @@
 -- defines without 02's skips, and a skip call changes nothing. Where nothing is left opposite ways, mark 6 is 01's.
 use Rattle.runs.proofs.Base.{_≡_, refl, sym, _≢_, inl, inr, _↔_, Bool, not, some, [], _∷_, ℕ, T}
 use Rattle.runs.specs.Plan.{Kind, task, all-of, any-of, optional, Moves, post, Plan, Node, Child, Under}
-use Rattle.runs.specs.Plan.{WellFormed}
+use Rattle.runs.specs.WellFormed.{WellFormed}
 use Rattle.runs.specs.Execution.{waiting, running, done, State, Event, start, finish, skip, History, statusAfter}
 use Rattle.runs.specs.Execution.{task-done, all-done, any-done, skip-done, Complete, Begun, Rival, by-branch}
 use Rattle.runs.specs.Execution.{by-skip, Ready, Enabled, can-start, can-finish, can-skip, Execution, none-yet}

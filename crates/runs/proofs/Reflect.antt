@@ -3,7 +3,8 @@
 use Rattle.runs.proofs.Base.{_≡_, refl, ap, _⊎_, inl, inr, _↔_, Bool, true, false, not, decide, Option, none}
 use Rattle.runs.proofs.Base.{some, List, [], _∷_, ℕ, zero, suc, _<_, arith, ℕ-discrete, T, eqb, ltb, eqb→eq}
 use Rattle.runs.proofs.Base.{eqb-refl, ltb→lt, lt→ltb}
-use Rattle.runs.specs.Tests.{both, either, implies, negate, anyBelow, allBelow, sameB, sameList, isNone, isSome}
+use Rattle.runs.specs.Tests.{both, implies, negate, allBelow, sameB, sameList, isNone, isSome}
+use Rattle.runs.specs.Searches.{either, anyBelow}
 
 -- two constructors are equal: `clash cc`
 pub clash : {A : Type 0} → _≡_ {A = ℕ} 0 1 → A

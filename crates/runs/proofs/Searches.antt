@@ -2,7 +2,7 @@
 use mathlib.Core.Bool.{true≢false}
 use Prim.Native.Nat.{_-_}
 use native.Mathlib.Numerals.{add-one}
-use Rattle.runs.specs.Tests.{anyBelow, either}
+use Rattle.runs.specs.Searches.{anyBelow, either}
 use Rattle.runs.proofs.Base.{_≡_, refl, sym, ap, _∙_, Bool, true, false, ℕ, suc, _+_, _<_, arith}
 use Rattle.runs.proofs.Reflect.{Reflects, r-map, r-any, true-T, T-true, same-test}
 

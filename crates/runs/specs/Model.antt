@@ -5,3 +5,4 @@ pub mod Marks
 pub mod Verdicts
 pub mod Monitor
 pub mod Computing
+pub mod Blocked

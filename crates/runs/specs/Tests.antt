@@ -12,10 +12,6 @@ unfoldable pub both : Bool → (Unit {0} → Bool) → Bool
 both true g = g tt
 both false g = false
 
-unfoldable pub either : Bool → (Unit {0} → Bool) → Bool
-either true g = true
-either false g = g tt
-
 unfoldable pub implies : Bool → (Unit {0} → Bool) → Bool
 implies true g = g tt
 implies false g = true
@@ -23,21 +19,9 @@ implies false g = true
 unfoldable pub negate : Bool → Bool
 negate b = not b
 
-unfoldable pub anyBelow : ℕ → (ℕ → Bool) → Bool
-anyBelow zero g = false
-anyBelow (suc m) g = either (g m) (λ u. anyBelow m g)
-
 unfoldable pub allBelow : ℕ → (ℕ → Bool) → Bool
 allBelow zero g = true
 allBelow (suc m) g = both (g m) (λ u. allBelow m g)
-
-unfoldable pub anyIn : List ℕ → (ℕ → Bool) → Bool
-anyIn [] g = false
-anyIn (t ∷ ts) g = either (g t) (λ u. anyIn ts g)
-
--- x is among the numbers of a list
-unfoldable pub listed : List ℕ → ℕ → Bool
-listed ts x = anyIn ts (eqb x)
 
 unfoldable pub sameB : Bool → Bool → Bool
 sameB true v = v

@@ -8,7 +8,8 @@ use native.Mathlib.Omega.{arith}
 use lib.ListN.{length, getD}
 use lib.Dec.{eqb, ltb, eqb→eq}
 use borrow.Author.Tests.{eq-eqb, ne-eqb, lt-ltb, le-ltb, ltb-true, ltb-false}
-use Rattle.base.specs.Bits.{bit, Says}
+use Rattle.base.specs.Bits.{bit}
+use Rattle.base.specs.Words.{Says}
 use Rattle.base.specs.Answers.{overlay}
 use Rattle.base.proofs.First.{first-some, both-none, check-passed}
 use Rattle.base.proofs.Says.{says-map, says-none}
@@ -19,8 +20,10 @@ use Rattle.plan_rules.specs.Rules.{refusal}
 use Rattle.plan_blocked.specs.Blocked.{refusalUnder}
 use Rattle.plan_blocked.specs.Inner.{Standing}
 use Rattle.plan_blocked.proofs.Refused.{plan-accepted, blocks}
-use Rattle.runs.specs.Tests.{listed}
-use Rattle.runs.specs.Blocked.{without, MarkedUnder, markedUnderB, Blocks}
+use Rattle.runs.specs.Searches.{listed}
+use Rattle.runs.specs.Blocked.{MarkedUnder}
+use Rattle.runs.specs.Branches.{Blocks}
+use Rattle.runs.specs.Model.Blocked.{without, markedUnderB}
 use Rattle.runs.proofs.Blocked.Branches.{blocked-marks}
 use Rattle.runs.specs.Plan.{Node, signNumber}
 use Rattle.runs.proofs.Plan.Numbers.{sign-small}

@@ -4,12 +4,13 @@ use mathlib.Core.Bool.{Bool}
 use mathlib.Core.List.{List}
 use Prim.Native.Nat.{ℕ, _<_}
 use lib.ListN.{getD}
-use Rattle.base.specs.Bits.{Says}
+use Rattle.base.specs.Words.{Says}
 use Rattle.plan_check.specs.Meaning.{planOf}
 use Rattle.plan_blocked.specs.Inner.{Standing}
-use Rattle.runs.specs.Tests.{listed}
+use Rattle.runs.specs.Searches.{listed}
 use Rattle.runs.specs.Summary.{Mark}
-use Rattle.runs.specs.Blocked.{MarkedUnder, Blocks}
+use Rattle.runs.specs.Blocked.{MarkedUnder}
+use Rattle.runs.specs.Branches.{Blocks}
 use Rattle.marks_words.specs.Words.{wordIndex}
 use Rattle.summary.specs.Summary.{summaryRefusal}
 

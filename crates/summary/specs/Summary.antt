@@ -10,11 +10,12 @@ use lib.Dec.{eqb, ltb}
 use Rattle.base.specs.Answers.{first, overlay}
 use Rattle.plan_format.specs.Format.{nodeCount, flagCount}
 use Rattle.plan_blocked.specs.Blocked.{refusalUnder}
-use Rattle.runs.specs.Tests.{listed}
+use Rattle.runs.specs.Searches.{listed}
 use Rattle.runs.specs.Plan.{signNumber}
 use Rattle.plan_check.specs.Meaning.{planOf}
 use Rattle.runs.specs.Summary.{Mark, byteOf, markAt}
-use Rattle.runs.specs.Blocked.{MarkedUnder, markedUnderB}
+use Rattle.runs.specs.Blocked.{MarkedUnder}
+use Rattle.runs.specs.Model.Blocked.{markedUnderB}
 
 -- 1 to 14, 28 and 29; 15: under 16 V bytes; 17: no node
 unfoldable pub summaryRefusal : List ℕ → List ℕ → ℕ → List ℕ → ℕ

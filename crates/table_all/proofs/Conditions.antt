@@ -9,7 +9,7 @@ use native.Mathlib.Omega.{arith}
 use lib.Bits.{bitOr}
 use lib.ListN.{length, getD, set, length-set}
 use lib.Seq.{getD-set-same, getD-set-other}
-use Rattle.base.specs.Bits.{Says}
+use Rattle.base.specs.Words.{Says}
 use Rattle.base.proofs.Bits.{one-shl}
 use Rattle.base.proofs.Says.{says-map, says-eq, says-none, says-set}
 use Rattle.plan_codes.specs.Values.{valueOf}

@@ -16,7 +16,7 @@ use Rattle.table_orders.proofs.Table.{Tabled, tabled-none, tabled-more, tabled-
 use Rattle.plan_reader.specs.Items.{itemCount, itemOf}
 use Rattle.plan_reader.specs.declared.items.Item.{Item}
 use Rattle.plan_reader.proofs.Positions.{item-node, item-condition, item-order}
-use Rattle.table_all.specs.Filled.{Fits, Stored, ItemsOf}
+use Rattle.table_all.specs.Filled.{ItemFits, Stored, ItemsOf}
 use Rattle.table_all.proofs.NodeKinds.{Kinds, kinds-none, kinds-more, kinds-all}
 use Rattle.table_all.proofs.Conditions.{Noted, noted-none, noted-more, noted-all}
 
@@ -64,17 +64,17 @@ kind-of b i l =
     (λ n. an-order (i - nodeCount b - condCount b) (omega arith) (omega arith)))
 
 module _ (b : List ℕ) (u : Clean b) {i : ℕ} (r : Item) (e : r ≡ itemOf b i) where
-  fits-at : Kind b i → Fits i r
-  unfolding Fits
-  fits-at (a-node m) = subst (λ (x : Item). Fits i x) (sym (e ∙ item-node b m)) (omega (arith, u .fits .limits .nodes))
+  fits-at : Kind b i → ItemFits i r
+  unfolding ItemFits
+  fits-at (a-node m) = subst (λ (x : Item). ItemFits i x) (sym (e ∙ item-node b m)) (omega (arith, u .fits .limits .nodes))
   fits-at (a-condition j f m) =
       let v = usable b (u .fits) (u .conditions) in
-      subst (λ (x : Item). Fits i x) (sym (e ∙ item-condition b f m))
+      subst (λ (x : Item). ItemFits i x) (sym (e ∙ item-condition b f m))
       (omega (arith, v .node j m), omega (arith, v .value j m))
   fits-at (an-order j f m) = let s = sorted b u in
-      subst (λ (x : Item). Fits i x) (sym (e ∙ item-order b j f)) (s .lower j m, s .small j m)
+      subst (λ (x : Item). ItemFits i x) (sym (e ∙ item-order b j f)) (s .lower j m, s .small j m)
 
-  pub drawn-fits : i < itemCount b → Fits i r
+  pub drawn-fits : i < itemCount b → ItemFits i r
   drawn-fits l = fits-at (kind-of b i l)
 
   module _ {k o c : List ℕ} (k′ o′ c′ : List ℕ) (d : Drawn b k o c i) (t : Stored i r k k′ o o′ c c′) where

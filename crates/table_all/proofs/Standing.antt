@@ -1,13 +1,12 @@
 -- The tables of a plan are tables of what is left of it without blocked nodes, if that of the children has only the nodes
 -- that stand. Assumes nothing.
 use mathlib.Core.Path.{_≡_, sym, subst, fun-ext}
-use mathlib.Core.Logic.{by-cases, _↔_, Iff·trans}
-use mathlib.Core.Bool.{Bool, true, false}
+use mathlib.Core.Logic.{by-cases, Iff·trans}
+use mathlib.Core.Bool.{Bool, false}
 use mathlib.Core.List.{List}
 use Prim.Native.Nat.{ℕ, _<_}
 use native.Mathlib.Decide.{decLt}
 use native.Mathlib.Omega.{arith}
-use lib.Dec.{T}
 use borrow.Author.Tests.{lt-ltb, le-ltb}
 use Rattle.node_sets.specs.Sets.{marked}
 use Rattle.plan_format.specs.Format.{nodeCount}
@@ -17,8 +16,11 @@ use Rattle.plan_check.specs.Meaning.{planOf}
 use Rattle.plan_check.proofs.Meaning.{means-well-formed}
 use Rattle.plan_check.proofs.Nodes.{node-is}
 use Rattle.runs.specs.Tests.{both}
-use Rattle.runs.specs.Plan.{Plan, Node, WellFormed}
-use Rattle.runs.specs.Blocked.{within, over, Stands, stands, without, Blocks}
+use Rattle.runs.specs.Plan.{Node}
+use Rattle.runs.specs.WellFormed.{WellFormed}
+use Rattle.runs.specs.Blocked.{Stands}
+use Rattle.runs.specs.Branches.{Blocks}
+use Rattle.runs.specs.Model.Blocked.{within, over, stands, without}
 use Rattle.runs.proofs.Reflect.{true-T}
 use Rattle.runs.proofs.Blocked.Standing.{r-stands}
 use Rattle.runs.proofs.Blocked.Branches.{before-standing}

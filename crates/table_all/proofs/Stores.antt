@@ -10,20 +10,20 @@ use Rattle.plan_reader.specs.declared.items.Condition.{Condition}
 use Rattle.plan_reader.specs.declared.items.Order.{Order}
 use Rattle.plan_reader.specs.declared.items.Item.{Item}
 use Rattle.plan_reader.specs.declared.items.Item.the-variants as item
-use Rattle.table_all.specs.Filled.{Fits, Stored}
+use Rattle.table_all.specs.Filled.{ItemFits, Stored}
 
 module _ (at : ℕ) {i : Item} where
-  pub fits-node : {x : Node} → i ≡ item.Node x → Fits at i → at < 128
-  unfolding Fits
-  fits-node e f = subst (λ (j : Item). Fits at j) e f
+  pub fits-node : {x : Node} → i ≡ item.Node x → ItemFits at i → at < 128
+  unfolding ItemFits
+  fits-node e f = subst (λ (j : Item). ItemFits at j) e f
 
-  pub fits-condition : {x : Condition} → i ≡ item.Condition x → Fits at i → (x .node < 128) × (x .value ≤ 383)
-  unfolding Fits
-  fits-condition e f = subst (λ (j : Item). Fits at j) e f
+  pub fits-condition : {x : Condition} → i ≡ item.Condition x → ItemFits at i → (x .node < 128) × (x .value ≤ 383)
+  unfolding ItemFits
+  fits-condition e f = subst (λ (j : Item). ItemFits at j) e f
 
-  pub fits-order : {x : Order} → i ≡ item.Order x → Fits at i → (x .earlier < x .later) × (x .later < 128)
-  unfolding Fits
-  fits-order e f = subst (λ (j : Item). Fits at j) e f
+  pub fits-order : {x : Order} → i ≡ item.Order x → ItemFits at i → (x .earlier < x .later) × (x .later < 128)
+  unfolding ItemFits
+  fits-order e f = subst (λ (j : Item). ItemFits at j) e f
 
   module _ (k o c : List ℕ) where
     pub stored-node : {x : Node} → i ≡ item.Node x → Stored at i k (set k at (x .kind)) o o c c

@@ -9,7 +9,8 @@ use Rattle.base.specs.Zeros.{Zeros}
 use Rattle.plan_format.specs.Format.{nodeCount}
 use Rattle.plan_check.specs.Meaning.{planOf}
 use Rattle.tables.specs.Represents.{Represents, RepresentsKinds, RepresentsOrder, RepresentsConditions}
-use Rattle.runs.specs.Blocked.{without, Blocks}
+use Rattle.runs.specs.Branches.{Blocks}
+use Rattle.runs.specs.Model.Blocked.{without}
 use Rattle.plan_blocked.specs.Inner.{Standing}
 use Rattle.table_orders.specs.Links.{Linked, Leading}
 use Rattle.table_children.specs.Children.{TreeIn, planWith}
@@ -33,10 +34,10 @@ pub record TablesOf (b standing kind from kids order conds : List ℕ) : Type 0 
       → Represents kind from kids order conds (nodeCount b) (without (planOf b) S)
 
 -- an item that has a place in the tables
-unfoldable pub Fits : ℕ → Item → Type 0
-Fits at (item.Node x) = at < NODES
-Fits at (item.Condition x) = (x .node < NODES) × (x .value ≤ 383)
-Fits at (item.Order x) = (x .earlier < x .later) × (x .later < NODES)
+unfoldable pub ItemFits : ℕ → Item → Type 0
+ItemFits at (item.Node x) = at < NODES
+ItemFits at (item.Condition x) = (x .node < NODES) × (x .value ≤ 383)
+ItemFits at (item.Order x) = (x .earlier < x .later) × (x .later < NODES)
 
 -- what an item changes in the tables, and that the others stay as they are
 unfoldable pub Stored : ℕ → Item → List ℕ → List ℕ → List ℕ → List ℕ → List ℕ → List ℕ → Type 0

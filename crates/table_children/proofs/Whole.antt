@@ -1,5 +1,5 @@
 -- Where every node is marked, what is left is the whole plan. Assumes nothing.
-use mathlib.Core.Path.{_≡_, refl, ap, subst, fun-ext}
+use mathlib.Core.Path.{_≡_, ap, subst, fun-ext}
 use mathlib.Core.Logic.{by-cases}
 use mathlib.Core.Bool.{Bool}
 use mathlib.Core.List.{List}
@@ -14,7 +14,7 @@ use Rattle.plan_check.specs.Meaning.{planOf}
 use Rattle.plan_check.proofs.Accepted.{clean}
 use Rattle.runs.specs.Tests.{both}
 use Rattle.runs.specs.Plan.{Plan}
-use Rattle.runs.specs.Blocked.{within, over}
+use Rattle.runs.specs.Model.Blocked.{within, over}
 use Rattle.table_children.specs.Children.{TreeIn, planWith, TreeOf}
 
 all-left : (b table : List ℕ) → refusal b ≡ 0 → AllMarked table → planWith b table ≡ planOf b

@@ -3,7 +3,8 @@ use mathlib.Core.Bool.{Bool}
 use mathlib.Core.List.{List}
 use Prim.Native.Nat.{ℕ}
 use Rattle.runs.specs.Plan.{Node}
-use Rattle.runs.specs.Blocked.{without, Blocks}
+use Rattle.runs.specs.Branches.{Blocks}
+use Rattle.runs.specs.Model.Blocked.{without}
 use Rattle.plan_check.specs.Meaning.{planOf}
 use Rattle.plan_blocked.specs.Inner.{Standing}
 use Rattle.plan_format.specs.Format.{nodeCount}

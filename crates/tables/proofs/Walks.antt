@@ -6,7 +6,7 @@ use mathlib.Core.List.{List}
 use Prim.Native.Nat.{ℕ, _+_, _≤_}
 use native.Mathlib.Omega.{arith}
 use lib.ListN.{getD}
-use Rattle.runs.specs.Plan.{Plan, Under}
+use Rattle.runs.specs.Plan.{Plan}
 use Rattle.runs.proofs.Plan.Trees.{Branch, branch}
 use Rattle.tables.specs.declared.Segment.{Segment}
 use Rattle.tables.specs.Segments.{ChildrenOf}

@@ -8,7 +8,8 @@ use native.Mathlib.Nat.{pow-suc}
 use native.Mathlib.Omega.{arith}
 use lib.ListN.{length, getD, length-append, List·getD-append}
 use lib.Seq.{getD-append-seam}
-use Rattle.text_decimals.specs.Decimals.{Digits, valueFrom, Plain, unlessZero, decimalBy, decimal}
+use Rattle.text_decimals.specs.Decimals.{Digits, valueFrom, Plain}
+use Rattle.text_decimals.specs.Model.{unlessZero, decimalBy, decimal}
 
 unless-same : (n : ℕ) (f g : ℕ → List ℕ) → (0 < n → f n ≡ g n) → unlessZero n f ≡ unlessZero n g
 unless-same zero f g h = refl

@@ -1,7 +1,7 @@
 -- Plain decimals, and bytes written one after another. Definitions only.
-use Prim.Native.Nat.{ℕ, zero, suc, _+_, _-_, _*_, _/_, _%_, _<_, _≤_}
+use Prim.Native.Nat.{ℕ, _+_, _-_, _*_, _<_, _≤_}
 use mathlib.Core.Path.{_≡_}
-use mathlib.Core.List.{List, [], _∷_, _++_}
+use mathlib.Core.List.{List, [], _∷_}
 use lib.ListN.{length, getD}
 use lib.Seq.{sets}
 
@@ -30,19 +30,3 @@ pub record Plain (n : ℕ) (s : List ℕ) : Type 0 where
   pub digits : Digits s
   pub value : valueFrom 0 s ≡ n
   pub no-leading-zero : getD s 0 0 ≡ 48 → length s ≡ 1
-
--- ---- and computed
--- the digits of a number that is not 0; of 0 none
-abbrev pub unlessZero : ℕ → (ℕ → List ℕ) → List ℕ
-unlessZero zero f = []
-unlessZero (suc n) f = f (suc n)
-
--- the digits of n / 10, where that is not 0, and the last digit (48 is the digit 0); k is the number of digits that are
--- worked out
-unfoldable pub decimalBy : ℕ → ℕ → List ℕ
-decimalBy zero n = []
-decimalBy (suc k) n = unlessZero (n / 10) (decimalBy k) ++ ((48 + n % 10) ∷ [])
-
--- n + 1 digits are enough
-unfoldable pub decimal : ℕ → List ℕ
-decimal n = decimalBy (suc n) n

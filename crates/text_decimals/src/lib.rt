@@ -2,7 +2,8 @@
 ghost use mathlib.Core.List.{[], _∷_};
 ghost use Prim.Native.Nat.{_+_, _<_, _≤_};
 ghost use lib.ListN.{length};
-ghost use Rattle.text_decimals.specs.Decimals.{decimal, Wrote};
+ghost use Rattle.text_decimals.specs.Decimals.{Wrote};
+ghost use Rattle.text_decimals.specs.Model.{decimal};
 
 // Writes a byte, and answers where the next one goes.
 pub fn put(out: &mut [u8], at: usize, x: u8) -> usize

@@ -5,12 +5,12 @@ use Rattle.plan_format.specs.Format.{u16At, nodeCount, condCount, orderCount, n
 use Rattle.plan_format.specs.Format.{minutesOf, earlierOf, laterOf, isKind, nameOf}
 use Rattle.plan_rules.specs.Rules.{isChild}
 use Rattle.plan_check.specs.Meaning.{kindAt}
-use Rattle.text_decimals.specs.Decimals.{decimalBy, decimal}
+use Rattle.text_decimals.specs.Model.{decimalBy, decimal}
 use Rattle.wait_lengths.specs.Waits.{greatest, waitBy, lengthAs, lengthBy, lengthOf, waitWithin, waitsTo, longestWait}
 use Rattle.plan_examples.specs.Plans.{planB, sized, tasks, flat, fallingNames, equalNames, lastCharacters}
 use Rattle.plan_examples.specs.Plans.{firstCharacters}
-use Rattle.text_order.specs.Order.{keyWith, keyOf, inserted, rankedTo, ranking}
-use Rattle.text_lines.specs.Lines.{ending, lineOf, linesOf}
+use Rattle.text_order.specs.Model.{keyWith, keyOf, inserted, rankedTo, ranking}
+use Rattle.text_lines.specs.Model.{ending, lineOf, linesOf}
 
 -- RADI 12, SATL 12, CAST 0
 pub lines-of-B : linesOf planB (ranking planB)

@@ -9,15 +9,17 @@ use lib.ListN.{length, getD, take, drop, length-append}
 use lib.Seq.{take-suc, take-all, getD-take, drop-cons}
 use Rattle.plan_format.specs.Format.{nodeCount, nameChar, nameOf}
 use Rattle.plan_check.proofs.Accepted.{Clean}
-use Rattle.text_decimals.specs.Decimals.{decimal, Wrote}
+use Rattle.text_decimals.specs.Decimals.{Wrote}
+use Rattle.text_decimals.specs.Model.{decimal}
 use Rattle.text_decimals.proofs.Decimals.{length-limit, plain, plain-only}
 use Rattle.text_decimals.proofs.Written.{written-none, wrote-then, wrote-same}
 use Rattle.wait_lengths.specs.Waits.{longestWait}
 use Rattle.wait_lengths.proofs.Bounds.{end-limit}
-use Rattle.text_order.specs.Order.{rankedTo, ranking}
+use Rattle.text_order.specs.Model.{rankedTo, ranking}
 use Rattle.text_order.specs.Places.{Ranking}
 use Rattle.text_order.proofs.Order.{among-at, ranked-task, ranking-length}
-use Rattle.text_lines.specs.Lines.{TaskLines, no-lines, line, ending, lineOf, linesOf}
+use Rattle.text_lines.specs.Lines.{TaskLines, no-lines, line}
+use Rattle.text_lines.specs.Model.{ending, lineOf, linesOf}
 
 pub name-length : (b : List ℕ) (n : ℕ) → length (nameOf b n) ≡ 4
 unfolding nameOf

@@ -1,2 +1,3 @@
 -- The task lines of the listing.
 pub mod Lines
+pub mod Model

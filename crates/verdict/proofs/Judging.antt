@@ -5,7 +5,7 @@ use mathlib.Core.Bool.{Bool}
 use mathlib.Core.List.{List, []}
 use Prim.Native.Nat.{ℕ, zero, suc, _^_, _<_, _≤_}
 use native.Mathlib.Omega.{arith}
-use Rattle.base.specs.Bits.{Says}
+use Rattle.base.specs.Words.{Says}
 use Rattle.base.proofs.Words.{no-bits}
 use Rattle.base.proofs.Says.{no-flag}
 use Rattle.base.specs.Answers.{refusedOr}
@@ -18,9 +18,10 @@ use Rattle.plan_blocked.specs.Blocked.{planUnder, refusalUnder}
 use Rattle.plan_blocked.proofs.Refused.{plan-accepted, blocks, under-well-formed, none-under}
 use Rattle.plan_blocked.proofs.Standing.{all-stand}
 use Rattle.node_sets.specs.Sets.{AllMarked}
-use Rattle.runs.specs.Tests.{listed}
-use Rattle.runs.specs.Plan.{Plan, WellFormed}
-use Rattle.runs.specs.Blocked.{without, blockedRefusal}
+use Rattle.runs.specs.Searches.{listed}
+use Rattle.runs.specs.Plan.{Plan}
+use Rattle.runs.specs.WellFormed.{WellFormed}
+use Rattle.runs.specs.Model.Blocked.{without, blockedRefusal}
 use Rattle.runs.proofs.Blocked.Branches.{refusal-28, refusal-29, blocks-nothing, blocked-well-formed}
 use Rattle.runs.specs.Summary.{Mark, may-pre, must-pre, may-clobber, must-clobber}
 use Rattle.runs.specs.Verdict as verdicts

@@ -9,7 +9,7 @@ use native.Mathlib.Omega.{arith}
 use lib.Bits.{bitOr}
 use lib.Dec.{ltb}
 use borrow.Author.Tests.{lt-ltb, ltb-true}
-use Rattle.base.specs.Bits.{Says}
+use Rattle.base.specs.Words.{Says}
 use Rattle.base.proofs.Says.{says-map, says-none, says-set}
 use Rattle.plan_format.specs.Format.{flagCount, startFlag}
 use Rattle.plan_check.specs.Meaning.{startOf}

@@ -5,8 +5,10 @@ use mathlib.Core.List.{List}
 use Prim.Native.Nat.{ℕ, _≤_}
 use Rattle.plan_check.specs.Meaning.{planOf, startOf}
 use Rattle.plan_blocked.specs.Inner.{Standing}
-use Rattle.runs.specs.Plan.{Plan, WellFormed}
-use Rattle.runs.specs.Blocked.{without, Blocks}
+use Rattle.runs.specs.Plan.{Plan}
+use Rattle.runs.specs.WellFormed.{WellFormed}
+use Rattle.runs.specs.Branches.{Blocks}
+use Rattle.runs.specs.Model.Blocked.{without}
 use Rattle.runs.specs.Model.Verdicts.{verdict}
 use Rattle.marks_words.specs.Words.{MarkWords, StartWord}
 use Rattle.verdict.specs.declared.Verdict.{Verdict}

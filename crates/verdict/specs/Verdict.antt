@@ -7,11 +7,11 @@ use Rattle.base.specs.Answers.{refusedOr}
 use Rattle.plan_rules.specs.Rules.{refusal}
 use Rattle.plan_check.specs.Meaning.{planOf, startOf}
 use Rattle.plan_blocked.specs.Blocked.{planUnder, refusalUnder}
-use Rattle.runs.specs.Tests.{listed}
+use Rattle.runs.specs.Searches.{listed}
 use Rattle.runs.specs.Verdict as verdicts
 use Rattle.runs.specs.Verdict.{CLEAR, DOOMED, OPEN, Judged}
 use Rattle.runs.specs.Blocked.{Refused28, Refused29}
-use Rattle.runs.specs.Demand3.{NeverViolates, NeverCompletes}
+use Rattle.runs.specs.Violations.{NeverViolates, NeverCompletes}
 use Rattle.runs.specs.Model.Verdicts.{verdict}
 use Rattle.verdict.specs.declared.Verdict.{Verdict}
 use Rattle.verdict.specs.declared.Verdict.the-variants.{Clear, Doomed, Open}

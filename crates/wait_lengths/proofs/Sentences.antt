@@ -10,13 +10,13 @@ use lib.Dec.{eqb}
 use borrow.Author.Tests.{eqb-true, eq-eqb}
 use Rattle.plan_format.specs.Format.{nodeCount, orderCount, parentOf, kindOf, earlierOf, laterOf, isKind, isChoice}
 use Rattle.plan_rules.specs.Rules.{isChild}
-use Rattle.runs.specs.Tests.{anyBelow}
+use Rattle.runs.specs.Searches.{anyBelow}
 use Rattle.base.proofs.Booleans.{either}
 use Rattle.runs.proofs.Searches.{found-at, none-at}
 use Rattle.plan_check.proofs.Accepted.{Clean}
 use Rattle.plan_check.proofs.Meaning.{kind-is, kind-of, kind-group, group-of, child-of}
 use Rattle.wait_lengths.specs.Waits.{greatest, lengthOf, waitWithin, longestWait}
-use Rattle.wait_lengths.specs.Sentences.{Greatest, Child, OrderInto, Times}
+use Rattle.wait_lengths.specs.Sentences.{Greatest, ChildIn, OrderInto, Times}
 use Rattle.wait_lengths.proofs.Greatest.{greatest-empty, greatest-le}
 use Rattle.wait_lengths.proofs.Lengths.{choice-is, choice-of, child-lower, earlier-child, length-task}
 use Rattle.wait_lengths.proofs.Lengths.{length-any}
@@ -60,7 +60,7 @@ module _ (p : ℕ → Bool) (f : ℕ → ℕ) where
 module _ (b : List ℕ) (ok : Clean b) where
   -- over the children of a group
   over-children : (g : ℕ) (f : ℕ → ℕ) → g < nodeCount b → kindOf b g ≢ 0
-      → Greatest (Child b g) f (greatest (nodeCount b) (isChild b g) f)
+      → Greatest (ChildIn b g) f (greatest (nodeCount b) (isChild b g) f)
   over-children g f l k =
       let w = child-of b ok g l (group-of b ok g l (kind-group (kindOf b g) k)) in
       let h : isChild b g (w .0) ≡ true = rw (w .3) at (own-child b ok (w .0) (w .1) (w .2)) in
@@ -122,7 +122,7 @@ greatest-one h g g′ =
 module _ {b : List ℕ} (ok : Clean b) {len wait longest len′ wait′ longest′ : ℕ → ℕ} (t : Times b len wait longest)
     (t′ : Times b len′ wait′ longest′) where
   -- the wait of a child of an all-of group, from the lengths of the children
-  wait-in : (k g c : ℕ) → c < k → isKind b g 1 ≡ true → Child b g c → ((d : ℕ) → Child b g d → len d ≡ len′ d)
+  wait-in : (k g c : ℕ) → c < k → isKind b g 1 ≡ true → ChildIn b g c → ((d : ℕ) → ChildIn b g d → len d ≡ len′ d)
       → wait c ≡ wait′ c
   wait-in zero g c l a h e = absurd (omega arith)
   wait-in (suc k) g c l a h e = ⊎-elim
@@ -145,7 +145,7 @@ module _ {b : List ℕ} (ok : Clean b) {len wait longest len′ wait′ longest�
   length-in : (k n : ℕ) → n < nodeCount b → nodeCount b ≤ k + n → len n ≡ len′ n
   length-in zero n l m = absurd (omega arith)
   length-in (suc k) n l m =
-      let e : (c : ℕ) → Child b n c → len c ≡ len′ c = λ c h. let w = child-lower b ok n c h in
+      let e : (c : ℕ) → ChildIn b n c → len c ≡ len′ c = λ c h. let w = child-lower b ok n c h in
       length-in k c (w .1) (omega arith) in
       by-cases (ℕ-discrete (kindOf b n) 0)
       (λ (q : kindOf b n ≡ 0). let a = kind-of b n 0 l q in t .task n a ∙ sym (t′ .task n a))
@@ -160,7 +160,7 @@ module _ {b : List ℕ} (ok : Clean b) {len wait longest len′ wait′ longest�
   pub length-one : (n : ℕ) → n < nodeCount b → len n ≡ len′ n
   length-one n l = length-in (nodeCount b) n l (omega arith)
 
-  wait-child : (g c : ℕ) → Child b g c → wait c ≡ wait′ c
+  wait-child : (g c : ℕ) → ChildIn b g c → wait c ≡ wait′ c
   wait-child g c h =
       let w = child-lower b ok g c h in
       ⊎-elim

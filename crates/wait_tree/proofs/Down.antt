@@ -11,7 +11,7 @@ use Rattle.plan_format.specs.Format.{nodeCount, parentOf}
 use Rattle.plan_check.proofs.Accepted.{Clean}
 use Rattle.plan_rules.proofs.Causes.{parent-group}
 use Rattle.wait_lengths.specs.Waits.{waitWithin, longestWait}
-use Rattle.wait_tree.specs.Filled.{Within, Longest}
+use Rattle.wait_tree.specs.Filled.{WaitsWithin, Longest}
 use Rattle.wait_lengths.proofs.Bounds.{wait-root, longest-root, longest-child}
 
 -- ---- from the root down: the longest waits below c, the waits within their groups from c on
@@ -23,7 +23,7 @@ pub record Down (b waits : List ℕ) (c : ℕ) : Type 0 where
   pub from : (n : ℕ) → c ≤ n → n < nodeCount b → getD waits n 0 ≡ waitWithin b n
 
 module _ {b waits : List ℕ} (ok : Clean b) where
-  pub down-none : Within b waits → Down b waits 1
+  pub down-none : WaitsWithin b waits → Down b waits 1
   down-none h = record {
     some = omega arith;
     inside = ok .fits .limits .some-node;

@@ -25,7 +25,7 @@ use Rattle.table_children.specs.Children.{TreeOf}
 use Rattle.table_children.proofs.Listed.{its-children, every-listed}
 use Rattle.wait_lengths.specs.Waits.{lengthOf, waitWithin}
 use Rattle.wait_group.specs.Spread.{GroupOf, Tables, ChildLengths, Spread}
-use Rattle.wait_tree.specs.Filled.{Done, ChildrenTo, Worked, AllWorked}
+use Rattle.wait_tree.specs.Filled.{Done, LengthsTo, LengthsUnder, AllWorked}
 use Rattle.wait_lengths.proofs.Lengths.{choice-is, choice-of, child-lower}
 use Rattle.wait_lengths.proofs.Bounds.{own-child, group-kind, wait-any, wait-root}
 
@@ -74,7 +74,7 @@ task-done {b} {lengths} {waits} e t m l k s u =
 
 -- a child that is a task: its length stands
 pub task-worked : {b lengths waits : List ℕ} {t : ℕ} → refusal b ≡ 0 → t < nodeCount b → kindOf b t ≡ 0
-    → Tables b lengths waits → Worked b lengths waits lengths waits t
+    → Tables b lengths waits → LengthsUnder b lengths waits lengths waits t
 task-worked {t = t} e l k s = record {
   tables = s;
   under = record { kept = λ m d. d; right = λ m u. task-done e t m l k s u };
@@ -83,13 +83,13 @@ task-worked {t = t} e l k s = record {
 -- ---- the children at the positions before i, with all under them
 module _ {b kids : List ℕ} {segment : Segment} {lengths₀ waits₀ : List ℕ} where
   pub children-none : Tables b lengths₀ waits₀
-      → ChildrenTo b kids segment lengths₀ waits₀ lengths₀ waits₀ (segment .start)
+      → LengthsTo b kids segment lengths₀ waits₀ lengths₀ waits₀ (segment .start)
   children-none t = record { tables = t; walked = right-none refl }
 
   pub child-more : {lengths waits lengths′ waits′ l′ w′ : List ℕ} {i c : ℕ} → c ≡ getD kids i 0 → Position segment i
-      → ChildrenTo b kids segment lengths₀ waits₀ lengths waits i
-      → l′ ≡ lengths′ → w′ ≡ waits′ → Worked b lengths waits lengths′ waits′ c
-      → ChildrenTo b kids segment lengths₀ waits₀ l′ w′ (i + 1)
+      → LengthsTo b kids segment lengths₀ waits₀ lengths waits i
+      → l′ ≡ lengths′ → w′ ≡ waits′ → LengthsUnder b lengths waits lengths′ waits′ c
+      → LengthsTo b kids segment lengths₀ waits₀ l′ w′ (i + 1)
   child-more e p s y z x = rw (y, z)
       (record { tables = x .tables; walked = right-more (p .low) e (s .walked) (x .under) })
 
@@ -104,7 +104,7 @@ module _ {b from kids : List ℕ} {g k : ℕ} (a : refusal b ≡ 0) (t : TreeOf 
 
 module _ {b from kids lengths₀ waits₀ lengths waits : List ℕ} {test : Bool} {g : ℕ} {segment : Segment}
     (o : GroupOf b from kids test g) (here : segment ≡ segmentOf from g)
-    (s : ChildrenTo b kids segment lengths₀ waits₀ lengths waits (segment .end)) where
+    (s : LengthsTo b kids segment lengths₀ waits₀ lengths waits (segment .end)) where
   pub child-lengths : ChildLengths b lengths g
   child-lengths = record { is = λ c h. every-listed (o .tree) (o .node) here (s .walked .right) c h c itself .own }
 
@@ -112,7 +112,7 @@ module _ {b from kids lengths₀ waits₀ lengths waits : List ℕ} {test : Bool
   worked : {waits′ : List ℕ} {v : ℕ} → v ≡ lengthOf b g → Tables b lengths waits′
       → ((i : ℕ) → getD waits i 0 ≤ getD waits′ i 0)
       → ((c : ℕ) → isChild b g c ≡ true → getD waits′ c 0 ≡ waitWithin b c)
-      → Worked b lengths₀ waits₀ (set lengths g v) waits′ g
+      → LengthsUnder b lengths₀ waits₀ (set lengths g v) waits′ g
   worked q t up h =
       let ok = clean b (o .accepted) in
       record {
@@ -123,10 +123,10 @@ module _ {b from kids lengths₀ waits₀ lengths waits : List ℕ} {test : Bool
       }
 
   pub all-worked : {waits′ : List ℕ} {v : ℕ} → Spread b lengths waits waits′ g v
-      → Worked b lengths₀ waits₀ (set lengths g v) waits′ g
+      → LengthsUnder b lengths₀ waits₀ (set lengths g v) waits′ g
   all-worked x = worked (x .greatest) (x .tables) (x .grown) (x .children)
 
-  pub any-worked : {v : ℕ} → isChoice b g ≡ true → v ≡ lengthOf b g → Worked b lengths₀ waits₀ (set lengths g v) waits g
+  pub any-worked : {v : ℕ} → isChoice b g ≡ true → v ≡ lengthOf b g → LengthsUnder b lengths₀ waits₀ (set lengths g v) waits g
   any-worked e q =
       let ok = clean b (o .accepted) in
       worked q (s .tables) (λ i. omega arith)
@@ -154,7 +154,7 @@ module _ {b lengths waits : List ℕ} (e : refusal b ≡ 0) where
     };
   }
 
-  pub root-worked : {lengths₀ waits₀ : List ℕ} → Worked b lengths₀ waits₀ lengths waits 0 → AllWorked b lengths waits
+  pub root-worked : {lengths₀ waits₀ : List ℕ} → LengthsUnder b lengths₀ waits₀ lengths waits 0 → AllWorked b lengths waits
   root-worked x = all-done (x .tables) (x .under .right)
 
   pub root-task : Tables b lengths waits → kindOf b 0 ≡ 0 → AllWorked b lengths waits

@@ -19,18 +19,18 @@ pub record Done (b lengths waits : List ℕ) (n : ℕ) : Type 0 where
   pub children : (c : ℕ) → isChild b n c ≡ true → getD waits c 0 ≡ waitWithin b c
 
 -- the children at the positions before i are worked out, with all under them
-pub record ChildrenTo (b kids : List ℕ) (segment : Segment) (lengths₀ waits₀ lengths waits : List ℕ)
+pub record LengthsTo (b kids : List ℕ) (segment : Segment) (lengths₀ waits₀ lengths waits : List ℕ)
     (i : ℕ) : Type 0 where
   pub tables : Tables b lengths waits
   pub walked : RightTo (planOf b) kids (segment .start) (Done b lengths₀ waits₀) (Done b lengths waits) i
 
 -- what was worked out still is, and so is every node under n
-pub record Worked (b lengths waits lengths′ waits′ : List ℕ) (n : ℕ) : Type 0 where
+pub record LengthsUnder (b lengths waits lengths′ waits′ : List ℕ) (n : ℕ) : Type 0 where
   pub tables : Tables b lengths′ waits′
   pub under : RightUnder (planOf b) (Done b lengths waits) (Done b lengths′ waits′) n
 
 -- every node's wait within its group
-pub record Within (b waits : List ℕ) : Type 0 where
+pub record WaitsWithin (b waits : List ℕ) : Type 0 where
   pub long : length waits ≡ NODES
   pub is : (n : ℕ) → n < nodeCount b → getD waits n 0 ≡ waitWithin b n
 
@@ -38,7 +38,7 @@ pub record Within (b waits : List ℕ) : Type 0 where
 pub record AllWorked (b lengths waits : List ℕ) : Type 0 where
   pub lengths-long : length lengths ≡ NODES
   pub root : getD lengths 0 0 ≡ lengthOf b 0
-  pub within : Within b waits
+  pub within : WaitsWithin b waits
 
 -- every node's longest wait
 pub record Longest (b waits : List ℕ) : Type 0 where

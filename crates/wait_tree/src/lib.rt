@@ -11,7 +11,7 @@ ghost use Rattle.wait_lengths.specs.Waits.{lengthOf};
 ghost use Rattle.wait_group.specs.Spread.{GroupOf, Tables};
 ghost use Rattle.tables.specs.Sizes.{NODES};
 ghost use Rattle.tables.specs.Segments.{segmentOf};
-ghost use Rattle.wait_tree.specs.Filled.{ChildrenTo, Worked, AllWorked, Within, Longest};
+ghost use Rattle.wait_tree.specs.Filled.{LengthsTo, LengthsUnder, AllWorked, WaitsWithin, Longest};
 use base::kinds::ALL_OF;
 use base::kinds::TASK;
 use base::wide;
@@ -37,7 +37,7 @@ fn groups_under(
     node: usize,
 )
     requires { ⌜ GroupOf (now plan) (now from) (now kids) true node × Tables (now plan) (now lengths) (now waits) ⌝ }
-    ensures { λ r. ⌜ ChildrenTo (now (plan .entry)) (now (kids .entry)) (segmentOf (now (from .entry)) node)
+    ensures { λ r. ⌜ LengthsTo (now (plan .entry)) (now (kids .entry)) (segmentOf (now (from .entry)) node)
         (now (lengths .entry)) (now (waits .entry)) (now (lengths .exit)) (now (waits .exit))
         (segmentOf (now (from .entry)) node .end) ⌝ }
 {
@@ -66,7 +66,7 @@ fn all_length(
 )
     requires { ⌜ GroupOf (now plan) (now from) (now kids) (isKind (now plan) node 1) node
         × Tables (now plan) (now lengths) (now waits) ⌝ }
-    ensures { λ r. ⌜ Worked (now (plan .entry)) (now (lengths .entry)) (now (waits .entry)) (now (lengths .exit))
+    ensures { λ r. ⌜ LengthsUnder (now (plan .entry)) (now (lengths .entry)) (now (waits .entry)) (now (lengths .exit))
         (now (waits .exit)) node ⌝ }
 {
     groups_under(plan, from, kids, lengths, waits, node);
@@ -85,7 +85,7 @@ fn any_length(
 )
     requires { ⌜ GroupOf (now plan) (now from) (now kids) (isChoice (now plan) node) node
         × Tables (now plan) (now lengths) (now waits) ⌝ }
-    ensures { λ r. ⌜ Worked (now (plan .entry)) (now (lengths .entry)) (now (waits .entry)) (now (lengths .exit))
+    ensures { λ r. ⌜ LengthsUnder (now (plan .entry)) (now (lengths .entry)) (now (waits .entry)) (now (lengths .exit))
         (now (waits .exit)) node ⌝ }
 {
     groups_under(plan, from, kids, lengths, waits, node);
@@ -126,7 +126,7 @@ fn work_out(plan: &[u8], from: &Starts, kids: &Nodes, lengths: &mut Times, waits
 // From the root down: to the wait within its group each node adds the longest wait of its parent, which has the lower
 // number.
 fn add_waits(plan: &[u8], waits: &mut Times)
-    requires { ⌜ (refusal (now plan) ≡ 0) × Within (now plan) (now waits) ⌝ }
+    requires { ⌜ (refusal (now plan) ≡ 0) × WaitsWithin (now plan) (now waits) ⌝ }
     ensures { λ r. ⌜ Longest (now (plan .entry)) (now (waits .exit)) ⌝ }
 {
     let n = nodes(plan);

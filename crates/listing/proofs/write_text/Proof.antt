@@ -5,7 +5,7 @@ use lib.ListN.{length}
 use Rattle.plan_check.proofs.Accepted.{clean}
 use Rattle.verdict.specs.Verdict.{wordOf}
 use Rattle.text_decimals.proofs.Written.{wrote-long, wrote-then, wrote-same}
-use Rattle.text_lines.specs.Lines.{ending}
+use Rattle.text_lines.specs.Model.{ending}
 use Rattle.listing.specs.Text.{letters}
 use Rattle.listing.proofs.Text.{letters-limit, root-limit, text-is}
 use native.Mathlib.Omega.{arith}

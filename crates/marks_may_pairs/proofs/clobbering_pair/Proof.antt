@@ -2,7 +2,7 @@
 use mathlib.Core.Path.{_≡_, refl}
 use Prim.Native.Nat.{_-_}
 use Rattle.tables.proofs.Turns.{position-small, kid-small, position, last-turn}
-use Rattle.marks_may_pairs.specs.Search.{Stands}
+use Rattle.marks_may_pairs.specs.Search.{SearchedTo}
 use Rattle.marks_may_pairs.proofs.Search.{goes-on, partner-passed, child-passed, pair-found, nothing-found}
 use native.Mathlib.Omega.{arith}
 use Rattle.marks_may_pairs.proofs.clobbering_pair.Statement.{statement}
@@ -10,14 +10,14 @@ use Rattle.marks_may_pairs.proofs.clobbering_pair.Tie as tie
 
 abbrev Inv-loop : tie.InvT-loop
 Inv-loop kids segment order rows wanted child partner found₀ i j₀ c found j = ((found .clear ≡ 0) × (found .set ≡ 0))
-    × Stands kids segment order rows wanted i j
+    × SearchedTo kids segment order rows wanted i j
 
 abbrev μ-loop : tie.MeasureT-loop
 μ-loop kids segment order rows wanted child partner found₀ i j₀ c found j = segment .end - j
 
 abbrev Inv-search : tie.InvT-search
 Inv-search kids segment order rows wanted child partner found₀ i₀ j₀ found i j = ((found .clear ≡ 0) × (found .set ≡ 0))
-    × Stands kids segment order rows wanted i j
+    × SearchedTo kids segment order rows wanted i j
 
 abbrev μ-search : tie.MeasureT-search
 μ-search kids segment order rows wanted child partner found₀ i₀ j₀ found i j = segment .end - i

@@ -4,7 +4,7 @@ use Prim.Native.Nat.{ℕ, suc, _≤_, _<_, _-_}
 use lib.ListN.{length, getD, drop, length-set}
 use lib.Seq.{drop-cons}
 use denote.Ref.{now}
-use Rattle.runs.specs.Tests.{listed}
+use Rattle.runs.specs.Searches.{listed}
 use Rattle.node_sets.specs.Sets.{marked}
 use Rattle.node_sets.proofs.Sets.{marked-none, marked-cons}
 use Rattle.node_sets.proofs.Lists.{among-at, drop-none}

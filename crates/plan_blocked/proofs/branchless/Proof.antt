@@ -1,10 +1,9 @@
 -- `plan_blocked::branchless` meets its contract. Assumes nothing.
 use mathlib.Core.Path.{_≡_, refl, sym, _∙_}
 use Prim.Native.Nat.{_≤_, _-_}
-use denote.Ref.{now}
 use lib.ListN.{drop}
 use Rattle.node_sets.proofs.Lists.{among-at, some-here, some-later, some-none}
-use Rattle.runs.specs.Tests.{anyIn}
+use Rattle.runs.specs.Searches.{anyIn}
 use Rattle.plan_blocked.specs.Branches.{emptiedAt}
 use native.Mathlib.Omega.{arith}
 use Rattle.plan_blocked.proofs.branchless.Statement.{statement}

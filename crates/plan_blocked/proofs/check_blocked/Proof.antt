@@ -1,5 +1,5 @@
 -- `plan_blocked::check_blocked` meets its contract. Assumes nothing.
-use mathlib.Core.Path.{_≡_, sym, _∙_}
+use mathlib.Core.Path.{sym, _∙_}
 use Rattle.plan_blocked.proofs.Refused.{plan-refused}
 use Rattle.plan_blocked.proofs.check_blocked.Statement.{statement}
 use Rattle.plan_blocked.proofs.check_blocked.Tie as tie

@@ -4,8 +4,8 @@ use mathlib.Core.Bool.{Bool, false}
 use Prim.Native.Nat.{ℕ}
 use denote.Ref.{now}
 use Rattle.plan_check.specs.Meaning.{planOf}
-use Rattle.runs.specs.Tests.{listed}
-use Rattle.runs.specs.Blocked.{refused28B, refused29B}
+use Rattle.runs.specs.Searches.{listed}
+use Rattle.runs.specs.Model.Blocked.{refused28B, refused29B}
 use Rattle.plan_blocked.specs.Inner.{Standing}
 use Rattle.plan_blocked.specs.Branches.{WithBranch}
 use Rattle.plan_blocked.proofs.Branches.{emptied-29}

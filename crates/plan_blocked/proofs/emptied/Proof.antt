@@ -1,5 +1,5 @@
 -- `plan_blocked::emptied` meets its contract. Assumes nothing.
-use mathlib.Core.Path.{_≡_, refl, sym, ap, _∙_}
+use mathlib.Core.Path.{_≡_, refl, _∙_}
 use denote.Ref.{now}
 use Rattle.plan_format.specs.Format.{parentOf}
 use Prim.Native.Nat.{_<_}

@@ -1,5 +1,5 @@
 -- `plan_blocked::list_bad` meets its contract. Assumes nothing.
-use mathlib.Core.Path.{_≡_, sym, _∙_}
+use mathlib.Core.Path.{sym, _∙_}
 use Rattle.plan_blocked.proofs.Listed.{rising-28, falling-28}
 use Rattle.plan_blocked.proofs.list_bad.Statement.{statement}
 use Rattle.plan_blocked.proofs.list_bad.Tie as tie

@@ -1,7 +1,7 @@
 -- `plan_blocked::mark_standing` meets its contract. Assumes nothing.
-use mathlib.Core.Path.{_≡_, refl, sym, ap, _∙_}
+use mathlib.Core.Path.{_≡_, _∙_}
 use mathlib.Core.Logic.{⊎-elim}
-use Prim.Native.Nat.{ℕ, _-_, _≤_, _<_}
+use Prim.Native.Nat.{_-_, _≤_, _<_}
 use denote.Ref.{now}
 use Rattle.node_sets.specs.Sets.{marked}
 use Rattle.plan_format.specs.Format.{nodeCount, parentOf}

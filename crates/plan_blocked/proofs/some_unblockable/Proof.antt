@@ -4,8 +4,8 @@ use Prim.Native.Nat.{_≤_, _-_}
 use lib.ListN.{drop}
 use Rattle.node_sets.proofs.Lists.{some-here, some-later, some-none}
 use Rattle.plan_check.specs.Meaning.{planOf}
-use Rattle.runs.specs.Tests.{anyIn}
-use Rattle.runs.specs.Blocked.{unblockableB}
+use Rattle.runs.specs.Searches.{anyIn}
+use Rattle.runs.specs.Model.Blocked.{unblockableB}
 use native.Mathlib.Omega.{arith}
 use Rattle.plan_blocked.proofs.some_unblockable.Statement.{statement}
 use Rattle.plan_blocked.proofs.some_unblockable.Tie as tie

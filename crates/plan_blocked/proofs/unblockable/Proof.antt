@@ -1,5 +1,5 @@
 -- `plan_blocked::unblockable` meets its contract. Assumes nothing.
-use mathlib.Core.Path.{_≡_, sym, ap, _∙_}
+use mathlib.Core.Path.{_∙_}
 use Rattle.plan_check.proofs.Accepted.{clean}
 use Rattle.plan_blocked.proofs.Listed.{root, outside, inside}
 use native.Mathlib.Omega.{arith}

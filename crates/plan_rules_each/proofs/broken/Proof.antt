@@ -1,7 +1,7 @@
 -- `plan_rules_each::broken` meets its contract. Assumes nothing.
 use native.Mathlib.Omega.{arith}
 use Rattle.runs.proofs.Searches.{some-yes, none-more, none-none}
-use Rattle.runs.specs.Tests.{anyBelow}
+use Rattle.runs.specs.Searches.{anyBelow}
 use Rattle.plan_rules.specs.Rules.{cause4, cause5, cause6, cause7, cause9, cause10, cause13, cause14}
 use Rattle.plan_rules_each.specs.declared.Rule.{Rule}
 use Rattle.plan_rules_each.specs.declared.Rule.the-variants.{Starts, Names, Entries, Parents, Conditions}
@@ -11,12 +11,12 @@ use mathlib.Core.Bool.{false}
 use mathlib.Core.Path.{_≡_, refl, sym, _∙_}
 use mathlib.Core.List.{List}
 use Prim.Native.Nat.{ℕ, _≤_, _-_}
-use Rattle.plan_rules_each.specs.Indexed.{countOf, brokenAt, causeOf}
+use Rattle.plan_rules_each.specs.Indexed.{countOf, testOf, causeOf}
 use Rattle.plan_rules_each.proofs.broken.Statement.{statement}
 use Rattle.plan_rules_each.proofs.broken.Tie as tie
 
 -- the causes are searches for such an index
-searched : (r : Rule) (b : List ℕ) → anyBelow (countOf r b) (brokenAt r b) ≡ causeOf r b
+searched : (r : Rule) (b : List ℕ) → anyBelow (countOf r b) (testOf r b) ≡ causeOf r b
 unfolding cause4 cause5 cause6 cause7 cause9 cause10 cause13 cause14
 searched Starts b = refl
 searched Names b = refl
@@ -28,7 +28,7 @@ searched Orders b = refl
 searched RisingOrders b = refl
 
 abbrev Inv-loop : tie.InvT-loop
-Inv-loop plan rule n i₀ i = (i ≤ n) × (anyBelow i (brokenAt rule plan) ≡ false)
+Inv-loop plan rule n i₀ i = (i ≤ n) × (anyBelow i (testOf rule plan) ≡ false)
 
 abbrev μ-loop : tie.MeasureT-loop
 μ-loop plan rule n i₀ i = n - i
@@ -46,7 +46,7 @@ returns : tie.Need-returns Inv-loop μ-loop
 returns c =
     let l = c .before .before .before in
     let a = l .before .before .before .args in
-    sym (some-yes (countOf (a .rule) (now (a .plan))) (brokenAt (a .rule) (now (a .plan))) (l .loop .i) (omega arith)
+    sym (some-yes (countOf (a .rule) (now (a .plan))) (testOf (a .rule) (now (a .plan))) (l .loop .i) (omega arith)
     (sym (c .before .broken-at .ensures) ∙ c .if1 .taken)) ∙ searched (a .rule) (now (a .plan))
 
 loop-again : tie.Need-loop-again Inv-loop μ-loop

@@ -5,7 +5,7 @@ use mathlib.Core.Bool.{Bool}
 use mathlib.Core.List.{List}
 use denote.Ref.{now}
 use mathlib.Core.Path.{_≡_, sym, ap, subst, _∙_}
-use Rattle.plan_rules_each.specs.Indexed.{countOf, brokenAt}
+use Rattle.plan_rules_each.specs.Indexed.{countOf, testOf}
 use Rattle.plan_rules_each.specs.declared.Rule.{Rule}
 use Rattle.plan_rules_each.specs.declared.Rule.the-variants.{Starts, Names, Entries, Parents, Conditions}
 use Rattle.plan_rules_each.specs.declared.Rule.the-variants.{RisingConditions, Orders, RisingOrders}
@@ -16,8 +16,8 @@ use Rattle.plan_rules_each.proofs.broken_at.Tie as tie
 at : (q r : Rule) (b : List ℕ) (i : ℕ) → q ≡ r → i < countOf q b → i < countOf r b
 at q r b i e l = subst (λ (x : Rule). i < countOf x b) e l
 
-tested : (q r : Rule) (b : List ℕ) (i : ℕ) (t : Bool) → q ≡ r → t ≡ brokenAt r b i → t ≡ brokenAt q b i
-tested q r b i t e h = h ∙ ap (λ (x : Rule). brokenAt x b i) (sym e)
+tested : (q r : Rule) (b : List ℕ) (i : ℕ) (t : Bool) → q ≡ r → t ≡ testOf r b i → t ≡ testOf q b i
+tested q r b i t e h = h ∙ ap (λ (x : Rule). testOf x b i) (sym e)
 
 bad-start-requires : tie.Need-bad-start-requires
 bad-start-requires c κs =

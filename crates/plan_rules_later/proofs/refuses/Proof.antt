@@ -3,7 +3,7 @@ use native.Mathlib.Omega.{arith}
 use Rattle.plan_rules_later.specs.declared.Step.{Step}
 use Rattle.plan_rules_later.specs.declared.Pass.{Pass}
 use Rattle.runs.proofs.Searches.{none-none, some-yes, none-more}
-use Rattle.runs.specs.Tests.{anyBelow}
+use Rattle.runs.specs.Searches.{anyBelow}
 use Rattle.plan_rules_later.proofs.Found.{passRefuses, pass-is}
 use Rattle.plan_rules_later.proofs.Table.{refuses, refusesAt, backwards, Holds, holds-none, asked, written, kept}
 use denote.Ref.{now}

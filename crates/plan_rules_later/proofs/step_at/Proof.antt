@@ -3,7 +3,7 @@ use Prim.Native.Nat.{ℕ, _<_}
 use mathlib.Core.List.{List}
 use mathlib.Core.Path.{_≡_, sym, ap, subst, _∙_}
 use denote.Ref.{now}
-use Rattle.plan_rules_later.specs.Passes.{stepOf, stepsOf, Ready}
+use Rattle.plan_rules_later.specs.Passes.{stepOf, stepsOf, NoneBefore}
 use Rattle.plan_rules_later.specs.declared.Pass.{Pass}
 use Rattle.plan_rules_later.specs.declared.Pass.the-variants.{Children, Signs, Posts}
 use Rattle.plan_rules_later.specs.declared.Step.{Step}
@@ -14,8 +14,8 @@ use Rattle.plan_rules_later.proofs.step_at.Tie as tie
 at : (q p : Pass) (b : List ℕ) (i : ℕ) → q ≡ p → i < stepsOf q b → i < stepsOf p b
 at q p b i e l = subst (λ (x : Pass). i < stepsOf x b) e l
 
-ready : (q p : Pass) (b : List ℕ) → q ≡ p → Ready q b → Ready p b
-ready q p b e r = subst (λ (x : Pass). Ready x b) e r
+ready : (q p : Pass) (b : List ℕ) → q ≡ p → NoneBefore q b → NoneBefore p b
+ready q p b e r = subst (λ (x : Pass). NoneBefore x b) e r
 
 taken : (q p : Pass) (b : List ℕ) (i : ℕ) {s : Step} → q ≡ p → s ≡ stepOf p b i → s ≡ stepOf q b i
 taken q p b i e h = h ∙ ap (λ (x : Pass). stepOf x b i) (sym e)

@@ -2,8 +2,6 @@
 use mathlib.Core.Path.{_≡_, sym, _∙_}
 use denote.Ref.{now}
 use Rattle.plan_check.proofs.Meaning.{kind-is}
-use Rattle.plan_blocked.specs.Inner.{Standing}
-use Rattle.runs.specs.Tests.{listed}
 use Rattle.run_state.specs.State.{stateRefusalUnder}
 use Rattle.run_state.proofs.Passed as checks
 use Rattle.run_refusals.specs.Inner.{eventOf, eventRefusal}

@@ -9,7 +9,7 @@ use Rattle.plan_format.specs.Format.{isKind}
 use Rattle.plan_check.specs.Meaning.{planOf}
 use Rattle.plan_check.proofs.Meaning.{kind-is}
 use Rattle.runs.specs.Calls.{together}
-use Rattle.runs.specs.Tests.{anyIn}
+use Rattle.runs.specs.Searches.{anyIn}
 use Rattle.runs.specs.Model.Monitor.{notRisingB, postOpposedB}
 use Rattle.run_starts.specs.Starts.{nodeByte}
 use Rattle.run_state.proofs.Passed.{has-room}

@@ -8,7 +8,7 @@ use lib.ListN.{getD}
 use lib.Dec.{eqb}
 use borrow.Author.Tests.{eq-eqb, ne-eqb}
 use denote.Ref.{now}
-use Rattle.runs.specs.Tests.{anyBelow}
+use Rattle.runs.specs.Searches.{anyBelow}
 use Rattle.runs.proofs.Searches.{some-yes, none-more, none-none}
 use Rattle.run_starts.specs.Starts.{startedCount, holders, misnumbered}
 use Rattle.run_starts.proofs.Counts.{started-le}

@@ -4,7 +4,7 @@ use mathlib.Core.Bool.{false, _&&_}
 use Prim.Native.Nat.{_≤_, _-_}
 use lib.Dec.{leb}
 use denote.Ref.{now}
-use Rattle.runs.specs.Tests.{anyBelow}
+use Rattle.runs.specs.Searches.{anyBelow}
 use Rattle.runs.proofs.Searches.{some-yes, none-more, none-none}
 use Rattle.run_state.specs.State.{badFlag}
 use Rattle.run_state.proofs.Refused.{flag-bad}

@@ -4,7 +4,7 @@ use mathlib.Core.Bool.{false}
 use Prim.Native.Nat.{_≤_, _-_}
 use denote.Ref.{now}
 use Rattle.plan_format.specs.Format.{nodeCount}
-use Rattle.runs.specs.Tests.{anyBelow}
+use Rattle.runs.specs.Searches.{anyBelow}
 use Rattle.runs.proofs.Searches.{some-yes, none-more, none-none}
 use Rattle.run_state.specs.Inner.{badNodeIn}
 use native.Mathlib.Omega.{arith}

@@ -9,7 +9,7 @@ use Rattle.plan_check.proofs.Meaning.{kind-is}
 use Rattle.runs.specs.Plan.{post, placeNumber}
 use Rattle.run_state.specs.Made.{made}
 use Rattle.run_state.proofs.Passed.{has-room}
-use Rattle.runs.specs.Tests.{listed}
+use Rattle.runs.specs.Searches.{listed}
 use Rattle.node_sets.specs.Sets.{Each}
 use Rattle.node_sets.proofs.Lists.{among-at, drop-none}
 use Rattle.run_step.proofs.Finishes.{allDone, nothing-done, done-more, all-written}

@@ -1,6 +1,5 @@
 -- `run_tasks::not_rising` meets its contract. Assumes nothing.
-use mathlib.Core.Path.{_≡_, sym}
-use mathlib.Core.Bool.{not}
+use mathlib.Core.Path.{sym}
 use native.Mathlib.Omega.{arith}
 use Rattle.run_tasks.proofs.Rising.{not-rising-nil, not-rising-is}
 use Rattle.run_tasks.proofs.not_rising.Statement.{statement}

@@ -7,7 +7,7 @@ use lib.ListN.{length, getD, drop}
 use lib.Dec.{eqb}
 use denote.Ref.{now}
 use borrow.Author.Tests.{eq-eqb, ne-eqb}
-use Rattle.runs.specs.Tests.{anyIn}
+use Rattle.runs.specs.Searches.{anyIn}
 use Rattle.run_starts.specs.Starts.{nodeByte}
 use Rattle.node_sets.proofs.Lists.{among-at, some-here, some-later, some-none}
 use native.Mathlib.Omega.{arith}

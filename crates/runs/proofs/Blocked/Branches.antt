@@ -2,15 +2,18 @@
 -- leave CLEAR as CLEAR and DOOMED as DOOMED.
 use Rattle.runs.proofs.Base.{_≡_, refl, sym, ap, _∙_, _⊎_, inl, inr, _↔_, Iff·trans, Bool, true, false, cond, List}
 use Rattle.runs.proofs.Base.{[], Among, among-none, ℕ, _<_, arith, T}
-use Rattle.runs.specs.Plan.{all-of, any-of, Picks, Plan, itself, below, Node, Child, Under, Before, direct, chain, WellFormed}
+use Rattle.runs.specs.Plan.{all-of, any-of, Picks, Plan, itself, below, Node, Child, Under, Before, direct, chain}
+use Rattle.runs.specs.WellFormed.{WellFormed}
 use Rattle.runs.specs.Summary.{Mark}
-use Rattle.runs.specs.Tests.{either, anyIn, listed}
+use Rattle.runs.specs.Searches.{listed}
 use Rattle.runs.specs.Calls.{SomeOf, Rising, empty}
-use Rattle.runs.specs.Blocked.{over, Keeps, Stands, stands, without, MarkedUnder, markedUnderB, OrdersAdded}
-use Rattle.runs.specs.Blocked.{Refused28, not-rising, names-root, no-node, no-choice, Refused29, no-branch, Blocks}
-use Rattle.runs.specs.Blocked.{BlocksMore, unblockableB, refused28B, refused29B, blockedRefusal}
-use Rattle.runs.proofs.Reflect.{clash, Reflects, decided, force, r-map, r-T, r-both, r-either, r-negate, r-guarded, r-eq}
-use Rattle.runs.proofs.Reflect.{r-lt, r-any, T-true, true-T}
+use Rattle.runs.specs.Blocked.{Stands, MarkedUnder, Refused28, not-rising, names-root, no-node, no-choice}
+use Rattle.runs.specs.Blocked.{Refused29, no-branch}
+use Rattle.runs.specs.Branches.{Keeps, OrdersAdded, Blocks, BlocksMore}
+use Rattle.runs.specs.Model.Blocked.{over, stands, without, markedUnderB, unblockableB, refused28B, refused29B}
+use Rattle.runs.specs.Model.Blocked.{blockedRefusal}
+use Rattle.runs.proofs.Reflect.{Reflects, decided, force, r-map, r-T, r-both, r-either, r-negate, r-guarded, r-eq}
+use Rattle.runs.proofs.Reflect.{r-lt, r-any, T-true}
 use Rattle.runs.proofs.Plan.{under-node, r-kind, r-picks, r-some-child}
 use Rattle.runs.proofs.Summary.{marks-exact}
 use Rattle.runs.proofs.Calls.Listed.{r-rising, r-some-of, r-listed}

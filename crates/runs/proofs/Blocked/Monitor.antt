@@ -1,19 +1,23 @@
 -- The monitor under blocked branches: as long as everything absent waits, each call meets what it meets in the whole plan with one more test, a start or a
 -- skip at or under a blocked node; and what stands is complete exactly if it is in the whole plan.
-use Rattle.runs.proofs.Base.{_≡_, refl, sym, ap, _≢_, _⊎_, inl, inr, _↔_, Bool, true, false, List, [], _∷_}
+use Rattle.runs.proofs.Base.{_≡_, refl, ap, _≢_, inl, inr, _↔_, Bool, true, false, List, [], _∷_}
 use Rattle.runs.proofs.Base.{Among, ℕ, T}
-use Rattle.runs.specs.Tests.{either, negate, anyIn}
-use Rattle.runs.specs.Plan.{Plan, itself, Node, WellFormed}
+use Rattle.runs.specs.Tests.{negate}
+use Rattle.runs.specs.Searches.{either, anyIn}
+use Rattle.runs.specs.Plan.{Plan, itself, Node}
+use Rattle.runs.specs.WellFormed.{WellFormed}
 use Rattle.runs.specs.Execution.{waiting, running, State, Event, start, finish, skip, History, nodeOf, statusAfter}
 use Rattle.runs.specs.Execution.{Execution, task-done, all-done, any-done, skip-done, Complete, Begun, Rival}
 use Rattle.runs.specs.Execution.{by-branch, by-skip}
 use Rattle.runs.specs.Calls.{Call, one, together, finishes, events, World, happen, happenAll, Refusal, no-task}
 use Rattle.runs.specs.Calls.{wrong-status, branch-begun, order-open, pre-unmet, inc-broken, no-optional}
 use Rattle.runs.specs.Calls.{not-rising, post-opposed, Task, WrongStatus, BranchBegun, OrderOpen, checks}
-use Rattle.runs.specs.Blocked.{Stands, stands, without, Blocks}
+use Rattle.runs.specs.Blocked.{Stands}
+use Rattle.runs.specs.Branches.{Blocks}
+use Rattle.runs.specs.Model.Blocked.{stands, without}
 use Rattle.runs.specs.Model.Monitor.{statusB, taskB, absentB, wrongStatusB, branchBegunB, orderOpenB, appliesB}
 use Rattle.runs.specs.Model.Monitor.{preUnmetB, incBrokenB, postOpposedB, orElse, firstOf, settle, refusalOf, step}
-use Rattle.runs.proofs.Reflect.{clash, decided, r-T, r-map, r-negate, same-test, true-T}
+use Rattle.runs.proofs.Reflect.{clash, decided, r-map, r-negate, same-test, true-T}
 use Rattle.runs.proofs.Plan.{under-node, child-under}
 use Rattle.runs.proofs.Execution.{complete-begun, execution-outside, running-moved}
 use Rattle.runs.proofs.Calls.Listed.{any-same, none-in}

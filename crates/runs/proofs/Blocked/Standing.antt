@@ -1,8 +1,10 @@
 -- The plan with subtrees absent: which nodes stand; it is well formed where each any-of group keeps a branch and, below the root, only choices lose one.
 use Rattle.runs.proofs.Base.{_≡_, refl, ap, _∙_, fun-ext, _↔_, Bool, true, ℕ, _<_, arith, T}
-use Rattle.runs.specs.Plan.{all-of, any-of, Picks, Plan, itself, below, Node, Child, Under, WellFormed}
+use Rattle.runs.specs.Plan.{all-of, any-of, Picks, Plan, itself, below, Node, Child, Under}
+use Rattle.runs.specs.WellFormed.{WellFormed}
 use Rattle.runs.specs.Tests.{both, negate}
-use Rattle.runs.specs.Blocked.{within, over, Stands, stands, standingOrder, without}
+use Rattle.runs.specs.Blocked.{Stands}
+use Rattle.runs.specs.Model.Blocked.{within, over, stands, standingOrder, without}
 use Rattle.runs.proofs.Reflect.{Reflects, r-map, same-test, T-true, r-T, r-both, r-negate, r-any}
 use Rattle.runs.proofs.Plan.{under-le, r-under}
 use Rattle.runs.proofs.Calls.Rows.{LeftOf}

@@ -1,12 +1,15 @@
 -- Fewer branches and more orders: every execution is one of the plan before, so what may not happen and what must happen stay as they are.
 use Rattle.runs.proofs.Base.{_≡_, refl, sym, _∙_, inl, inr, Bool, ℕ, _<_, T}
-use Rattle.runs.specs.Plan.{all-of, Tree, Plan, itself, below, Node, Child, Under, Before, direct, chain, Unordered, Concurrent, at-group, deeper, WellFormed}
+use Rattle.runs.specs.Plan.{all-of, Tree, Plan, itself, below, Node, Child, Under, Before, direct, chain}
+use Rattle.runs.specs.Plan.{Unordered, Concurrent, at-group, deeper}
+use Rattle.runs.specs.WellFormed.{WellFormed}
 use Rattle.runs.specs.Execution.{State, Event, History, statusAfter, task-done, all-done, any-done, skip-done, Complete, Begun, Rival, by-branch}
 use Rattle.runs.specs.Execution.{by-skip, Ready, Enabled, can-start, can-finish, can-skip, Execution, none-yet, one-more, Completed}
 use Rattle.runs.specs.Summary.{May, Must, ExternalPre, Clobbers, precondition, incondition, MayClobber, Silent, MustClobber}
 use Rattle.runs.specs.Summary.{by-any-of, by-child, by-pair}
 use Rattle.runs.specs.Verdict.{Doomed, by-clobber, by-start}
-use Rattle.runs.specs.Blocked.{over, Keeps}
+use Rattle.runs.specs.Branches.{Keeps}
+use Rattle.runs.specs.Model.Blocked.{over}
 use Rattle.runs.proofs.Plan.{under-trans, child-under, under-node, order-child, before-child}
 use Rattle.runs.proofs.Execution.{done-moved, moved-under}
 

@@ -1,7 +1,8 @@
 -- Lists of calls that are all accepted, the last call first: they are executions of the root. A plan that is not CLEAR
 -- has one that comes to a violation; no such list completes a DOOMED root.
 use Rattle.runs.proofs.Base.{_≡_, refl, ap, _∙_, _⊎_, inl, inr, Bool, not, some, List, [], _∷_, _++_, ℕ}
-use Rattle.runs.specs.Plan.{Plan, WellFormed}
+use Rattle.runs.specs.Plan.{Plan}
+use Rattle.runs.specs.WellFormed.{WellFormed}
 use Rattle.runs.specs.Execution.{Event, History, statusAfter, Complete, Execution, none-yet}
 use Rattle.runs.specs.Execution.{one-more, preOf, Earlier}
 use Rattle.runs.specs.Verdict.{Clear, Doomed, by-clobber, by-start}

@@ -1,8 +1,10 @@
 -- A list of one task that finishes together is a finish of that task.
 use Rattle.runs.proofs.Base.{_≡_, refl, sym, _↔_, Bool, true, false, [], _∷_, Among, here, among-cases}
 use Rattle.runs.proofs.Base.{among-none, _⊎_, inl, inr, ℕ}
-use Rattle.runs.specs.Tests.{either, negate, anyIn}
-use Rattle.runs.specs.Plan.{Plan, WellFormed}
+use Rattle.runs.specs.Tests.{negate}
+use Rattle.runs.specs.Searches.{either, anyIn}
+use Rattle.runs.specs.Plan.{Plan}
+use Rattle.runs.specs.WellFormed.{WellFormed}
 use Rattle.runs.specs.Execution.{finish}
 use Rattle.runs.specs.Calls.{one, together, World, no-task, wrong-status, inc-broken, post-opposed}
 use Rattle.runs.specs.Calls.{not-rising, IncBroken, PostOpposed, Applies}

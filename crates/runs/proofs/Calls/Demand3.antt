@@ -1,14 +1,17 @@
 -- Demand 3 holds of every well-formed plan, whatever flags are set at the start; and the same for what computes.
 use Rattle.runs.proofs.Base.{_≡_, refl, sym, ap, _∙_, _≢_, _⊎_, inl, inr, _↔_, Bool, Option, none, some, List}
 use Rattle.runs.proofs.Base.{[], _∷_, Among, ℕ, _≤_, arith}
-use Rattle.runs.specs.Plan.{Kind, task, all-of, any-of, optional, Moves, Place, inc, post, Plan, Node, WellFormed}
+use Rattle.runs.specs.Plan.{Kind, task, all-of, any-of, optional, Moves, Place, inc, post, Plan, Node}
+use Rattle.runs.specs.WellFormed.{WellFormed}
 use Rattle.runs.specs.Execution.{Status, waiting, running, done, Event, start, finish, skip, History, statusAfter}
 use Rattle.runs.specs.Execution.{Complete, lastAssertedOf, asserts, Execution, lastAsserted}
 use Rattle.runs.specs.Verdict.{Clear, Doomed}
 use Rattle.runs.specs.Calls.{Call, World, fresh, Refusal, pre-unmet, inc-broken, post-opposed, number, Task}
 use Rattle.runs.specs.Calls.{Optional}
-use Rattle.runs.specs.Demand3.{CallsOn, NoViolation, Violation, Violated, WaitsOrSkipped, Demand3On}
-use Rattle.runs.specs.Blocked.{without, Blocks}
+use Rattle.runs.specs.Demand3.{WaitsOrSkipped, Demand3On}
+use Rattle.runs.specs.Violations.{CallsOn, NoViolation, Violation}
+use Rattle.runs.specs.Branches.{Blocks}
+use Rattle.runs.specs.Model.Blocked.{without}
 use Rattle.runs.specs.Model.Monitor.{returns, states}
 use Rattle.runs.specs.Model.Verdicts.{verdict}
 use Rattle.runs.proofs.Plan.{under-node}

@@ -2,13 +2,14 @@
 -- it.
 use Rattle.runs.proofs.Base.{_≡_, refl, sym, ap, _∙_, inl, inr, _⊎_, _↔_, Bool, true, false, decide, Option}
 use Rattle.runs.proofs.Base.{none, some, List, [], _∷_, _++_, ℕ, T, eqb}
-use Rattle.runs.specs.Tests.{either}
-use Rattle.runs.specs.Plan.{Plan, WellFormed}
+use Rattle.runs.specs.Searches.{either}
+use Rattle.runs.specs.Plan.{Plan}
+use Rattle.runs.specs.WellFormed.{WellFormed}
 use Rattle.runs.specs.Calls.{Call, events, World, happenAll, Refusal, no-task, wrong-status, branch-begun}
 use Rattle.runs.specs.Calls.{order-open, pre-unmet, inc-broken, no-optional, not-rising, post-opposed, number}
 use Rattle.runs.specs.Calls.{Applies, checks, First, None, Answered, accepted, refused, Worked, no-calls}
 use Rattle.runs.specs.Calls.{next-call, Refusal-discrete}
-use Rattle.runs.specs.Model.Monitor.{appliesB, orElse, firstOf, code, settle, refusalOf, returned, step, returns}
+use Rattle.runs.specs.Model.Monitor.{appliesB, orElse, firstOf, refusalNumber, settle, refusalOf, returned, step, returns}
 use Rattle.runs.specs.Model.Monitor.{states}
 use Rattle.runs.proofs.Reflect.{r-either, r-decide, r-T, clash, Reflects}
 use Rattle.runs.proofs.Calls.Reflect.{r-applies}
@@ -91,7 +92,7 @@ unfolding firstOf
 ofNumber n = firstOf (λ r. eqb (number r) n) (no-task ∷ wrong-status ∷ branch-begun ∷ order-open ∷ pre-unmet
     ∷ inc-broken ∷ no-optional ∷ not-rising ∷ post-opposed ∷ [])
 
-number-tells : (o : Option Refusal) → ofNumber (code o) ≡ o
+number-tells : (o : Option Refusal) → ofNumber (refusalNumber o) ≡ o
 unfolding ofNumber
 number-tells none = refl
 number-tells (some no-task) = refl
@@ -104,8 +105,8 @@ number-tells (some no-optional) = refl
 number-tells (some not-rising) = refl
 number-tells (some post-opposed) = refl
 
-pub code-inj : {o x : Option Refusal} → code o ≡ code x → o ≡ x
-code-inj {o} {x} q = sym (number-tells o) ∙ ap ofNumber q ∙ number-tells x
+pub number-inj : {o x : Option Refusal} → refusalNumber o ≡ refusalNumber x → o ≡ x
+number-inj {o} {x} q = sym (number-tells o) ∙ ap ofNumber q ∙ number-tells x
 
 module _ (whole p : Plan) (w : WellFormed p) (a : World) (c : Call) where
   -- a call is refused for the first of its checks that applies, and accepted exactly if none does
@@ -122,7 +123,7 @@ module _ (whole p : Plan) (w : WellFormed p) (a : World) (c : Call) where
   unfolding returned step
   answered = go (refusalOf whole p a c) refl
     where
-      go : (o : Option Refusal) → refusalOf whole p a c ≡ o → Answered whole p a c (code o) (settle o a (happenAll p a (events c)))
+      go : (o : Option Refusal) → refusalOf whole p a c ≡ o → Answered whole p a c (refusalNumber o) (settle o a (happenAll p a (events c)))
       go none q = accepted (refused-none .0 q)
       go (some r) q = refused r ((refused-first r) .0 q)
 

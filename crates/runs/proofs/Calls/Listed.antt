@@ -1,7 +1,7 @@
 -- Lists of numbers: what is among them, and lists that strictly rise.
 use Rattle.runs.proofs.Base.{_≡_, refl, _≢_, _⊎_, inl, inr, Bool, true, false, List, [], _∷_, Among, here, there}
 use Rattle.runs.proofs.Base.{among-none, among-cases, ℕ, _<_, arith, T, eqb}
-use Rattle.runs.specs.Tests.{anyIn, listed}
+use Rattle.runs.specs.Searches.{anyIn, listed}
 use Rattle.runs.specs.Calls.{SomeOf, Rising, empty, single, rising, NotRising}
 use Rattle.runs.specs.Model.Monitor.{risingB, notRisingB}
 use Rattle.runs.proofs.Reflect.{clash, Reflects, r-map, decided, r-both, r-either, r-false, r-negate, r-eq, r-lt}

@@ -3,12 +3,13 @@
 use Rattle.runs.proofs.Base.{_≡_, refl, sym, ap, _∙_, fun-ext, _⊎_, inl, inr, Bool, Option, none, some}
 use Rattle.runs.proofs.Base.{Option·getD, List, [], _∷_, _++_}
 use Rattle.runs.proofs.Base.{reverseAux, Among, here, there, among-none, among-cases, ℕ}
-use Rattle.runs.specs.Plan.{Plan, WellFormed}
+use Rattle.runs.specs.Plan.{Plan}
+use Rattle.runs.specs.WellFormed.{WellFormed}
 use Rattle.runs.specs.Execution.{Event, History, statusAfter, latest, lastAssertedOf, asserts, lastAsserted}
 use Rattle.runs.specs.Calls.{Call, events, World, fresh, happen, happenAll, Refusal, number}
-use Rattle.runs.specs.Model.Monitor.{code, settle, refusalOf, returned, step, returns, states}
+use Rattle.runs.specs.Model.Monitor.{refusalNumber, settle, refusalOf, returned, step, returns, states}
 use Rattle.runs.proofs.Calls.Accepted.{flat, AcceptedAll, no-call, call-more, FirstViolation}
-use Rattle.runs.proofs.Calls.First.{code-inj}
+use Rattle.runs.proofs.Calls.First.{number-inj}
 use Rattle.runs.proofs.Calls.Rows.{LeftOf, Violating, accepted-is, violates-to, violates-from}
 use Rattle.runs.proofs.Calls.Violation.{flagAfter, startsAfter, ordinalAfter, worldAfter, EnabledCall}
 use Rattle.runs.proofs.Calls.Violation.{ViolatesCall}
@@ -102,7 +103,7 @@ module _ (whole p : Plan) (part : LeftOf whole p) (w : WellFormed p) (F : ℕ �
     where
       top : (r : Refusal) → refusalOf whole p (After (x .calls)) (x .call) ≡ some r
           → Among (number r) (returns whole p (After (x .calls)) (x .call ∷ []))
-      top r q = here (sym (ap code q))
+      top r q = here (sym (ap refusalNumber q))
 
   violates-in : (cs : List Call) {ds : List Call} → AcceptedAll p F ds → (r : Refusal) → Violating r
       → Among (number r) (returns whole p (After ds) cs)
@@ -111,11 +112,11 @@ module _ (whole p : Plan) (part : LeftOf whole p) (w : WellFormed p) (F : ℕ �
   violates-in [] k r v x = absurd (among-none x)
   violates-in (c ∷ cs) {ds} k r v x = go (among-cases x) (λ g m y. violates-in cs {ds = g} m r v y)
     where
-      go : (number r ≡ code (refusalOf whole p (After ds) c)) ⊎ Among (number r) (returns whole p (step whole p (After ds) c) cs)
+      go : (number r ≡ refusalNumber (refusalOf whole p (After ds) c)) ⊎ Among (number r) (returns whole p (step whole p (After ds) c) cs)
           → ((g : List Call) → AcceptedAll p F g → Among (number r) (returns whole p (After g) cs) → FirstViolation p F)
           → FirstViolation p F
       go (inl q) ih = let (m, b) = violates-to whole p part w (After ds) c r v
-          (sym (code-inj {o = some r} {x = refusalOf whole p (After ds) c} q)) in
+          (sym (number-inj {o = some r} {x = refusalOf whole p (After ds) c} q)) in
           record { calls = ds; call = c; accepted = k; enabled = m; violates = b }
       go (inr y) ih = rest (step whole p (After ds) c) (step-reached k c) y
         where

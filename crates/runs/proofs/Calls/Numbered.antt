@@ -14,7 +14,7 @@ use Rattle.runs.specs.Calls.{Call, one, together, finishes, World, fresh
 use Rattle.runs.specs.Calls.{Task, accepted, refused, Worked, no-calls, next-call, acceptedStarts}
 use Rattle.runs.specs.Demand3.{Numbered}
 use Rattle.runs.proofs.Reflect.{clash}
-use Rattle.runs.proofs.Calls.First.{code-inj}
+use Rattle.runs.proofs.Calls.First.{number-inj}
 use Rattle.runs.proofs.Calls.Together.{begun-stays}
 
 -- a fact that is not absent, and can be told
@@ -120,7 +120,7 @@ running-begun k q = k (λ z. let e = sym z ∙ q in clash cc)
 
 -- no refusal has the number 0
 number-some : (r : Refusal) → eqb (number r) 0 ≡ false
-number-some r = ne-eqb (number r) 0 (λ q. let e = code-inj {o = some r} {x = none} q in clash cc)
+number-some r = ne-eqb (number r) 0 (λ q. let e = number-inj {o = some r} {x = none} q in clash cc)
 
 module _ (whole p : Plan) where
   -- calls after starts in the order of l

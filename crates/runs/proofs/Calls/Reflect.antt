@@ -1,7 +1,8 @@
 -- The tests for the refusals reflect the rows of 01's and 02's table, on any states.
 use Rattle.runs.proofs.Base.{_≡_, refl, sym, ap, _∙_, _≢_, _⊎_, inl, inr, Bool, not, Option, none, some, List, ℕ}
 use Rattle.runs.proofs.Base.{zero, suc, _+_, _<_, _≤_, arith, T}
-use Rattle.runs.specs.Plan.{any-of, optional, Picks, Moves, inc, post, Plan, Node, Child, Under, WellFormed}
+use Rattle.runs.specs.Plan.{any-of, optional, Picks, Moves, inc, post, Plan, Node, Child, Under}
+use Rattle.runs.specs.WellFormed.{WellFormed}
 use Rattle.runs.specs.Execution.{Status, waiting, running, done, State, Event, start, finish, skip, nodeOf}
 use Rattle.runs.specs.Execution.{task-done, all-done, any-done, skip-done}
 use Rattle.runs.specs.Execution.{Complete, Begun, Rival, by-branch, by-skip, preOf, asserts}

@@ -2,8 +2,9 @@
 -- refusal exactly if it is enabled and violates something.
 use Rattle.runs.proofs.Base.{_≡_, refl, sym, _∙_, _⊎_, inl, inr, _↔_, Iff·trans, Bool, decide, Option, none, some}
 use Rattle.runs.proofs.Base.{List, [], _∷_, _++_, ℕ, T}
-use Rattle.runs.specs.Tests.{either}
-use Rattle.runs.specs.Plan.{task, Plan, Node, Under, WellFormed}
+use Rattle.runs.specs.Searches.{either}
+use Rattle.runs.specs.Plan.{task, Plan, Node, Under}
+use Rattle.runs.specs.WellFormed.{WellFormed}
 use Rattle.runs.specs.Execution.{waiting, running, start, finish, skip, Ready, Enabled, can-start}
 use Rattle.runs.specs.Execution.{can-finish, can-skip}
 use Rattle.runs.specs.Calls.{Call, one, together, World, Refusal, no-task, wrong-status, branch-begun, order-open}

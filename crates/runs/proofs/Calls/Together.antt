@@ -4,7 +4,8 @@
 use Rattle.runs.proofs.Base.{_≡_, refl, sym, ap, _∙_, fun-ext, _≢_, _⊎_, inl, inr, _↔_, Bool, true, false, not}
 use Rattle.runs.proofs.Base.{Bool-discrete, Option, none, some, List, [], _∷_, _++_, Among, here, there}
 use Rattle.runs.proofs.Base.{among-none, among-cases, ℕ, ℕ-discrete}
-use Rattle.runs.specs.Plan.{inc, post, Plan, WellFormed}
+use Rattle.runs.specs.Plan.{inc, post, Plan}
+use Rattle.runs.specs.WellFormed.{WellFormed}
 use Rattle.runs.specs.Execution.{Status, waiting, running, done, State, Event, finish, History, moved}
 use Rattle.runs.specs.Execution.{statusAfter, Enabled, can-finish, Execution, one-more, preOf, Earlier}
 use Rattle.runs.specs.Calls.{together, finishes, SomeOf, Rising, empty, single, rising, World, fresh, happenAll}

@@ -2,7 +2,8 @@
 -- CLEAR is one.
 use Rattle.runs.proofs.Base.{_≡_, refl, sym, ap, _∙_, _≢_, _⊎_, inl, inr, Bool, true, false, not, Option, none}
 use Rattle.runs.proofs.Base.{some, Option·getD, [], _∷_, Among, ℕ}
-use Rattle.runs.specs.Plan.{post, Plan, WellFormed}
+use Rattle.runs.specs.Plan.{post, Plan}
+use Rattle.runs.specs.WellFormed.{WellFormed}
 use Rattle.runs.specs.Execution.{running, State, Event, finish, History, statusAfter, Enabled, Execution}
 use Rattle.runs.specs.Execution.{one-more, lastAsserted}
 use Rattle.runs.specs.Summary.{Clobbers, precondition, incondition}

@@ -1,7 +1,8 @@
 -- Decomposition, all-of: an execution of the group is one of each child, with every start and every skip after what is
 -- ordered before its child.
 use Rattle.runs.proofs.Base.{_≡_, _↔_, [], _∷_, ℕ, T}
-use Rattle.runs.specs.Plan.{all-of, Plan, Child, Under, WellFormed}
+use Rattle.runs.specs.Plan.{all-of, Plan, Child, Under}
+use Rattle.runs.specs.WellFormed.{WellFormed}
 use Rattle.runs.specs.Execution.{State, Event, History, nodeOf, Begins, statusAfter, all-done, Complete, Enabled}
 use Rattle.runs.specs.Execution.{Execution, none-yet, one-more}
 use Rattle.runs.specs.Execution.{Completed, Earlier, none-later, one-later}

@@ -1,7 +1,8 @@
 -- Decomposition, choices: an execution of the group is empty, or one of a single branch, or the skip of an optional
 -- group alone.
 use Rattle.runs.proofs.Base.{_≡_, refl, sym, ap, _∙_, _≢_, _⊎_, inl, inr, _↔_, [], _∷_, ℕ, arith, ℕ-discrete, T}
-use Rattle.runs.specs.Plan.{any-of, optional, Picks, Plan, itself, Child, Under, WellFormed}
+use Rattle.runs.specs.Plan.{any-of, optional, Picks, Plan, itself, Child, Under}
+use Rattle.runs.specs.WellFormed.{WellFormed}
 use Rattle.runs.specs.Execution.{waiting, running, done, State, Event, start, finish, skip, History, nodeOf}
 use Rattle.runs.specs.Execution.{statusOf, Begins, statusAfter, any-done, skip-done, Complete, Begun, Rival}
 use Rattle.runs.specs.Execution.{by-branch, by-skip, Enabled, can-start, can-finish, can-skip, Execution}

@@ -1,7 +1,7 @@
 -- Complete nodes: what completes a node of each kind; what is complete has begun; what is done stays done.
 use Rattle.runs.proofs.Base.{_≡_, refl, _≢_, ℕ, _<_}
 use Rattle.runs.specs.Plan.{Kind, task, all-of, any-of, optional, Picks, Moves, Plan, itself, Node, Child, Under}
-use Rattle.runs.specs.Plan.{WellFormed}
+use Rattle.runs.specs.WellFormed.{WellFormed}
 use Rattle.runs.specs.Execution.{Status, waiting, done, State, task-done, all-done, any-done, skip-done, Complete}
 use Rattle.runs.specs.Execution.{Begun}
 use Rattle.runs.proofs.Reflect.{clash}

@@ -1,6 +1,7 @@
 -- Every execution extends to a completed one, so every node has one.
 use Rattle.runs.proofs.Base.{_≡_, refl, _⊎_, inl, inr, [], _∷_, _++_, ℕ}
-use Rattle.runs.specs.Plan.{Kind, task, all-of, any-of, optional, Picks, Plan, itself, Node, Child, WellFormed}
+use Rattle.runs.specs.Plan.{Kind, task, all-of, any-of, optional, Picks, Plan, itself, Node, Child}
+use Rattle.runs.specs.WellFormed.{WellFormed}
 use Rattle.runs.specs.Execution.{Status, waiting, running, done, start, finish, skip, History, statusAfter}
 use Rattle.runs.specs.Execution.{task-done, all-done, any-done, can-start, can-finish, Execution, none-yet}
 use Rattle.runs.specs.Execution.{one-more, Completed}

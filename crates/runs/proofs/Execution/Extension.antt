@@ -1,6 +1,7 @@
 -- What is done stays done; and what a child can do next by itself, its all-of group can do next.
 use Rattle.runs.proofs.Base.{_≡_, sym, ap, _∙_, [], _∷_, _++_, ℕ, ℕ-discrete, T}
-use Rattle.runs.specs.Plan.{all-of, Plan, Child, WellFormed}
+use Rattle.runs.specs.Plan.{all-of, Plan, Child}
+use Rattle.runs.specs.WellFormed.{WellFormed}
 use Rattle.runs.specs.Execution.{waiting, running, done, Event, History, nodeOf, statusAfter, Complete, Enabled}
 use Rattle.runs.specs.Execution.{can-start, can-finish}
 use Rattle.runs.specs.Execution.{can-skip, Execution, one-more, Completed}

@@ -1,7 +1,8 @@
 -- A completed execution cannot be extended; what stands before a child is completed before the child begins.
 use Rattle.runs.proofs.Base.{_≡_, refl, ap, _∙_, _≢_, _⊎_, inl, inr, [], _∷_, ℕ, arith, ℕ-discrete, T}
 use Rattle.runs.specs.Plan.{Kind, task, all-of, any-of, optional, Picks, Plan, itself, Node, Child, Under, Before}
-use Rattle.runs.specs.Plan.{direct, chain, WellFormed}
+use Rattle.runs.specs.Plan.{direct, chain}
+use Rattle.runs.specs.WellFormed.{WellFormed}
 use Rattle.runs.specs.Execution.{waiting, running, done, Event, History, nodeOf, Begins, statusAfter, Complete}
 use Rattle.runs.specs.Execution.{Begun, by-skip, Enabled}
 use Rattle.runs.specs.Execution.{can-start, can-finish, can-skip, Execution, none-yet, one-more, Completed}

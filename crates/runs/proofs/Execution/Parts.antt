@@ -1,6 +1,7 @@
 -- The part of a history that falls under a node: it has the states there, and is an execution of that node.
 use Rattle.runs.proofs.Base.{_≡_, refl, sym, ap, _∙_, _≢_, _↔_, [], _∷_, _++_, ℕ}
-use Rattle.runs.specs.Plan.{Plan, Child, Under, WellFormed}
+use Rattle.runs.specs.Plan.{Plan, Child, Under}
+use Rattle.runs.specs.WellFormed.{WellFormed}
 use Rattle.runs.specs.Execution.{Event, History, nodeOf, statusAfter, Complete, Enabled, Execution, none-yet}
 use Rattle.runs.specs.Execution.{one-more, Earlier, none-later, one-later}
 use Rattle.runs.proofs.Plan.{one-branch, decUnder}

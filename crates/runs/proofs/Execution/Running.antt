@@ -1,7 +1,8 @@
 -- What has moved is a task or an optional group under the node; nothing runs under a complete node; what runs has
 -- started.
 use Rattle.runs.proofs.Base.{_≡_, sym, _∙_, _≢_, [], _∷_, ℕ, ℕ-discrete}
-use Rattle.runs.specs.Plan.{task, Moves, Plan, Node, Under, WellFormed}
+use Rattle.runs.specs.Plan.{task, Moves, Plan, Node, Under}
+use Rattle.runs.specs.WellFormed.{WellFormed}
 use Rattle.runs.specs.Execution.{Status, waiting, running, done, State, Event, start, finish, skip, History}
 use Rattle.runs.specs.Execution.{nodeOf, statusAfter, Complete, Enabled, can-finish, Execution, none-yet}
 use Rattle.runs.specs.Execution.{one-more, Earlier, none-later, one-later}

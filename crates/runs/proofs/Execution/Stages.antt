@@ -2,7 +2,8 @@
 -- of our choice.
 use Rattle.runs.proofs.Base.{_≡_, refl, sym, _∙_, _⊎_, inl, inr, [], _++_, append-assoc, ℕ, zero, suc, _<_}
 use Rattle.runs.proofs.Base.{arith, ℕ-discrete, T}
-use Rattle.runs.specs.Plan.{all-of, Plan, Child, WellFormed}
+use Rattle.runs.specs.Plan.{all-of, Plan, Child}
+use Rattle.runs.specs.WellFormed.{WellFormed}
 use Rattle.runs.specs.Execution.{Event, History, statusAfter, Complete, Execution, Completed}
 use Rattle.runs.proofs.Plan.{decChild}
 use Rattle.runs.specs.Classes.{All, all-nil}

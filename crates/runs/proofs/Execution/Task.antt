@@ -1,6 +1,7 @@
 -- The executions of a task: nothing, its start, its start and its finish.
 use Rattle.runs.proofs.Base.{_≡_, refl, [], _∷_, ℕ}
-use Rattle.runs.specs.Plan.{task, optional, Plan, WellFormed}
+use Rattle.runs.specs.Plan.{task, optional, Plan}
+use Rattle.runs.specs.WellFormed.{WellFormed}
 use Rattle.runs.specs.Execution.{waiting, running, done, Event, start, finish, History, statusAfter, Enabled}
 use Rattle.runs.specs.Execution.{can-start, can-finish, can-skip}
 use Rattle.runs.specs.Execution.{Execution, none-yet, one-more, Completed}

@@ -1,6 +1,7 @@
 -- What 01's refusals leave is well formed; the rank of a node is its number.
 use Rattle.runs.proofs.Base.{_≡_, refl, sym, _∙_, _≢_, ℕ, _<_, arith}
-use Rattle.runs.specs.Plan.{task, all-of, any-of, Plan, Node, WellFormed, Accepted}
+use Rattle.runs.specs.Plan.{task, all-of, any-of, Plan, Node}
+use Rattle.runs.specs.WellFormed.{WellFormed, Accepted}
 use Rattle.runs.proofs.Reflect.{clash}
 
 pub accepted-well-formed : (p : Plan) → Accepted p → WellFormed p

@@ -1,6 +1,7 @@
 -- Chains of orders: they stay among the children of one group, and their rank rises.
 use Rattle.runs.proofs.Base.{sym, _∙_, ℕ, _<_, arith, T}
-use Rattle.runs.specs.Plan.{Plan, Node, Child, Before, direct, chain, WellFormed}
+use Rattle.runs.specs.Plan.{Plan, Node, Child, Before, direct, chain}
+use Rattle.runs.specs.WellFormed.{WellFormed}
 
 module _ (p : Plan) where
   pub before-trans : {a b c : ℕ} → Before p a b → Before p b c → Before p a c

@@ -1,7 +1,8 @@
 -- The tests of tree and orders reflect them, so all of it can be decided.
 use Rattle.runs.proofs.Base.{_≡_, refl, _⊎_, inl, inr, Bool, ℕ, zero, suc, _+_, _<_, _≤_, arith, T, ℕ-discrete}
 use Rattle.runs.specs.Plan.{Kind, task, all-of, any-of, optional, Picks, Moves, Plan, itself, below, Node, Child}
-use Rattle.runs.specs.Plan.{Under, Before, direct, chain, Unordered, WellFormed}
+use Rattle.runs.specs.Plan.{Under, Before, direct, chain, Unordered}
+use Rattle.runs.specs.WellFormed.{WellFormed}
 use Rattle.runs.specs.Model.Trees.{kindB, picksB, movesB, byKind, childB, someChildB, everyChildB, underIn}
 use Rattle.runs.specs.Model.Trees.{underB, someUnderB, someTaskB, beforeIn, beforeB, unorderedB}
 use Rattle.runs.proofs.Reflect.{Reflects, r-map, decided, reflection, r-guarded, r-both, r-either}

@@ -1,6 +1,7 @@
 -- The tree: a node is under one child of a group at most; every node is under the root; induction from the leaves up.
 use Rattle.runs.proofs.Base.{_≡_, refl, sym, _⊎_, inl, inr, ℕ, zero, suc, _+_, _<_, _≤_, arith}
-use Rattle.runs.specs.Plan.{Plan, itself, below, Node, Child, Under, WellFormed}
+use Rattle.runs.specs.Plan.{Plan, itself, below, Node, Child, Under}
+use Rattle.runs.specs.WellFormed.{WellFormed}
 
 module _ (p : Plan) where
   pub under-trans : {a b c : ℕ} → Under p a b → Under p b c → Under p a c

@@ -3,7 +3,8 @@
 -- has none of the conditions. Clobber and ReflectClobber have marks 6 and 7.)
 use Rattle.runs.proofs.Base.{_≡_, refl, _∙_, _⊎_, inl, inr, _↔_, Iff·trans, Bool, Option, none, some, [], _∷_, ℕ}
 use Rattle.runs.specs.Tests.{negate}
-use Rattle.runs.specs.Plan.{all-of, pre, inc, post, Plan, Node, Child, Before, WellFormed}
+use Rattle.runs.specs.Plan.{all-of, pre, inc, post, Plan, Node, Child, Before}
+use Rattle.runs.specs.WellFormed.{WellFormed}
 use Rattle.runs.specs.Execution.{Event, start, finish, skip, History, lastAssertedOf, lastAsserted, Earlier}
 use Rattle.runs.specs.Execution.{none-later, one-later}
 use Rattle.runs.specs.Summary.{May, Must, ExternalPre, ExternalPost, Incondition}

@@ -1,9 +1,10 @@
 -- May clobber, by children: the pair rule for all-of, some branch for any-of and optional, never for a task.
 use Rattle.runs.proofs.Base.{_≡_, sym, ap, _∙_, _⊎_, inl, inr, _↔_, Bool, not, some, _∷_, ℕ}
-use Rattle.runs.specs.Plan.{task, all-of, any-of, optional, Picks, Plan, Child, at-group, WellFormed}
+use Rattle.runs.specs.Plan.{task, all-of, any-of, optional, Picks, Plan, Child, at-group}
+use Rattle.runs.specs.WellFormed.{WellFormed}
 use Rattle.runs.specs.Execution.{Event, skip, History, Execution, preOf, lastAssertedOf, lastAsserted}
-use Rattle.runs.specs.Summary.{Clobbers, precondition, incondition, Clobbered, ClobberByPairs, in-child}
-use Rattle.runs.specs.Summary.{unordered-pair, opposed-pair, passed-on, MayClobber}
+use Rattle.runs.specs.Summary.{Clobbers, precondition, incondition, Clobbered, MayClobber}
+use Rattle.runs.specs.Pairs.{ClobberByPairs, in-child, unordered-pair, opposed-pair, passed-on}
 use Rattle.runs.proofs.Reflect.{clash}
 use Rattle.runs.proofs.Execution.{enabled-under, execution-tail, execution-last, pick-split, OneOf, through}
 use Rattle.runs.proofs.Execution.{skipped, under-task, TaskExecution, begun}

@@ -3,7 +3,8 @@
 use Rattle.runs.proofs.Base.{_≡_, refl, sym, ap, _∙_, _≢_, _⊎_, inl, inr, Bool, not, some, [], _∷_, _++_}
 use Rattle.runs.proofs.Base.{append-nil, ℕ, ℕ-discrete, T}
 use Rattle.runs.specs.Plan.{Kind, task, all-of, any-of, optional, Picks, Plan, Node, Child, Under, Before, direct}
-use Rattle.runs.specs.Plan.{chain, Unordered, Concurrent, at-group, deeper, WellFormed}
+use Rattle.runs.specs.Plan.{chain, Unordered, Concurrent, at-group, deeper}
+use Rattle.runs.specs.WellFormed.{WellFormed}
 use Rattle.runs.specs.Execution.{running, Event, start, finish, skip, History, nodeOf, statusAfter, Complete}
 use Rattle.runs.specs.Execution.{Begun, Execution, asserts}
 use Rattle.runs.specs.Summary.{Opposed}

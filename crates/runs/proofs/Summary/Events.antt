@@ -1,6 +1,7 @@
 -- The tests for the classes of events reflect them; and what a history last asserted, by its events.
 use Rattle.runs.proofs.Base.{_≡_, refl, Bool, Option, none, some, [], _∷_, ℕ, _<_}
-use Rattle.runs.specs.Plan.{pre, Plan, WellFormed}
+use Rattle.runs.specs.Plan.{pre, Plan}
+use Rattle.runs.specs.WellFormed.{WellFormed}
 use Rattle.runs.specs.Execution.{Event, start, finish, skip, History, preOf, lastAssertedOf, asserts}
 use Rattle.runs.specs.Execution.{lastAsserted}
 use Rattle.runs.specs.Model.Marks.{unassertedB, preB, assertsB, beginsIncB, neutralB, coversB}

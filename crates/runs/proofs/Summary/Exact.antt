@@ -1,6 +1,7 @@
 -- Demand 2 on the level of plans: each of the eight tests is true exactly if the mark's proposition holds.
 use Rattle.runs.proofs.Base.{Bool, ℕ}
-use Rattle.runs.specs.Plan.{Plan, Node, WellFormed}
+use Rattle.runs.specs.Plan.{Plan, Node}
+use Rattle.runs.specs.WellFormed.{WellFormed}
 use Rattle.runs.specs.Summary.{Mark, may-pre, must-pre, may-post, must-post, may-inc, must-inc, may-clobber}
 use Rattle.runs.specs.Summary.{must-clobber, Marked}
 use Rattle.runs.specs.Model.Marks.{markedB}

@@ -1,9 +1,11 @@
 -- An external precondition of a node is a pre- or incondition of some task under it, an external postcondition an in-
 -- or postcondition.
 use Rattle.runs.proofs.Base.{Bool, _∷_, ℕ}
-use Rattle.runs.specs.Plan.{pre, inc, post, Plan, Under, WellFormed}
+use Rattle.runs.specs.Plan.{pre, inc, post, Plan, Under}
+use Rattle.runs.specs.WellFormed.{WellFormed}
 use Rattle.runs.specs.Execution.{Event, History, nodeOf, Execution}
-use Rattle.runs.specs.Summary.{May, ExternalPre, ExternalPost, TaskWith}
+use Rattle.runs.specs.Summary.{May, ExternalPre, ExternalPost}
+use Rattle.runs.specs.Pairs.{TaskWith}
 use Rattle.runs.proofs.Execution.{OfKind, enabled-under, enabled-of-kind, earlier-append, execution-last}
 use Rattle.runs.proofs.Execution.{earlier-execution}
 use Rattle.runs.proofs.Summary.Last.{last-at}

@@ -1,7 +1,8 @@
 -- May and must incondition, through quiet and meet: a task with it runs at some time exactly if an event of the history
 -- begins it.
 use Rattle.runs.proofs.Base.{_⊎_, inl, inr, _↔_, Bool, [], _∷_, _++_, ℕ}
-use Rattle.runs.specs.Plan.{Plan, Node, WellFormed}
+use Rattle.runs.specs.Plan.{Plan, Node}
+use Rattle.runs.specs.WellFormed.{WellFormed}
 use Rattle.runs.specs.Execution.{Event, start, finish, skip, History, Completed, Earlier, none-later, one-later}
 use Rattle.runs.specs.Summary.{May, Must, Incondition}
 use Rattle.runs.proofs.Reflect.{decided}

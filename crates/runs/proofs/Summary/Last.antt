@@ -1,7 +1,8 @@
 -- Last (`MayLast`): its rules by children. At a choice it is `may-any`, `may-optional` with `last-skip`.
 use Rattle.runs.proofs.Base.{_≡_, refl, ap, _∙_, sym, _⊎_, inl, inr, _↔_, Iff·trans, _≢_, [], _∷_, _++_}
 use Rattle.runs.proofs.Base.{append-nil, ℕ, arith, ℕ-discrete, T}
-use Rattle.runs.specs.Plan.{task, all-of, Plan, Child, Under, Before, direct, WellFormed}
+use Rattle.runs.specs.Plan.{task, all-of, Plan, Child, Under, Before, direct}
+use Rattle.runs.specs.WellFormed.{WellFormed}
 use Rattle.runs.specs.Execution.{Event, start, finish, skip, History, nodeOf, statusAfter, all-done, Complete}
 use Rattle.runs.specs.Execution.{Execution, Completed}
 use Rattle.runs.proofs.Plan.{Branch, one-branch, before-rank, before-trans, before-irrefl, decBefore}

@@ -1,6 +1,7 @@
 -- May and must, of any property of a history, at a task and at a choice.
 use Rattle.runs.proofs.Base.{_≡_, _⊎_, inl, inr, _↔_, Iff·trans, [], _∷_, ℕ}
-use Rattle.runs.specs.Plan.{task, any-of, optional, Plan, Child, WellFormed}
+use Rattle.runs.specs.Plan.{task, any-of, optional, Plan, Child}
+use Rattle.runs.specs.WellFormed.{WellFormed}
 use Rattle.runs.specs.Execution.{start, finish, skip, History}
 use Rattle.runs.specs.Summary.{May, Must}
 use Rattle.runs.proofs.Execution.{any-completed, completed-pick, task-ended, task-completed, picks-any}

@@ -1,6 +1,7 @@
 -- Meet (`MayMeet`): its rules by children.
 use Rattle.runs.proofs.Base.{_≡_, _∙_, _⊎_, inl, inr, _↔_, [], _∷_, _++_, append-nil, ℕ, arith}
-use Rattle.runs.specs.Plan.{task, all-of, any-of, optional, Plan, Child, Before, direct, chain, WellFormed}
+use Rattle.runs.specs.Plan.{task, all-of, any-of, optional, Plan, Child, Before, direct, chain}
+use Rattle.runs.specs.WellFormed.{WellFormed}
 use Rattle.runs.specs.Execution.{Event, start, finish, skip, History, nodeOf, statusAfter}
 use Rattle.runs.proofs.Plan.{child-under, Branch, before-rank, decBefore}
 use Rattle.runs.specs.Classes.{All, all-nil, all-cons, MayQuiet, MayMeet}

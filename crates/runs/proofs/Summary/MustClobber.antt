@@ -2,7 +2,8 @@
 -- last asserted false.
 use Rattle.runs.proofs.Base.{_≡_, refl, sym, _≢_, _⊎_, inl, inr, Bool, not, Option, none, some, [], _∷_, ℕ}
 use Rattle.runs.proofs.Base.{ℕ-discrete}
-use Rattle.runs.specs.Plan.{all-of, Plan, Child, Under, Before, Unordered, WellFormed, Node}
+use Rattle.runs.specs.Plan.{all-of, Plan, Child, Under, Before, Unordered, Node}
+use Rattle.runs.specs.WellFormed.{WellFormed}
 use Rattle.runs.specs.Execution.{Event, start, finish, skip, History, nodeOf, statusAfter, Execution, Completed}
 use Rattle.runs.specs.Execution.{preOf, lastAssertedOf, asserts, lastAsserted, Earlier, none-later, one-later}
 use Rattle.runs.specs.Summary.{Must, ExternalPre, ExternalPost, Silent, MustClobber, by-any-of, by-child, by-pair}

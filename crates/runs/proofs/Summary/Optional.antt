@@ -1,7 +1,8 @@
 -- The marks of an optional group: may need, leave and hold where some branch may, for the skip alone shows none of
 -- them; may clash where some branch may; must and doom never.
 use Rattle.runs.proofs.Base.{_≡_, _↔_, Bool, ℕ}
-use Rattle.runs.specs.Plan.{optional, Plan, Child, WellFormed}
+use Rattle.runs.specs.Plan.{optional, Plan, Child}
+use Rattle.runs.specs.WellFormed.{WellFormed}
 use Rattle.runs.specs.Summary.{ExternalPre, ExternalPost, Incondition, Mark, may-pre, must-pre, may-post}
 use Rattle.runs.specs.Summary.{must-post, may-inc, must-inc, may-clobber, must-clobber, Marked}
 use Rattle.runs.proofs.Summary.MayMust.{may-branch, must-never}

@@ -1,11 +1,11 @@
 -- An all-of group that may clobber has a pair: the children are read off the execution by projection.
 use Rattle.runs.proofs.Base.{_≡_, sym, _∙_, _≢_, inl, inr, Bool, not, some, [], _∷_, _++_, append-nil, ℕ}
-use Rattle.runs.specs.Plan.{all-of, inc, Plan, Child, Under, Before, Concurrent, at-group, deeper, WellFormed}
-use Rattle.runs.specs.Plan.{pre, post}
+use Rattle.runs.specs.Plan.{all-of, inc, Plan, Child, Under, Before, Concurrent, at-group, deeper, pre, post}
+use Rattle.runs.specs.WellFormed.{WellFormed}
 use Rattle.runs.specs.Execution.{running, Event, start, finish, skip, History, nodeOf, statusAfter, Execution}
 use Rattle.runs.specs.Execution.{preOf, asserts, lastAsserted}
-use Rattle.runs.specs.Summary.{Clobbers, precondition, incondition, Opposed, TaskWith, ClobberByPairs, in-child}
-use Rattle.runs.specs.Summary.{unordered-pair, opposed-pair, passed-on, MayClobber}
+use Rattle.runs.specs.Summary.{Clobbers, precondition, incondition, Opposed, MayClobber}
+use Rattle.runs.specs.Pairs.{TaskWith, ClobberByPairs, in-child, unordered-pair, opposed-pair, passed-on}
 use Rattle.runs.proofs.Reflect.{clash}
 use Rattle.runs.proofs.Plan.{child-under, Branch, one-branch, before-irrefl, Standing, same, earlier}
 use Rattle.runs.proofs.Plan.{later, unordered, standing}

@@ -1,10 +1,11 @@
 -- A pair clobbers: prefixes of the two children, one after the other, after what stands before them.
 use Rattle.runs.proofs.Base.{_≡_, _∙_, _⊎_, inl, inr, Bool, not, some, none, [], _∷_, _++_, append-nil, ℕ}
 use Rattle.runs.specs.Plan.{all-of, pre, inc, post, Plan, Child, Under, Before, direct, chain, Unordered, deeper}
-use Rattle.runs.specs.Plan.{WellFormed}
+use Rattle.runs.specs.WellFormed.{WellFormed}
 use Rattle.runs.specs.Execution.{Event, start, finish, History, nodeOf, Execution, asserts, lastAsserted}
-use Rattle.runs.specs.Summary.{Clobbers, precondition, incondition, Clobbered, MayClobber, TaskWith, May}
-use Rattle.runs.specs.Summary.{ExternalPre, ExternalPost}
+use Rattle.runs.specs.Summary.{Clobbers, precondition, incondition, Clobbered, MayClobber, May, ExternalPre}
+use Rattle.runs.specs.Summary.{ExternalPost}
+use Rattle.runs.specs.Pairs.{TaskWith}
 use Rattle.runs.proofs.Plan.{one-branch, before-irrefl, decBefore}
 use Rattle.runs.specs.Classes.{Unasserted, Asserts, PreOn, MayMeet, here}
 use Rattle.runs.proofs.Execution.{after-same, earlier-append, enabled-under, execution-tail, execution-last}

@@ -1,6 +1,7 @@
 -- May and must external precondition, through quiet and meet.
 use Rattle.runs.proofs.Base.{_≡_, _⊎_, inl, inr, _↔_, Bool, none, [], _∷_, _++_, ℕ}
-use Rattle.runs.specs.Plan.{Plan, Node, WellFormed}
+use Rattle.runs.specs.Plan.{Plan, Node}
+use Rattle.runs.specs.WellFormed.{WellFormed}
 use Rattle.runs.specs.Execution.{Event, History, Execution, Completed, asserts, Earlier, none-later, one-later}
 use Rattle.runs.specs.Summary.{May, Must, ExternalPre}
 use Rattle.runs.proofs.Reflect.{decided}

@@ -1,7 +1,8 @@
 -- Quiet (`MayQuiet`): its rules by children. At a choice it is `may-any`, `may-optional` with `quiet-skip`.
 use Rattle.runs.proofs.Base.{_≡_, inl, _↔_, Iff·trans, [], _++_, append-nil, ℕ, T}
 use Rattle.runs.proofs.Summary.MayMust.{whole, skipOnly, may-task}
-use Rattle.runs.specs.Plan.{task, all-of, Plan, Child, WellFormed, Node}
+use Rattle.runs.specs.Plan.{task, all-of, Plan, Child, Node}
+use Rattle.runs.specs.WellFormed.{WellFormed}
 use Rattle.runs.specs.Execution.{Event, start, finish, skip, all-done, none-yet}
 use Rattle.runs.specs.Classes.{All, all-nil, all-cons, Anything, MayQuiet}
 use Rattle.runs.proofs.Execution.{all-append, all-anything, part, part-nil, part-all, part-completed}

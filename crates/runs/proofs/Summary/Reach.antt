@@ -1,6 +1,7 @@
 -- Each event of a task or an optional group under a node can be met in an execution of the node.
 use Rattle.runs.proofs.Base.{_≡_, refl, sym, ap, _⊎_, inl, inr, _∷_, ℕ}
-use Rattle.runs.specs.Plan.{Kind, task, all-of, any-of, optional, Plan, Node, Child, Under, WellFormed}
+use Rattle.runs.specs.Plan.{Kind, task, all-of, any-of, optional, Plan, Node, Child, Under}
+use Rattle.runs.specs.WellFormed.{WellFormed}
 use Rattle.runs.specs.Execution.{Event, start, finish, skip, History, nodeOf, Execution}
 use Rattle.runs.proofs.Reflect.{clash}
 use Rattle.runs.proofs.Plan.{Branch, branch, from-leaves, before-child}

@@ -2,11 +2,12 @@
 use Rattle.runs.proofs.Base.{_≡_, refl, _≢_, _⊎_, inl, inr, _↔_, Iff·symm, Bool, not, Option, none, some}
 use Rattle.runs.proofs.Base.{ℕ, zero, suc, _+_, _≤_, arith}
 use Rattle.runs.specs.Plan.{task, all-of, any-of, optional, Place, pre, inc, post, Plan, Node, Child, Under}
-use Rattle.runs.specs.Plan.{Before, Unordered, WellFormed}
+use Rattle.runs.specs.Plan.{Before, Unordered}
+use Rattle.runs.specs.WellFormed.{WellFormed}
 use Rattle.runs.specs.Execution.{start, finish, skip, lastAsserted}
-use Rattle.runs.specs.Summary.{May, Must, ExternalPre, ExternalPost, MayClobber, TaskWith, ClobberByPairs}
-use Rattle.runs.specs.Summary.{in-child, unordered-pair, opposed-pair}
-use Rattle.runs.specs.Summary.{passed-on, Silent, MustClobber, by-any-of, by-child, by-pair}
+use Rattle.runs.specs.Summary.{May, Must, ExternalPre, ExternalPost, MayClobber, Silent, MustClobber, by-any-of}
+use Rattle.runs.specs.Summary.{by-child, by-pair}
+use Rattle.runs.specs.Pairs.{TaskWith, ClobberByPairs, in-child, unordered-pair, opposed-pair, passed-on}
 use Rattle.runs.specs.Model.Marks.{conditionB, silentB, avoidedB, pairB, mayClobberIn, mayClobberB, aloneB}
 use Rattle.runs.specs.Model.Marks.{undisturbedB, mustClobberIn, mustClobberB}
 use Rattle.runs.proofs.Reflect.{clash, Reflects, r-map, decided, r-false, r-both, r-either, r-implies, r-negate}

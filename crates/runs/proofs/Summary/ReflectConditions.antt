@@ -1,7 +1,8 @@
 -- The tests for quiet, meet and last reflect them; and so the tests for the conditions reflect the six marks.
 use Rattle.runs.proofs.Base.{_≡_, Iff·symm, Bool, not, none, ℕ, zero, suc, _+_, _≤_, arith}
 use Rattle.runs.specs.Tests.{implies}
-use Rattle.runs.specs.Plan.{Plan, Node, Child, Before, WellFormed}
+use Rattle.runs.specs.Plan.{Plan, Node, Child, Before}
+use Rattle.runs.specs.WellFormed.{WellFormed}
 use Rattle.runs.specs.Execution.{Event, skip, lastAsserted}
 use Rattle.runs.specs.Summary.{May, Must, ExternalPre, ExternalPost, Incondition}
 use Rattle.runs.specs.Model.Marks.{quietIn, meetIn, lastIn, quietB, meetB, lastB, avoidB, mayPreB, mustPreB}

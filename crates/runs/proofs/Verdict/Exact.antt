@@ -1,6 +1,7 @@
 -- The computed verdict is the verdict; CLEAR and DOOMED exclude each other.
 use Rattle.runs.proofs.Base.{_≡_, refl, _⊎_, inl, inr, _↔_, Bool, true, false, ℕ, _<_}
-use Rattle.runs.specs.Plan.{inc, post, Plan, WellFormed}
+use Rattle.runs.specs.Plan.{inc, post, Plan}
+use Rattle.runs.specs.WellFormed.{WellFormed}
 use Rattle.runs.specs.Execution.{Event, History}
 use Rattle.runs.specs.Summary.{Clobbers, precondition, incondition, MayClobber, Mark, may-pre, must-pre}
 use Rattle.runs.specs.Summary.{may-clobber, must-clobber}

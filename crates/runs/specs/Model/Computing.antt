@@ -1,8 +1,8 @@
 -- One name for all the tests and functions that compute: a proof by computation writes `unfolding computing`.
 -- Definitions only.
 use mathlib.Core.Bool.{decide}
-use Rattle.runs.specs.Tests.{both, either, implies, negate, anyBelow, allBelow, anyIn, listed, sameB, sameList}
-use Rattle.runs.specs.Tests.{isNone, isSome}
+use Rattle.runs.specs.Tests.{both, implies, negate, allBelow, sameB, sameList, isNone, isSome}
+use Rattle.runs.specs.Searches.{either, anyBelow, anyIn, listed}
 use Rattle.runs.specs.Model.Marks.{quietIn, meetIn, lastIn, quietB, meetB, lastB, unassertedB, preB, assertsB}
 use Rattle.runs.specs.Model.Marks.{beginsIncB, neutralB, coversB}
 use Rattle.runs.specs.Model.Marks.{avoidB, mayPreB, mustPreB, mayPostB, mustPostB, mayIncB, mustIncB, conditionB}

@@ -2,7 +2,8 @@
 use mathlib.Core.Bool.{Bool, true, false, not}
 use Prim.Native.Nat.{ℕ, zero, suc}
 use lib.Dec.{eqb}
-use Rattle.runs.specs.Tests.{both, either, implies, negate, isNone, isSome}
+use Rattle.runs.specs.Tests.{both, implies, negate, isNone, isSome}
+use Rattle.runs.specs.Searches.{either}
 use Rattle.runs.specs.Plan.{Place, pre, inc, post, Plan}
 use Rattle.runs.specs.Execution.{Event, start, finish, skip, preOf, asserts}
 use Rattle.runs.specs.Summary.{Mark, may-pre, must-pre, may-post, must-post, may-inc, must-inc, may-clobber}

@@ -5,7 +5,8 @@ use mathlib.Core.Option.{Option, none, some}
 use mathlib.Core.List.{List, [], _∷_}
 use Prim.Native.Nat.{ℕ, zero, suc}
 use lib.Dec.{eqb, ltb}
-use Rattle.runs.specs.Tests.{both, either, negate, anyBelow, anyIn, isSome}
+use Rattle.runs.specs.Tests.{both, negate, isSome}
+use Rattle.runs.specs.Searches.{either, anyBelow, anyIn}
 use Rattle.runs.specs.Plan.{task, optional, inc, post, Plan}
 use Rattle.runs.specs.Execution.{Status, waiting, running, done, Status-discrete, State, Event, start, finish}
 use Rattle.runs.specs.Execution.{skip, nodeOf, preOf, asserts}
@@ -113,9 +114,9 @@ unfoldable pub firstOf : (Refusal → Bool) → List Refusal → Option Refusal
 firstOf g [] = none
 firstOf g (q ∷ l) = orElse (g q) q (λ u. firstOf g l)
 
-abbrev pub code : Option Refusal → ℕ
-code none = 0
-code (some r) = number r
+abbrev pub refusalNumber : Option Refusal → ℕ
+refusalNumber none = 0
+refusalNumber (some r) = number r
 
 abbrev pub settle : Option Refusal → World → World → World
 settle none old new = new
@@ -128,7 +129,7 @@ module _ (whole p : Plan) where
 
   -- what the call returns
   unfoldable pub returned : World → Call → ℕ
-  returned a c = code (refusalOf a c)
+  returned a c = refusalNumber (refusalOf a c)
 
   -- the states after it
   unfoldable pub step : World → Call → World

@@ -2,7 +2,8 @@
 use mathlib.Core.Bool.{Bool, true, false, decide}
 use Prim.Native.Nat.{ℕ, zero, suc}
 use lib.Dec.{eqb, ltb}
-use Rattle.runs.specs.Tests.{both, either, implies, negate, anyBelow, allBelow}
+use Rattle.runs.specs.Tests.{both, implies, negate, allBelow}
+use Rattle.runs.specs.Searches.{either, anyBelow}
 use Rattle.runs.specs.Plan.{Kind, task, all-of, any-of, optional, Kind-discrete, Plan}
 
 unfoldable pub kindB : Kind → Kind → Bool

@@ -1,7 +1,8 @@
 -- The verdict as a function that computes. Definitions only.
 use mathlib.Core.Bool.{Bool, true, false, not}
 use Prim.Native.Nat.{ℕ}
-use Rattle.runs.specs.Tests.{both, either, anyBelow, sameB}
+use Rattle.runs.specs.Tests.{both, sameB}
+use Rattle.runs.specs.Searches.{either, anyBelow}
 use Rattle.runs.specs.Plan.{Plan}
 use Rattle.runs.specs.Summary.{Mark, may-pre, must-pre, may-clobber, must-clobber}
 use Rattle.runs.specs.Verdict.{Verdict, CLEAR, DOOMED, OPEN}

@@ -10,7 +10,6 @@ use Rattle.plan_check.proofs.Accepted.{Clean, clean}
 use Rattle.plan_blocked.proofs.Refused.{plan-accepted}
 use Rattle.summary.specs.Summary.{summaryByte}
 use Rattle.summary.proofs.Bytes.{Accepted, accepted, byte-is, summary-refused, summary-written}
-use borrow.Author.Needs.{needs}
 use Rattle.summary.proofs.summary.Statement.{statement}
 use Rattle.summary.proofs.summary.Tie as tie
 

@@ -69,7 +69,7 @@ use denote.Exit.{yes}
 use Rattle.base.specs.Zeros.{Zeros}
 use Rattle.plan_rules.specs.Rules.{refusal}
 use Rattle.plan_check.proofs.Accepted.{Clean, clean}
-use Rattle.plan_reader.specs.Items.{itemCount, itemOf, moved}
+use Rattle.plan_reader.specs.Items.{itemCount, itemOf, advanced}
 use Rattle.plan_reader.specs.declared.Reader.{Reader}
 use Rattle.plan_reader.specs.declared.items.Item.{Item}
 use Rattle.plan_reader.proofs.Reader as T
@@ -465,8 +465,8 @@ module _ {M : Type 1} (𝓤 : URA M) (H : Heap 𝓤) (A : Atoms 𝓤) (W : Given
           (id⊢ 𝓤 _) $ await ! tt $ pick ! (λ r.
           split ! $ move ! (1 ∷ []) $ use1 W
           (some (λ (zs : Reader × Unit {0}). ‵ (lasts next.ended (ν ∷ κ, (κ, tt)) (x i l₆ δ, tt) zs) ⊛ raw
-          (fact 𝓤 ((r ≡ found i) × (zs .0 ≡ moved (rd i)))))) (id⊢ 𝓤 _) $ pick ! (λ zs.
-          split ! $ move ! (1 ∷ []) $ heard ! ((r ≡ found i) × (zs .0 ≡ moved (rd i)))
+          (fact 𝓤 ((r ≡ found i) × (zs .0 ≡ advanced (rd i)))))) (id⊢ 𝓤 _) $ pick ! (λ zs.
+          split ! $ move ! (1 ∷ []) $ heard ! ((r ≡ found i) × (zs .0 ≡ advanced (rd i)))
           (λ f. fsplit ! $ move ! (2 ∷ []) $ split ! $ move ! (1 ∷ []) $
           -- [the item; the tokens; the last value; …; the way back; the lender's part; what s owns; the tables; their
           -- tokens; _15; …; _14; …]

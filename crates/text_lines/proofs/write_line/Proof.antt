@@ -4,7 +4,7 @@ use Prim.Native.Nat.{ℕ}
 use lib.ListN.{length}
 use Rattle.plan_check.proofs.Accepted.{clean}
 use Rattle.text_decimals.proofs.Written.{wrote-long, wrote-then, wrote-same}
-use Rattle.text_lines.specs.Lines.{ending}
+use Rattle.text_lines.specs.Model.{ending}
 use Rattle.text_lines.proofs.Text.{name-length, line-length, line-limit, line-is}
 use native.Mathlib.Omega.{arith}
 use borrow.Author.Needs.{needs}

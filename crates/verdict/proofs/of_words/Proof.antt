@@ -1,7 +1,6 @@
 -- `of_words` meets its contract. Assumes nothing.
 use native.Mathlib.Omega.{arith}
 use borrow.Author.Needs.{needs}
-use Rattle.runs.specs.Plan.{Plan, WellFormed}
 use Rattle.verdict.proofs.Judging.{judged-clear, judged-doomed, judged-open}
 use Rattle.verdict.proofs.of_words.Statement.{statement}
 use Rattle.verdict.proofs.of_words.Tie as tie

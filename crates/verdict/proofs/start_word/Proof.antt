@@ -5,7 +5,7 @@ use Prim.Native.Nat.{ℕ, _-_, _≤_, _<_}
 use native.Mathlib.Omega.{arith}
 use lib.Bits.{bitOr}
 use denote.Ref.{now}
-use Rattle.base.specs.Bits.{Says}
+use Rattle.base.specs.Words.{Says}
 use Rattle.base.proofs.Bits.{one-shl}
 use Rattle.plan_format.specs.Format.{flagCount}
 use Rattle.plan_check.proofs.Accepted.{clean}

@@ -18,7 +18,7 @@ use Rattle.tables.proofs.Turns.{at-segment, first-turn, position-small, kid-lat
 use Rattle.tables.proofs.Turns.{last-turn}
 use Rattle.wait_group.specs.Spread.{GroupOf}
 use Rattle.wait_group.proofs.Children.{at-group}
-use Rattle.wait_tree.specs.Filled.{ChildrenTo}
+use Rattle.wait_tree.specs.Filled.{LengthsTo}
 use Rattle.wait_tree.proofs.Groups.{children-none, child-more, task-worked, all-group}
 use Rattle.wait_tree.proofs.Groups.{any-group, child-lengths, all-worked, any-worked}
 use borrow.Fn.Kinds.{In}
@@ -76,8 +76,8 @@ small o = let a = at-group o in omega (arith, a .shaped .small, a .below)
 
 -- all children
 ended : {b kids lengths₀ waits₀ lengths waits : List ℕ} {segment s : Segment} {i : ℕ} → segment ≡ s → i ≡ segment .end
-    → ChildrenTo b kids segment lengths₀ waits₀ lengths waits i
-    → ChildrenTo b kids s lengths₀ waits₀ lengths waits (s .end)
+    → LengthsTo b kids segment lengths₀ waits₀ lengths waits i
+    → LengthsTo b kids s lengths₀ waits₀ lengths waits (s .end)
 ended e f x = rw (f, e) at x
 
 module _ (t : ℕ) where
@@ -148,7 +148,7 @@ module _ (t : ℕ) where
   -- ---- what is under a group
   abbrev Inv : groups-under-lts.InvT-loop
   Inv plan from kids lengths₀ waits₀ node segment i₀ lengths waits i = Reached segment i
-      × ChildrenTo plan kids segment lengths₀ waits₀ lengths waits i
+      × LengthsTo plan kids segment lengths₀ waits₀ lengths waits i
 
   abbrev μ : groups-under-lts.MeasureT-loop
   μ plan from kids lengths₀ waits₀ node segment i₀ lengths waits i = segment .end - i

@@ -51,7 +51,7 @@ use denote.Triple.Table.{entered, cited}
 use denote.Triple.Clauses.{ensured, lasts}
 use denote.Triple.Walked.{says, needs, Stays, stay-ref, walkOf, goes-ref, Walks, ends-at, walked, walk-meets}
 use Rattle.plan_format.specs.Whole.{Whole}
-use Rattle.plan_reader.specs.Items.{itemCount, itemOf, moved}
+use Rattle.plan_reader.specs.Items.{itemCount, itemOf, advanced}
 use Rattle.plan_reader.specs.declared.Reader.{Reader}
 use Rattle.plan_reader.specs.declared.items.Item.{Item}
 use Rattle.plan_reader.proofs.Reader as T
@@ -101,7 +101,7 @@ module _ {M : Type 1} (𝓤 : URA M) (H : Heap 𝓤) (A : Atoms 𝓤) (W : Given
   at = (vptr b o ∷ [], tt)
 
   abbrev h′ : Reader
-  h′ = moved h
+  h′ = advanced h
 
   abbrev found : Item
   found = itemOf (now (h .plan)) (h .at)

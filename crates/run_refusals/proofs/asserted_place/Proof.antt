@@ -1,6 +1,6 @@
--- `place_of` meets its contract. Assumes nothing.
-use Rattle.run_refusals.proofs.place_of.Statement.{statement}
-use Rattle.run_refusals.proofs.place_of.Tie as tie
+-- `asserted_place` meets its contract. Assumes nothing.
+use Rattle.run_refusals.proofs.asserted_place.Statement.{statement}
+use Rattle.run_refusals.proofs.asserted_place.Tie as tie
 
 pub place-of-spec : {M : Type 1} → statement M
 place-of-spec = tie.close (tie.spec (λ c. c .match .keys1) (λ c. c .match .keys2) (λ c. rw (c .enum-told .given .1))
