@@ -8,6 +8,7 @@ use plan_check::check;
 use plan_format::fields::is_kind;
 use plan_format::fields::nodes;
 use plan_format::fields::parent;
+use tables::Nodes;
 use tables::no_nodes;
 ghost use mathlib.Core.Path.{_≡_};
 ghost use mathlib.Core.Bool.{false};
@@ -65,7 +66,7 @@ fn list_bad(plan: &[u8], list: &[usize]) -> bool
 
 // Leaves the marks of the nodes that stand: a child does if it is not blocked and its parent stands. Hands over those of
 // the groups that have a child that stands.
-fn mark_standing(plan: &[u8], blocked: &[u8; 128], standing: &mut [u8; 128]) -> [u8; 128]
+fn mark_standing(plan: &[u8], blocked: &Nodes, standing: &mut Nodes) -> Nodes
     requires { ⌜ (refusal (now plan) ≡ 0) × ((marked (now blocked) 0 ≡ false) × AllMarked (now standing)) ⌝ }
     ensures { λ r. ⌜ Standing (now (plan .entry)) (marked (now (blocked .entry))) (now (standing .exit))
         × WithBranch (now (plan .entry)) (marked (now (blocked .entry))) r ⌝ }
@@ -86,7 +87,7 @@ fn mark_standing(plan: &[u8], blocked: &[u8; 128], standing: &mut [u8; 128]) -> 
 }
 
 // The parent of node s is an any-of group that stands and has no branch left.
-fn emptied(plan: &[u8], standing: &[u8; 128], marks: &[u8; 128], s: usize) -> bool
+fn emptied(plan: &[u8], standing: &Nodes, marks: &Nodes, s: usize) -> bool
     requires { ⌜ (refusal (now plan) ≡ 0) × ((0 < s) × (s < nodeCount (now plan))) ⌝ }
     ensures { λ r. ⌜ r ≡ emptiedAt (now (plan .entry)) (now (standing .entry)) (now (marks .entry)) s ⌝ }
 {
@@ -95,7 +96,7 @@ fn emptied(plan: &[u8], standing: &[u8; 128], marks: &[u8; 128], s: usize) -> bo
 }
 
 // 29: some group has lost all its branches. Only the parents of blocked nodes need be asked.
-fn branchless(plan: &[u8], list: &[usize], standing: &[u8; 128], marks: &[u8; 128]) -> bool
+fn branchless(plan: &[u8], list: &[usize], standing: &Nodes, marks: &Nodes) -> bool
     requires { ⌜ (refusal (now plan) ≡ 0) × Each (now list) (λ s. (0 < s) × (s < nodeCount (now plan))) ⌝ }
     ensures { λ r. ⌜ r ≡ anyIn (now (list .entry))
         (emptiedAt (now (plan .entry)) (now (standing .entry)) (now (marks .entry))) ⌝ }
@@ -112,7 +113,7 @@ fn branchless(plan: &[u8], list: &[usize], standing: &[u8; 128], marks: &[u8; 12
 }
 
 // Refusals 28 and 29, or 0, and then of the marks those of the nodes that stand. With nothing blocked all do.
-fn check_list(plan: &[u8], list: &[usize], standing: &mut [u8; 128]) -> u32
+fn check_list(plan: &[u8], list: &[usize], standing: &mut Nodes) -> u32
     requires { ⌜ (refusal (now plan) ≡ 0) × AllMarked (now standing) ⌝ }
     ensures { λ r. ⌜ ListChecked (now (plan .entry)) (now (list .entry)) r (now (standing .exit)) ⌝ }
 {
@@ -131,7 +132,7 @@ fn check_list(plan: &[u8], list: &[usize], standing: &mut [u8; 128]) -> u32
 }
 
 // Refusals 1 to 14, 28 and 29, or 0, and then of the marks those of the nodes that stand.
-pub fn check_blocked(plan: &[u8], list: &[usize], standing: &mut [u8; 128]) -> u32
+pub fn check_blocked(plan: &[u8], list: &[usize], standing: &mut Nodes) -> u32
     requires { ⌜ AllMarked (now standing) ⌝ }
     ensures { λ r. ⌜ ListChecked (now (plan .entry)) (now (list .entry)) r (now (standing .exit)) ⌝ }
 {

@@ -10,6 +10,7 @@ use plan_format::fields::condition_node;
 use plan_format::fields::condition_value;
 use plan_format::fields::conditions;
 use run_flags::Flags;
+use tables::Nodes;
 ghost use mathlib.Core.Path.{_≡_};
 ghost use mathlib.Core.Bool.{not, true, false};
 ghost use Prim.Native.Nat.{_+_, _<_};
@@ -35,7 +36,7 @@ fn is_at(plan: &[u8], place: u16, i: usize) -> bool
 }
 
 // Condition i is of a marked task, at the place.
-fn is_of(plan: &[u8], place: u16, tasks: &[u8; 128], i: usize) -> bool
+fn is_of(plan: &[u8], place: u16, tasks: &Nodes, i: usize) -> bool
     requires { ⌜ (i < condCount (now plan)) × (refusal (now plan) ≡ 0) ⌝ }
     ensures { λ r. ⌜ r ≡ isOf (now (plan .entry)) place (marked (now (tasks .entry))) i ⌝ }
 {
@@ -64,7 +65,7 @@ fn set_at(plan: &[u8], i: usize) -> bool
 
 // The flags with the literals of the marked tasks at the place made true: inconditions at a start, postconditions at
 // finishes.
-pub fn with_literals(plan: &[u8], place: u16, tasks: &[u8; 128], flags: Flags) -> Flags
+pub fn with_literals(plan: &[u8], place: u16, tasks: &Nodes, flags: Flags) -> Flags
     requires { ⌜ refusal (now plan) ≡ 0 ⌝ }
     ensures { λ r. ⌜ r .bytes ≡ made (now (plan .entry)) place (marked (now (tasks .entry))) (flags .bytes) ⌝ }
 {
@@ -86,7 +87,7 @@ fn differs(sign: bool, value: bool) -> bool
 }
 
 // Condition i is of a marked task, at the place, and the flags do not meet it.
-fn unmet_at(plan: &[u8], place: u16, tasks: &[u8; 128], flags: Flags, i: usize) -> bool
+fn unmet_at(plan: &[u8], place: u16, tasks: &Nodes, flags: Flags, i: usize) -> bool
     requires { ⌜ (i < condCount (now plan)) × (refusal (now plan) ≡ 0) ⌝ }
     ensures { λ r. ⌜ r ≡ unmetAt (now (plan .entry)) place (marked (now (tasks .entry))) (flags .bytes) i ⌝ }
 {
@@ -98,7 +99,7 @@ fn unmet_at(plan: &[u8], place: u16, tasks: &[u8; 128], flags: Flags, i: usize) 
 
 // The flags do not meet some condition of a marked task at the place: 21 for the preconditions before a start, 26 for
 // the postconditions after several finishes.
-pub fn unmet(plan: &[u8], place: u16, tasks: &[u8; 128], flags: Flags) -> bool
+pub fn unmet(plan: &[u8], place: u16, tasks: &Nodes, flags: Flags) -> bool
     requires { ⌜ refusal (now plan) ≡ 0 ⌝ }
     ensures { λ r. ⌜ r ≡ anyBelow (condCount (now (plan .entry)))
         (unmetAt (now (plan .entry)) place (marked (now (tasks .entry))) (flags .bytes)) ⌝ }
@@ -116,14 +117,7 @@ pub fn unmet(plan: &[u8], place: u16, tasks: &[u8; 128], flags: Flags) -> bool
 
 // Condition i is an incondition of a running task that is not marked, and its flag is turned: `clear` and `set` are all
 // clear and all set flags after the event.
-fn broken_at(
-    plan: &[u8],
-    state: &[u8],
-    clear: Flags,
-    set: Flags,
-    tasks: &[u8; 128],
-    i: usize,
-) -> bool
+fn broken_at(plan: &[u8], state: &[u8], clear: Flags, set: Flags, tasks: &Nodes, i: usize) -> bool
     requires { ⌜ (i < condCount (now plan)) × (stateRefusal (now plan) (now state) ≡ 0) ⌝ }
     ensures { λ r. ⌜ r ≡ brokenAt (now (plan .entry)) (now (state .entry)) (clear .bytes) (set .bytes)
         (marked (now (tasks .entry))) i ⌝ }
@@ -136,7 +130,7 @@ fn broken_at(
 }
 
 // 22: making the literals of the marked tasks at the place true breaks an incondition of another running task.
-pub fn inc_broken(plan: &[u8], state: &[u8], place: u16, tasks: &[u8; 128]) -> bool
+pub fn inc_broken(plan: &[u8], state: &[u8], place: u16, tasks: &Nodes) -> bool
     requires { ⌜ stateRefusal (now plan) (now state) ≡ 0 ⌝ }
     ensures { λ r. ⌜ r ≡ anyBelow (condCount (now (plan .entry)))
         (brokenAt (now (plan .entry)) (now (state .entry))

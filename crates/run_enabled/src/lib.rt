@@ -10,6 +10,7 @@ use plan_format::fields::orders;
 use plan_format::fields::parent;
 use run_progress::is_begun;
 use run_progress::is_complete;
+use tables::Nodes;
 use tables::no_nodes;
 ghost use mathlib.Core.Path.{_≡_};
 ghost use Prim.Native.Nat.{ℕ, _<_};
@@ -26,10 +27,11 @@ ghost use Rattle.base.specs.Count.{num};
 ghost use Rattle.run_progress.specs.Progress.{Counted};
 ghost use Rattle.run_progress.specs.declared.Tally.the-variants.{Begun, Ends};
 ghost use Rattle.run_enabled.specs.Enabling.{rivalAt, openAt};
+ghost use Rattle.tables.specs.Sizes.{NODES};
 
 // The parent g of node n is an any-of or optional group, and another branch of it than n is begun; a skip begins the
 // one without tasks.
-fn rival_begun(plan: &[u8], state: &[u8], begun: &[u8; 128], g: usize, n: usize) -> bool
+fn rival_begun(plan: &[u8], state: &[u8], begun: &Nodes, g: usize, n: usize) -> bool
     requires { ⌜ (0 < n) × ((n < nodeCount (now plan))
         × ((g ≡ parentOf (now plan) n) × (stateRefusal (now plan) (now state) ≡ 0))) ⌝ }
     requires { ⌜ Counted Begun (now plan) (now state) (now begun) ⌝ }
@@ -48,7 +50,7 @@ fn rival_begun(plan: &[u8], state: &[u8], begun: &[u8; 128], g: usize, n: usize)
 }
 
 // 19: walks up from the node.
-pub fn branch_begun(plan: &[u8], state: &[u8], begun: &[u8; 128], node: usize) -> bool
+pub fn branch_begun(plan: &[u8], state: &[u8], begun: &Nodes, node: usize) -> bool
     requires { ⌜ AtEvent (now plan) (now state) node ⌝ }
     requires { ⌜ Counted Begun (now plan) (now state) (now begun) ⌝ }
     ensures { λ r. ⌜ r ≡ branchBegunB (planOf (now (plan .entry)))
@@ -66,9 +68,9 @@ pub fn branch_begun(plan: &[u8], state: &[u8], begun: &[u8; 128], node: usize) -
 }
 
 // A mark at each node above the node, and at itself.
-pub fn path(plan: &[u8], node: usize) -> [u8; 128]
+pub fn path(plan: &[u8], node: usize) -> Nodes
     requires { ⌜ (node < nodeCount (now plan)) × (refusal (now plan) ≡ 0) ⌝ }
-    ensures { λ r. ⌜ (length r ≡ 128) × ((a : ℕ) → a < 128
+    ensures { λ r. ⌜ (length r ≡ NODES) × ((a : ℕ) → a < NODES
         → getD r a 0 ≡ num (underB (planOf (now (plan .entry))) a node)) ⌝ }
 {
     let mut marks = no_nodes();
@@ -82,7 +84,7 @@ pub fn path(plan: &[u8], node: usize) -> [u8; 128]
 }
 
 // Order j applies to a node whose path is marked, and its earlier node is not complete.
-fn open_at(plan: &[u8], state: &[u8], ends: &[u8; 128], marks: &[u8; 128], j: usize) -> bool
+fn open_at(plan: &[u8], state: &[u8], ends: &Nodes, marks: &Nodes, j: usize) -> bool
     requires { ⌜ (j < orderCount (now plan)) × (stateRefusal (now plan) (now state) ≡ 0) ⌝ }
     requires { ⌜ Counted Ends (now plan) (now state) (now ends) ⌝ }
     ensures { λ r. ⌜ r ≡ openAt (now (plan .entry)) (now (state .entry)) (now (marks .entry)) j ⌝ }
@@ -93,7 +95,7 @@ fn open_at(plan: &[u8], state: &[u8], ends: &[u8; 128], marks: &[u8; 128], j: us
 }
 
 // 20: some order is open.
-pub fn order_open(plan: &[u8], state: &[u8], ends: &[u8; 128], marks: &[u8; 128]) -> bool
+pub fn order_open(plan: &[u8], state: &[u8], ends: &Nodes, marks: &Nodes) -> bool
     requires { ⌜ stateRefusal (now plan) (now state) ≡ 0 ⌝ }
     requires { ⌜ Counted Ends (now plan) (now state) (now ends) ⌝ }
     ensures { λ r. ⌜ r ≡ anyBelow (orderCount (now (plan .entry)))

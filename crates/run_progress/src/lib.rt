@@ -7,6 +7,7 @@ use base::wide;
 use plan_format::fields::is_kind;
 use plan_format::fields::nodes;
 use plan_format::fields::parent;
+use tables::Nodes;
 use tables::no_nodes;
 ghost use mathlib.Core.Path.{_≡_};
 ghost use Prim.Native.Nat.{_<_};
@@ -17,6 +18,7 @@ ghost use Rattle.runs.specs.Model.Monitor.{completeB, begunB};
 ghost use Rattle.run_state.specs.State.{statusIn};
 ghost use Rattle.run_state.specs.Inner.{stateRefusal};
 ghost use Rattle.run_progress.specs.Progress.{countedAt, childrenCounted, Counted};
+ghost use Rattle.tables.specs.Sizes.{NODES};
 
 // Which children of a group are counted: those that are begun; or, for an all-of group those that are not complete, for
 // another the complete ones.
@@ -26,7 +28,7 @@ pub enum Tally {
 }
 
 // A byte that says done: a task is done, an optional group skipped; that of another group is 0. A task has no children.
-pub fn is_complete(plan: &[u8], state: &[u8], ends: &[u8; 128], n: usize) -> bool
+pub fn is_complete(plan: &[u8], state: &[u8], ends: &Nodes, n: usize) -> bool
     requires { ⌜ (n < nodeCount (now plan))
         × ((stateRefusal (now plan) (now state) ≡ 0)
         × (getD (now ends) n 0 ≡ childrenCounted Tally.Ends (now plan) (now state) n)) ⌝ }
@@ -39,7 +41,7 @@ pub fn is_complete(plan: &[u8], state: &[u8], ends: &[u8; 128], n: usize) -> boo
     (ends[n] != 0) | (state[8 + n] == DONE)
 }
 
-pub fn is_begun(plan: &[u8], state: &[u8], begun: &[u8; 128], n: usize) -> bool
+pub fn is_begun(plan: &[u8], state: &[u8], begun: &Nodes, n: usize) -> bool
     requires { ⌜ (n < nodeCount (now plan))
         × ((stateRefusal (now plan) (now state) ≡ 0)
         × (getD (now begun) n 0 ≡ childrenCounted Tally.Begun (now plan) (now state) n)) ⌝ }
@@ -49,14 +51,7 @@ pub fn is_begun(plan: &[u8], state: &[u8], begun: &[u8; 128], n: usize) -> bool
 }
 
 // Node n is counted at its parent g.
-fn is_counted(
-    plan: &[u8],
-    state: &[u8],
-    tally: Tally,
-    table: &[u8; 128],
-    g: usize,
-    n: usize,
-) -> bool
+fn is_counted(plan: &[u8], state: &[u8], tally: Tally, table: &Nodes, g: usize, n: usize) -> bool
     requires { ⌜ (n < nodeCount (now plan))
         × ((stateRefusal (now plan) (now state) ≡ 0)
         × (getD (now table) n 0 ≡ childrenCounted tally (now plan) (now state) n)) ⌝ }
@@ -76,9 +71,9 @@ fn is_counted(
 }
 
 // The number of counted children of each node.
-pub fn children(plan: &[u8], state: &[u8], tally: Tally) -> [u8; 128]
+pub fn children(plan: &[u8], state: &[u8], tally: Tally) -> Nodes
     requires { ⌜ stateRefusal (now plan) (now state) ≡ 0 ⌝ }
-    ensures { λ r. ⌜ (length r ≡ 128) × Counted tally (now (plan .entry)) (now (state .entry)) r ⌝ }
+    ensures { λ r. ⌜ (length r ≡ NODES) × Counted tally (now (plan .entry)) (now (state .entry)) r ⌝ }
 {
     let n = nodes(plan);
     let mut table = no_nodes();

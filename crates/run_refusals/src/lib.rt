@@ -23,6 +23,7 @@ use run_progress::is_begun;
 use run_tasks::no_task;
 use run_tasks::not_rising;
 use run_tasks::not_running;
+use tables::Nodes;
 ghost use mathlib.Core.Path.{_≡_};
 ghost use Rattle.runs.specs.Plan.{placeNumber};
 ghost use Rattle.runs.specs.Execution as execution;
@@ -61,13 +62,7 @@ fn asked(m: Move) -> u8
 }
 
 // Refusals 19 and 20, or 0; 19 also tells a node that does not stand.
-fn tree_refused(
-    plan: &[u8],
-    state: &[u8],
-    standing: &[u8; 128],
-    begun: &[u8; 128],
-    node: usize,
-) -> u32
+fn tree_refused(plan: &[u8], state: &[u8], standing: &Nodes, begun: &Nodes, node: usize) -> u32
     requires { ⌜ AtEvent (now plan) (now state) node ⌝ }
     requires { ⌜ Counted Begun (now plan) (now state) (now begun) ⌝ }
     ensures { λ r. ⌜ r ≡ treeRefusal (now (plan .entry)) (now (state .entry)) node
@@ -88,7 +83,7 @@ fn tree_refused(
 }
 
 // Refusals 19 to 21 of a start, or 0.
-fn start_refused(plan: &[u8], state: &[u8], standing: &[u8; 128], task: usize) -> u32
+fn start_refused(plan: &[u8], state: &[u8], standing: &Nodes, task: usize) -> u32
     requires { ⌜ AtEvent (now plan) (now state) task ⌝ }
     ensures { λ r. ⌜ r ≡ beginRefusal (now (plan .entry)) (now (state .entry)) (execution.start task)
         (marked (now (standing .entry)) task) ⌝ }
@@ -107,7 +102,7 @@ fn start_refused(plan: &[u8], state: &[u8], standing: &[u8; 128], task: usize) -
 }
 
 // Refusals 19 to 21, which are asked of a start only, or 0.
-fn begin_refused(plan: &[u8], state: &[u8], standing: &[u8; 128], m: Move, task: usize) -> u32
+fn begin_refused(plan: &[u8], state: &[u8], standing: &Nodes, m: Move, task: usize) -> u32
     requires { ⌜ AtEvent (now plan) (now state) task ⌝ }
     ensures { λ r. ⌜ r ≡ beginRefusal (now (plan .entry)) (now (state .entry)) (eventOf m task)
         (marked (now (standing .entry)) task) ⌝ }
@@ -119,7 +114,7 @@ fn begin_refused(plan: &[u8], state: &[u8], standing: &[u8; 128], m: Move, task:
 }
 
 // Refusals 17 to 22 of a move, or 0.
-pub fn refused(plan: &[u8], state: &[u8], standing: &[u8; 128], m: Move, task: usize) -> u32
+pub fn refused(plan: &[u8], state: &[u8], standing: &Nodes, m: Move, task: usize) -> u32
     requires { ⌜ stateRefusal (now plan) (now state) ≡ 0 ⌝ }
     ensures { λ r. ⌜ RefusesEvent (now (plan .entry)) (now (state .entry)) (now (standing .entry)) (eventOf m task) r ⌝ }
 {
@@ -141,7 +136,7 @@ pub fn refused(plan: &[u8], state: &[u8], standing: &[u8; 128], m: Move, task: u
 }
 
 // Refusals 27 and 18 to 20 of a skip, or 0.
-pub fn skip_refused(plan: &[u8], state: &[u8], standing: &[u8; 128], group: usize) -> u32
+pub fn skip_refused(plan: &[u8], state: &[u8], standing: &Nodes, group: usize) -> u32
     requires { ⌜ stateRefusal (now plan) (now state) ≡ 0 ⌝ }
     ensures { λ r. ⌜ RefusesEvent (now (plan .entry)) (now (state .entry)) (now (standing .entry))
         (execution.skip group) r ⌝ }

@@ -5,6 +5,7 @@ use base::statuses::WAITING;
 use plan_format::fields::is_kind;
 use plan_format::fields::nodes;
 use plan_format::fields::u16_at;
+use tables::STARTS;
 use tables::no_starts;
 ghost use mathlib.Core.Path.{_≡_};
 ghost use Prim.Native.Nat.{ℕ, _<_};
@@ -14,6 +15,7 @@ ghost use Rattle.plan_format.specs.Whole.{Whole};
 ghost use Rattle.run_starts.specs.Starts.{ordinalAt, ordinalIn, startedIn, startedCount, strayOrdinal};
 ghost use Rattle.run_starts.specs.Inner.{StateFits};
 ghost use Rattle.run_starts.specs.Starts.{holders, misnumbered, withOrdinal};
+ghost use Rattle.tables.specs.Sizes.{STARTS};
 
 // Where the ordinal of node n stands.
 fn ordinal_at(plan: &[u8], n: usize) -> usize
@@ -63,10 +65,13 @@ pub fn started(plan: &[u8], state: &[u8]) -> usize
     m
 }
 
-// For each k up to 128, how many started tasks have the ordinal k.
-fn holders(plan: &[u8], state: &[u8]) -> [u8; 129]
+// A count for each ordinal, from 0 to that of the last start.
+type Counts = [u8; STARTS];
+
+// How many started tasks have each ordinal.
+fn holders(plan: &[u8], state: &[u8]) -> Counts
     requires { ⌜ StateFits (now plan) (now state) ⌝ }
-    ensures { λ r. ⌜ (length r ≡ 129) × ((k : ℕ) → k < 129
+    ensures { λ r. ⌜ (length r ≡ STARTS) × ((k : ℕ) → k < STARTS
         → getD r k 0 ≡ holders (now (plan .entry)) (now (state .entry)) k) ⌝ }
 {
     let n = nodes(plan);
@@ -74,7 +79,7 @@ fn holders(plan: &[u8], state: &[u8]) -> [u8; 129]
     let mut i = 0;
     while i < n {
         let k = ordinal(plan, state, i);
-        if is_started(plan, state, i) & (k < 129) {
+        if is_started(plan, state, i) & (k < STARTS) {
             table[k] += 1;
         }
         i += 1;

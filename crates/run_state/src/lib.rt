@@ -11,6 +11,7 @@ use plan_format::fields::nodes;
 use run_flags::load;
 use run_starts::is_stray;
 use run_starts::ordinals_bad;
+use tables::Nodes;
 ghost use mathlib.Core.Path.{_≡_};
 ghost use Prim.Native.Nat.{_+_, _<_, _≤_};
 ghost use lib.ListN.{length};
@@ -40,7 +41,7 @@ fn flags_bad(plan: &[u8], state: &[u8]) -> bool
 }
 
 // The byte of node n is none that it may have: one that does not stand waits.
-fn byte_bad(plan: &[u8], state: &[u8], standing: &[u8; 128], n: usize) -> bool
+fn byte_bad(plan: &[u8], state: &[u8], standing: &Nodes, n: usize) -> bool
     requires { ⌜ (n < nodeCount (now plan)) × StateFits (now plan) (now state) ⌝ }
     ensures { λ r. ⌜ r ≡ badByteIn (now (plan .entry)) (now (standing .entry)) (now (state .entry)) n ⌝ }
 {
@@ -58,14 +59,14 @@ fn byte_bad(plan: &[u8], state: &[u8], standing: &[u8; 128], n: usize) -> bool
 }
 
 // The byte of node n is bad, or it has an ordinal and has not been started.
-fn node_bad(plan: &[u8], state: &[u8], standing: &[u8; 128], n: usize) -> bool
+fn node_bad(plan: &[u8], state: &[u8], standing: &Nodes, n: usize) -> bool
     requires { ⌜ (n < nodeCount (now plan)) × StateFits (now plan) (now state) ⌝ }
     ensures { λ r. ⌜ r ≡ badNodeIn (now (plan .entry)) (now (standing .entry)) (now (state .entry)) n ⌝ }
 {
     byte_bad(plan, state, standing, n) | is_stray(plan, state, n)
 }
 
-fn nodes_bad(plan: &[u8], state: &[u8], standing: &[u8; 128]) -> bool
+fn nodes_bad(plan: &[u8], state: &[u8], standing: &Nodes) -> bool
     requires { ⌜ StateFits (now plan) (now state) ⌝ }
     ensures { λ r. ⌜ r ≡ anyBelow (nodeCount (now (plan .entry)))
         (badNodeIn (now (plan .entry)) (now (standing .entry)) (now (state .entry))) ⌝ }
@@ -82,7 +83,7 @@ fn nodes_bad(plan: &[u8], state: &[u8], standing: &[u8; 128]) -> bool
 }
 
 // Refusals 1 to 14, 28, 29 and 15, or 0, and then of the marks those of the nodes that stand.
-fn check_room(plan: &[u8], blocked: &[usize], state: &[u8], standing: &mut [u8; 128]) -> u32
+fn check_room(plan: &[u8], blocked: &[usize], state: &[u8], standing: &mut Nodes) -> u32
     requires { ⌜ AllMarked (now standing) ⌝ }
     ensures { λ r. ⌜ StateChecked (now (plan .entry)) (now (blocked .entry))
         (roomRefusalUnder (now (plan .entry)) (now (blocked .entry)) (now (state .entry))) r (now (standing .exit)) ⌝ }
@@ -98,7 +99,7 @@ fn check_room(plan: &[u8], blocked: &[usize], state: &[u8], standing: &mut [u8; 
 }
 
 // Refusals up to 16, or 0, and then of the marks those of the nodes that stand.
-pub fn check_state(plan: &[u8], blocked: &[usize], state: &[u8], standing: &mut [u8; 128]) -> u32
+pub fn check_state(plan: &[u8], blocked: &[usize], state: &[u8], standing: &mut Nodes) -> u32
     requires { ⌜ AllMarked (now standing) ⌝ }
     ensures { λ r. ⌜ StateChecked (now (plan .entry)) (now (blocked .entry))
         (stateRefusalUnder (now (plan .entry)) (now (blocked .entry)) (now (state .entry))) r (now (standing .exit)) ⌝ }

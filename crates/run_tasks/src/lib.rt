@@ -14,6 +14,7 @@ ghost use Rattle.runs.specs.Searches.{anyIn};
 ghost use Rattle.runs.specs.Model.Monitor.{notRisingB};
 ghost use Rattle.run_starts.specs.Starts.{nodeByte};
 ghost use Rattle.node_sets.specs.Sets.{Each};
+ghost use Rattle.tables.specs.Sizes.{NODES};
 
 // 25: the list is empty or does not strictly rise.
 pub fn not_rising(tasks: &[usize]) -> bool
@@ -44,7 +45,7 @@ pub fn no_task(plan: &[u8], tasks: &[usize]) -> bool
 
 // 18: some task is not running.
 pub fn not_running(state: &[u8], tasks: &[usize]) -> bool
-    requires { ⌜ Each (now tasks) (λ t. (t < 128) × (8 + t < length (now state))) ⌝ }
+    requires { ⌜ Each (now tasks) (λ t. (t < NODES) × (8 + t < length (now state))) ⌝ }
     ensures { λ r. ⌜ r ≡ anyIn (now (tasks .entry)) (λ t. not (eqb (nodeByte (now (state .entry)) t) 1)) ⌝ }
 {
     let n = tasks.len();
