@@ -6,7 +6,7 @@ use Prim.Native.Nat.{ℕ, suc, _+_, _*_, _≤_, _<_}
 use mathlib.Core.Path.{_≡_}
 use mathlib.Core.Logic.{_≢_, _⊎_, _↔_, inr}
 use mathlib.Core.Bool.{true, false}
-use mathlib.Core.List.{List, [], _∷_, _++_, List·Memᴰ as Among}
+use mathlib.Core.List.{List, [], _∷_, _++_}
 use lib.ListN.{length, getD}
 use Rattle.plan_format.specs.Format.{nodeCount, isKind}
 use Rattle.plan_blocked.specs.Blocked.{planUnder, refusalUnder}
@@ -14,7 +14,7 @@ use Rattle.plan_check.specs.Meaning.{planOf, startOf}
 use Rattle.runs.specs.Execution.{Complete}
 use Rattle.runs.specs.Verdict.{Verdict, CLEAR, DOOMED, Judged}
 use Rattle.runs.specs.Calls.{Call, World, fresh, Answered, Worked, acceptedStarts}
-use Rattle.runs.specs.Violations.{Violation}
+use Rattle.runs.specs.Violations.{NoViolation, Violation}
 use Rattle.run_starts.specs.Starts.{nodeByte, ordinalIn}
 use Rattle.run_state.specs.State.{worldOf, stateRefusalUnder}
 use Rattle.base.specs.Answers.{overlay}
@@ -29,6 +29,10 @@ use Rattle.run_calls.specs.Lists.{Calls, ListMade}
 -- the numbers of a list are bytes
 abbrev pub Bytes : List ℕ → Type 0
 Bytes b = (i : ℕ) → getD b i 0 < 256
+
+-- what 01 works out from the plan and the calls: their returns, and the states after them
+abbrev pub WorkedOut : List ℕ → List ℕ → List Call → List ℕ → World → Type 0
+WorkedOut b xs cs rs a = Worked (planOf b) (planUnder b xs) (fresh (startOf b)) cs rs a
 
 -- the byte of the group g is 0, or, once an optional group is skipped, 2
 abbrev pub GroupByte : List ℕ → List ℕ → ℕ → Type 0
@@ -46,7 +50,7 @@ pub record Shows (b xs s : List ℕ) (a : World) (z : List ℕ) : Type 0 where
 -- out
 pub record Follows (b xs s : List ℕ) (cs : List Call) (rs : List ℕ) (z : List ℕ) : Type 0 where
   pub after : World
-  pub worked : Worked (planOf b) (planUnder b xs) (fresh (startOf b)) cs rs after
+  pub worked : WorkedOut b xs cs rs after
   pub shown : Shows b xs s after z
 
 -- a call c of a list, after the calls cs and before ds: what it returned and the bytes that it left are those that 01
@@ -63,7 +67,7 @@ pub record EachCall (b xs s : List ℕ) (cs : List Call) (c : Call) (ds : List C
   -- the states before and after it
   pub before : World
   pub after : World
-  pub worked : Worked (planOf b) (planUnder b xs) (fresh (startOf b)) cs earlier before
+  pub worked : WorkedOut b xs cs earlier before
   pub answered : Answered (planOf b) (planUnder b xs) before c returned after
   pub shown : Shows b xs s after left
 
@@ -84,12 +88,11 @@ pub record Demand3Of (b xs : List ℕ) : Type 0 where
       → (k : ℕ) → (ordinalIn b z n ≡ suc k)
       ↔ ((k < length (acceptedStarts cs rs)) × (getD (acceptedStarts cs rs) k 0 ≡ n))
   -- what 01 works out is one: of one list of calls no other returns, no other states
-  pub unique : {cs : List Call} {ns ms : List ℕ} {a c : World}
-      → Worked (planOf b) (planUnder b xs) (fresh (startOf b)) cs ns a
-      → Worked (planOf b) (planUnder b xs) (fresh (startOf b)) cs ms c → (ns ≡ ms) × (a ≡ c)
+  pub unique : {cs : List Call} {ns ms : List ℕ} {a c : World} → WorkedOut b xs cs ns a → WorkedOut b xs cs ms c
+      → (ns ≡ ms) × (a ≡ c)
   -- after every list `status` says COMPLETE exactly if the root is complete in the states worked out
   pub complete : (s : List ℕ) (cs : List Call) (rs z : List ℕ) → ListMade b xs s cs rs z → (t : Progress)
-      → Told b xs z t → (a : World) → Worked (planOf b) (planUnder b xs) (fresh (startOf b)) cs rs a
+      → Told b xs z t → (a : World) → WorkedOut b xs cs rs a
       → (status.reported t ≡ inr COMPLETE) ↔ Complete (planUnder b xs) (a .status) 0
   -- the answer is the one that 01 defines
   pub answer : (r : Answer) → Assessed b xs r
@@ -97,9 +100,7 @@ pub record Demand3Of (b xs : List ℕ) : Type 0 where
       × ((u : Verdict) → Judged (planUnder b xs) (startOf b) u → u ≡ v)
   -- it is CLEAR exactly if no call in any list returns 21, 22 or 26
   pub clear : (r : Answer) → Assessed b xs r
-      → (said r ≡ inr CLEAR) ↔ ((s : List ℕ) (cs : List Call) (rs z : List ℕ) → ListMade b xs s cs rs z → (n : ℕ)
-      → Among n rs
-      → (n ≢ 21) × (n ≢ 22) × (n ≢ 26))
+      → (said r ≡ inr CLEAR) ↔ ((s : List ℕ) (cs : List Call) (rs z : List ℕ) → ListMade b xs s cs rs z → NoViolation rs)
   -- if it is not, some list of calls has such a return (02: "a book that is not CLEAR has one"), on any bytes that have
   -- room for a state
   pub violated : (r : Answer) → Assessed b xs r → said r ≢ inr CLEAR → (s : List ℕ) → 8 + 3 * nodeCount b ≤ length s
@@ -107,8 +108,7 @@ pub record Demand3Of (b xs : List ℕ) : Type 0 where
   -- if it is DOOMED, the root is complete after no list: not in the states worked out, and `status` never says so
   pub doomed : (r : Answer) → Assessed b xs r → said r ≡ inr DOOMED
       → (s : List ℕ) (cs : List Call) (rs z : List ℕ) → ListMade b xs s cs rs z
-      → ((a : World) → Worked (planOf b) (planUnder b xs) (fresh (startOf b)) cs rs a
-      → ¬ Complete (planUnder b xs) (a .status) 0)
+      → ((a : World) → WorkedOut b xs cs rs a → ¬ Complete (planUnder b xs) (a .status) 0)
       × ((t : Progress) → Told b xs z t → status.reported t ≢ inr COMPLETE)
 
 -- the whole claim: it holds of every accepted plan with every list of blocked nodes that passes 28 and 29, the empty one
