@@ -10,6 +10,7 @@ use Rattle.runs.specs.Plan.{Plan}
 use Rattle.runs.specs.Execution.{waiting, done, State}
 use Rattle.runs.specs.Verdict.{Verdict, Clear, Doomed, Judged}
 use Rattle.runs.specs.Calls.{Call, World, Task, Optional, acceptedStarts}
+use Rattle.runs.specs.Violations.{CallsOn, NeverViolates, Violated, NeverCompletes}
 use Rattle.runs.specs.Model.Blocked.{without}
 
 -- Starts in the order of the list l: the ordinal of x is k + 1 exactly if x stands in l after k others, and 0 exactly

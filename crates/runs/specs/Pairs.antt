@@ -22,14 +22,14 @@ module _ (p : Plan) where
   -- may need the literal, and each child standing between them has a whole free run that does not touch the flag; or
   -- (02) for unordered c and d, a task under c leaves the literal and one under d the opposite
   pub data ClobberByPairs (f : ℕ) (v : Bool) (n : ℕ) : Type 0 where
-    in-child : (c : ℕ) → Child p n c → MayClobber f v c → ClobberByPairs f v n
+    in-child : (c : ℕ) → Child p n c → MayClobber p f v c → ClobberByPairs f v n
     unordered-pair : (c d : ℕ) → Child p n c → Child p n d → Unordered p c d → TaskWith pre inc f v c
         → TaskWith inc post f (not v) d
         → ClobberByPairs f v n
     opposed-pair : (c d : ℕ) → Child p n c → Child p n d → Unordered p c d → TaskWith post post f v c
         → TaskWith post post f (not v) d
         → ClobberByPairs f v n
-    passed-on : (c d : ℕ) → Child p n c → Child p n d → Before p d c → May d (ExternalPost f (not v))
-        → May c (ExternalPre f v)
-        → ((b : ℕ) → Child p n b → Before p d b → Before p b c → May b (λ h. lastAsserted p h f ≡ none))
+    passed-on : (c d : ℕ) → Child p n c → Child p n d → Before p d c → May p d (ExternalPost p f (not v))
+        → May p c (ExternalPre p f v)
+        → ((b : ℕ) → Child p n b → Before p d b → Before p b c → May p b (λ h. lastAsserted p h f ≡ none))
         → ClobberByPairs f v n
