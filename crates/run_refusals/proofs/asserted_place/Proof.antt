@@ -2,6 +2,6 @@
 use Rattle.run_refusals.proofs.asserted_place.Statement.{statement}
 use Rattle.run_refusals.proofs.asserted_place.Tie as tie
 
-pub place-of-spec : {M : Type 1} → statement M
-place-of-spec = tie.close (tie.spec (λ c. c .match .keys1) (λ c. c .match .keys2) (λ c. rw (c .enum-told .given .1))
+pub asserted-place-spec : {M : Type 1} → statement M
+asserted-place-spec = tie.close (tie.spec (λ c. c .match .keys1) (λ c. c .match .keys2) (λ c. rw (c .enum-told .given .1))
     (λ c. rw (c .enum-told2 .given .1)))

@@ -49,7 +49,7 @@ returns c =
     let k = p .before .before .started .ensures in
     let s = p .before .before .before .before .before .before .before .before in
     let e : s .args .m ≡ Start = cc in
-    start-written _ _ _ _ _ (p .place-of .ensures) e _ _ _
+    start-written _ _ _ _ _ (p .asserted-place .ensures) e _ _ _
     (c .before .before .before .before .before .before .write-event .ensures) (omega (arith, k))
     (c .before .before .write-ordinal .ensures)
 
@@ -58,7 +58,7 @@ returns-2 c =
     let p = c .before .before .before in
     let s = p .before .before .before .before .before .before in
     let e : s .args .m ≡ Finish = cc in
-    finish-written _ _ _ _ _ (p .place-of2 .ensures) e _ (c .before .before .write-event2 .ensures)
+    finish-written _ _ _ _ _ (p .asserted-place2 .ensures) e _ (c .before .before .write-event2 .ensures)
 
 pub write-move-spec : {M : Type 1} → statement M
 write-move-spec =
