@@ -9,9 +9,10 @@ use Rattle.plan_rules.specs.Rules.{refusal}
 use Rattle.plan_check.proofs.Accepted.{clean}
 use Rattle.base.specs.Answers.{refusedOr}
 use Rattle.base.proofs.First.{both-none}
-use Rattle.listing.specs.declared.Listed.{Listed}
+use Rattle.answers.specs.declared.Written.{Written}
+use Rattle.answers.specs.Written.{told}
 use Rattle.listing.specs.Model.{textOf}
-use Rattle.listing.specs.Listing.{told, listingRefusal, listedOf, Lists}
+use Rattle.listing.specs.Listing.{listingRefusal, listedOf, Lists}
 use Rattle.listing.proofs.Text.{text-fits}
 use Rattle.listing.proofs.Answers.{said-value}
 use Rattle.capi_numbers.specs.Inner.{Short}
@@ -21,8 +22,8 @@ module _ (b out : List ℕ) where
   unfolding listingRefusal
   accepted e = both-none (refusal b) _ e .0
 
-  -- a text is at most 2,048 bytes long
-  pub short : {out′ : List ℕ} (r : Listed) → Lists b out r out′ → Short (told r)
+  -- a text is shorter than the longest plan
+  pub short : {out′ : List ℕ} (r : Written) → Lists b out r out′ → Short (told r)
   unfolding listedOf
   short r l = at (told r) (l .returns)
     where

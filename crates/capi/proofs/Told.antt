@@ -7,6 +7,8 @@ use Prim.Native.Nat.{ℕ, _<_}
 use native.Mathlib.Omega.{arith}
 use lib.Dec.{eqb}
 use Rattle.base.proofs.First.{answer-none}
+use Rattle.answers.specs.declared.Written.{Written}
+use Rattle.answers.specs.Written.{told}
 use Rattle.plan_blocked.specs.Blocked.{refusalUnder}
 use Rattle.runs.specs.Verdict.{Verdict, CLEAR, DOOMED, OPEN}
 use Rattle.run_state.specs.State.{stateRefusalUnder}
@@ -15,9 +17,8 @@ use Rattle.run_monitor.specs.Status as status
 use Rattle.run_monitor.specs.Status.{Word, COMPLETE, UNFINISHED, Told, statusAnswer}
 use Rattle.verdict.specs.declared.Answer.{Answer}
 use Rattle.verdict.specs.Verdict.{said, answerOf, Assessed}
-use Rattle.listing.specs.declared.Listed.{Listed}
-use Rattle.listing.specs.Listing.{told, Lists}
-use Rattle.capi_numbers.specs.Numbers.{verdictNumber, statusNumber, listingNumber}
+use Rattle.listing.specs.Listing.{Lists}
+use Rattle.capi_numbers.specs.Numbers.{verdictNumber, statusNumber, writtenNumber}
 use Rattle.capi.specs.Told.{VerdictNumber, StatusNumber, ListingNumber}
 
 -- a number from which the word can be told is that of a word exactly if the answer is that word
@@ -89,6 +90,6 @@ status-told b xs s a x q =
           (λ c. x .complete .0 c .1, λ c. x .complete .1 (ok, c)));
     }
 
-pub listing-told : (b out : List ℕ) (a : Listed) {r : ℕ} {out′ : List ℕ} → Lists b out a out′
-    → r ≡ listingNumber (told a) → ListingNumber b out r out′
-listing-told b out a x q = record { returns = q ∙ ap listingNumber (x .returns); leaves = x .leaves; text = x .text }
+pub listing-told : (b out : List ℕ) (a : Written) {r : ℕ} {out′ : List ℕ} → Lists b out a out′
+    → r ≡ writtenNumber (told a) → ListingNumber b out r out′
+listing-told b out a x q = record { returns = q ∙ ap writtenNumber (x .returns); leaves = x .leaves; text = x .text }

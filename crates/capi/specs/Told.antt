@@ -18,7 +18,7 @@ use Rattle.verdict.specs.Verdict.{answerOf}
 use Rattle.listing.specs.Model.{textOf}
 use Rattle.listing.specs.Sentences.{IsListing}
 use Rattle.listing.specs.Listing.{listedOf, listingLeft}
-use Rattle.capi_numbers.specs.Numbers.{verdictNumber, statusNumber, listingNumber}
+use Rattle.capi_numbers.specs.Numbers.{verdictNumber, statusNumber, writtenNumber}
 
 -- r is the number of the answer for the plan and the list xs of blocked nodes: 28 and 29 in 02's words; accepted, it is
 -- the number of the verdict that 01 defines, on what is left of the plan
@@ -41,6 +41,6 @@ pub record StatusNumber (b xs s : List ℕ) (r : ℕ) : Type 0 where
 -- r is the number of the answer, and out′ has every byte that the listing leaves; 01's words hold of the text of an
 -- accepted plan, and of no other
 pub record ListingNumber (b out : List ℕ) (r : ℕ) (out′ : List ℕ) : Type 0 where
-  pub returns : r ≡ listingNumber (listedOf b out)
+  pub returns : r ≡ writtenNumber (listedOf b out)
   pub leaves : out′ ≡ listingLeft b out
   pub text : refusal b ≡ 0 → (s : List ℕ) → IsListing b s ↔ (s ≡ textOf b)

@@ -7,9 +7,9 @@ ghost use Rattle.runs.specs.Calls.{one, together};
 ghost use Rattle.run_state.specs.Fresh.{Freshened};
 ghost use Rattle.run_monitor.specs.Events.{Called};
 ghost use Rattle.capi.specs.Told.{VerdictNumber, StatusNumber, ListingNumber};
-use capi_numbers::listing_number;
 use capi_numbers::status_number;
 use capi_numbers::verdict_number;
+use capi_numbers::written_number;
 
 #[no_mangle]
 pub extern "C" fn knowetop_refusal(plan: &[u8]) -> u32
@@ -112,5 +112,5 @@ pub extern "C" fn knowetop_listing(plan: &[u8], out: &mut [u8]) -> u32
     ensures { λ r. ⌜ ListingNumber (now (plan .entry)) (now (out .entry)) r (now (out .exit)) ⌝ }
 {
     let answer = listing::listing(plan, out);
-    listing_number(answer)
+    written_number(answer)
 }

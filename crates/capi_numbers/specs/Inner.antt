@@ -2,7 +2,7 @@
 use mathlib.Core.Logic.{_⊎_, inl, inr}
 use Prim.Native.Nat.{ℕ, _≤_}
 
--- a refusal, or a length of at most 2,048
+-- a refusal, or a length up to 5,136, that of the longest plan
 abbrev pub Short : ℕ ⊎ ℕ → Type 0
 Short (inl n) = Unit {0}
-Short (inr n) = n ≤ 2048
+Short (inr n) = n ≤ 5136

@@ -15,7 +15,7 @@ statusNumber (inl n) = n
 statusNumber (inr COMPLETE) = 128
 statusNumber (inr UNFINISHED) = 129
 
--- the length of a text after 256
-abbrev pub listingNumber : ℕ ⊎ ℕ → ℕ
-listingNumber (inl n) = n
-listingNumber (inr n) = 256 + n
+-- a length after 256
+abbrev pub writtenNumber : ℕ ⊎ ℕ → ℕ
+writtenNumber (inl n) = n
+writtenNumber (inr n) = 256 + n

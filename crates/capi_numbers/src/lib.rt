@@ -1,13 +1,13 @@
 // The numbers by which the C interface tells answers.
-use listing::Listed;
+use answers::Written;
 use run_monitor::Progress;
 use verdict::Answer;
 use verdict::Verdict;
 ghost use mathlib.Core.Path.{_≡_};
 ghost use Rattle.verdict.specs.Verdict as verdict;
 ghost use Rattle.run_monitor.specs.Status as progress;
-ghost use Rattle.listing.specs.Listing.{told};
-ghost use Rattle.capi_numbers.specs.Numbers.{verdictNumber, statusNumber, listingNumber};
+ghost use Rattle.answers.specs.Written.{told};
+ghost use Rattle.capi_numbers.specs.Numbers.{verdictNumber, statusNumber, writtenNumber};
 ghost use Rattle.capi_numbers.specs.Inner.{Short};
 
 pub fn verdict_number(answer: Answer) -> u32
@@ -33,12 +33,12 @@ pub fn status_number(answer: Progress) -> u32
     }
 }
 
-pub fn listing_number(answer: Listed) -> u32
+pub fn written_number(answer: Written) -> u32
     requires { ⌜ Short (told answer) ⌝ }
-    ensures { λ r. ⌜ r ≡ listingNumber (told answer) ⌝ }
+    ensures { λ r. ⌜ r ≡ writtenNumber (told answer) ⌝ }
 {
     match answer {
-        Listed::Refused(n) => n,
-        Listed::Text(n) => 256 + n as u32,
+        Written::Refused(n) => n,
+        Written::Length(n) => 256 + n as u32,
     }
 }

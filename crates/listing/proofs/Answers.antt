@@ -12,13 +12,13 @@ use lib.Seq.{length-take-le}
 use borrow.Author.Tests.{lt-ltb, le-ltb, ne-eqb}
 use Rattle.base.specs.Answers.{refusedOr}
 use Rattle.base.proofs.First.{first-some, both-none}
+use Rattle.answers.specs.declared.Written.the-variants.{Refused, Length}
 use Rattle.plan_rules.specs.Rules.{refusal}
 use Rattle.text_decimals.specs.Decimals.{written, Wrote}
 use Rattle.text_decimals.proofs.Written.{wrote-long, wrote-same}
 use Rattle.plan_check.proofs.Accepted.{clean}
 use Rattle.listing.specs.Model.{textOf, refusedText, printed}
 use Rattle.listing.specs.Listing.{listingRefusal, listedOf, listingLeft, Lists, Prints}
-use Rattle.listing.specs.declared.Listed.the-variants.{Refused, Text}
 use Rattle.listing.proofs.Sentences.{listing-is, refusal-is}
 use Rattle.listing.proofs.Text.{text-fits, refusal-limit, refused-length, printed-text, printed-refused}
 
@@ -66,7 +66,7 @@ module _ (b out : List ℕ) where
   left-out h = rw (ne-eqb (listingRefusal b out) 0 h)
 
   pub lists-text : {r : ℕ} {out′ : List ℕ} → refusal b ≡ 0 → 2048 ≤ length out → Wrote out 0 (textOf b) r out′
-      → Lists b out (Text r) out′
+      → Lists b out (Length r) out′
   unfolding listedOf
   lists-text {r} e l w =
       let z = refused-none e l in
@@ -78,7 +78,7 @@ module _ (b out : List ℕ) where
   unfolding listingRefusal
   accepted-plan e = both-none (refusal b) (cond (ltb (length out) 2048) 15 0) e .0
 
-  pub text-answered : {r : ℕ} {out′ : List ℕ} → Lists b out (Text r) out′ → Wrote out 0 (printed b) r out′
+  pub text-answered : {r : ℕ} {out′ : List ℕ} → Lists b out (Length r) out′ → Wrote out 0 (printed b) r out′
   unfolding listedOf
   text-answered {r} h =
       let w = said-value (listingRefusal b out) (length (textOf b)) r (h .returns) in

@@ -1,23 +1,18 @@
 -- What the listing call answers, and every byte that it leaves. Definitions only.
 use Prim.Native.Nat.{ℕ, _≤_}
 use mathlib.Core.Path.{_≡_}
-use mathlib.Core.Logic.{_⊎_, inl, inr, _↔_}
+use mathlib.Core.Logic.{_⊎_, _↔_}
 use mathlib.Core.Bool.{cond}
 use mathlib.Core.List.{List}
 use lib.Dec.{eqb, ltb}
 use lib.ListN.{length, take}
 use Rattle.base.specs.Answers.{first, refusedOr}
+use Rattle.answers.specs.declared.Written.{Written}
+use Rattle.answers.specs.Written.{told}
 use Rattle.plan_rules.specs.Rules.{refusal}
 use Rattle.text_decimals.specs.Decimals.{written, Wrote}
 use Rattle.listing.specs.Model.{textOf, printed}
 use Rattle.listing.specs.Sentences.{IsListing, IsRefusal}
-use Rattle.listing.specs.declared.Listed.{Listed}
-use Rattle.listing.specs.declared.Listed.the-variants.{Refused, Text}
-
--- 01's number, or the length of the text, for each case
-abbrev pub told : Listed → ℕ ⊎ ℕ
-told (Refused n) = inl n
-told (Text n) = inr n
 
 -- 1 to 14; 15: under 2,048 bytes
 unfoldable pub listingRefusal : List ℕ → List ℕ → ℕ
@@ -32,7 +27,7 @@ unfoldable pub listingLeft : List ℕ → List ℕ → List ℕ
 listingLeft b out = cond (eqb (listingRefusal b out) 0) (written out 0 (textOf b)) out
 
 -- a call answered and left these; 01's words hold of the text of an accepted plan, and of no other
-pub record Lists (b out : List ℕ) (r : Listed) (out′ : List ℕ) : Type 0 where
+pub record Lists (b out : List ℕ) (r : Written) (out′ : List ℕ) : Type 0 where
   pub returns : told r ≡ listedOf b out
   pub leaves : out′ ≡ listingLeft b out
   pub text : refusal b ≡ 0 → (s : List ℕ) → IsListing b s ↔ (s ≡ textOf b)

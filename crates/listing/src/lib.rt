@@ -12,6 +12,7 @@ ghost use Rattle.text_decimals.specs.Decimals.{Wrote};
 ghost use Rattle.listing.specs.Text.{letters};
 ghost use Rattle.listing.specs.Model.{textOf};
 ghost use Rattle.listing.specs.Listing.{Lists, Prints};
+use answers::Written;
 use node_sets::all_nodes;
 use plan_check::check;
 use table_marks::marks_and_children;
@@ -28,12 +29,6 @@ use verdict::Verdict;
 use verdict::of_words;
 use verdict::start_word;
 use wait_tree::longest_waits;
-
-// A refusal up to 15, or the length of the text.
-pub enum Listed {
-    Refused(u32),
-    Text(usize),
-}
 
 // Writes the word of a verdict.
 fn write_word(out: &mut [u8], at: usize, verdict: Verdict) -> usize
@@ -76,18 +71,18 @@ fn write_listing(plan: &[u8], out: &mut [u8]) -> usize
     write_text(plan, &from, &kids, verdict, out)
 }
 
-// Writes the listing from the first byte; refused, nothing changes.
-pub fn listing(plan: &[u8], out: &mut [u8]) -> Listed
+// Writes the listing from the first byte; refused (up to 15), nothing changes.
+pub fn listing(plan: &[u8], out: &mut [u8]) -> Written
     ensures { λ r. ⌜ Lists (now (plan .entry)) (now (out .entry)) r (now (out .exit)) ⌝ }
 {
     let r = check(plan);
     if r != 0 {
-        return Listed::Refused(r);
+        return Written::Refused(r);
     }
     if out.len() < 2048 {
-        return Listed::Refused(15);
+        return Written::Refused(15);
     }
-    Listed::Text(write_listing(plan, out))
+    Written::Length(write_listing(plan, out))
 }
 
 // Writes all that the program prints for these bytes, and answers how long it is.
@@ -96,10 +91,10 @@ pub fn print(plan: &[u8], out: &mut [u8; 2048]) -> usize
 {
     let listed = listing(plan, out);
     match listed {
-        Listed::Refused(n) => {
+        Written::Refused(n) => {
             let a = write_bytes(out, 0, b"REFUSED");
             end_line(out, a, n)
         }
-        Listed::Text(n) => n,
+        Written::Length(n) => n,
     }
 }

@@ -5,11 +5,11 @@ use borrow.Author.Needs.{needs}
 use Rattle.capi.proofs.knowetop_listing.Statement.{statement}
 use Rattle.capi.proofs.knowetop_listing.Tie as tie
 
-listing-number-requires : tie.Need-listing-number-requires
-listing-number-requires c κs = short _ _ _ (c .before .before .listing .ensures)
+written-number-requires : tie.Need-written-number-requires
+written-number-requires c κs = short _ _ _ (c .before .before .listing .ensures)
 
 returns : tie.Need-returns
-returns c = listing-told _ _ _ (c .before .before .before .listing .ensures) (c .listing-number .ensures)
+returns c = listing-told _ _ _ (c .before .before .before .listing .ensures) (c .written-number .ensures)
 
 pub knowetop-listing-spec : {M : Type 1} → statement M
-knowetop-listing-spec = tie.close (tie.spec (λ c κs. search needs) listing-number-requires (λ c. search needs) returns)
+knowetop-listing-spec = tie.close (tie.spec (λ c κs. search needs) written-number-requires (λ c. search needs) returns)

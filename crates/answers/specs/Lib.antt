@@ -1,0 +1,2 @@
+-- What a call answers that writes.
+pub mod Written
