@@ -35,9 +35,10 @@ is-listing b e = record {
   arranged = arranged b (clean b e);
   digits = decimal (lengthOf b 0);
   plain = plain (lengthOf b 0);
-  lines = linesOf b (ranking b);
-  each = task-lines b (ranking b);
-  text = ending-then (letters (model.verdict (planOf b) (startOf b))) (lengthOf b 0) (linesOf b (ranking b));
+  lines = linesOf b (longestWait b) (ranking b);
+  each = task-lines b (longestWait b) (ranking b);
+  text = ending-then (letters (model.verdict (planOf b) (startOf b))) (lengthOf b 0)
+      (linesOf b (longestWait b) (ranking b));
 }
 
 -- and no other text is: 01's words leave no byte open
@@ -51,7 +52,7 @@ listing-only {b} e h =
     (length-one ok (h .times) (own .times) 0 (ok .fits .limits .some-node)) in
     let w = longest-one ok (h .times) (own .times) in
     let l = lines-only (λ u a. w u (arranged-node b (h .arranged) u a)) (h .each)
-    ∙ ap (linesOf b) (arranged-only b ok w (h .arranged)) in
+    ∙ ap (linesOf b (longestWait b)) (arranged-only b ok w (h .arranged)) in
     h .text
     ∙ ap (λ (u : Verdict). letters u ++ 32 ∷ h .digits ++ 10 ∷ h .lines) (sym v)
     ∙ ap (λ (xs : List ℕ). letters (own .verdict) ++ 32 ∷ xs ++ 10 ∷ h .lines) d

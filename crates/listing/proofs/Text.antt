@@ -12,7 +12,7 @@ use Rattle.plan_check.specs.Meaning.{planOf, startOf}
 use Rattle.plan_check.proofs.Accepted.{Clean}
 use Rattle.runs.specs.Verdict.{Verdict, CLEAR, DOOMED, OPEN}
 use Rattle.runs.specs.Model.Verdicts.{verdict}
-use Rattle.wait_lengths.specs.Waits.{lengthOf}
+use Rattle.wait_lengths.specs.Waits.{lengthOf, longestWait}
 use Rattle.wait_lengths.proofs.Bounds.{end-limit}
 use Rattle.text_order.specs.Model.{ranking}
 use Rattle.text_lines.specs.Model.{ending, linesOf}
@@ -33,7 +33,7 @@ unfolding textOf firstLine
 text-fits {b} ok =
     omega (
       arith,
-      length-append (firstLine b) (linesOf b (ranking b)),
+      length-append (firstLine b) (linesOf b (longestWait b) (ranking b)),
       length-append (letters (verdict (planOf b) (startOf b))) (ending (lengthOf b 0)),
       letters-limit (verdict (planOf b) (startOf b)),
       root-limit ok,
@@ -62,8 +62,8 @@ refusal-limit b =
     (cond-limit (cause13 b) 13 _ (omega arith)
     (cond-limit (cause14 b) 14 0 (omega arith) (omega arith))))))))))))))
 
-pub text-is : (b : List ℕ) → (letters (verdict (planOf b) (startOf b)) ++ ending (lengthOf b 0)) ++ linesOf b
-    (ranking b) ≡ textOf b
+pub text-is : (b : List ℕ) → (letters (verdict (planOf b) (startOf b)) ++ ending (lengthOf b 0))
+    ++ linesOf b (longestWait b) (ranking b) ≡ textOf b
 unfolding textOf firstLine
 text-is b = refl
 

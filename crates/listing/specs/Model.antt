@@ -6,7 +6,7 @@ use lib.Dec.{eqb}
 use Rattle.plan_rules.specs.Rules.{refusal}
 use Rattle.plan_check.specs.Meaning.{planOf, startOf}
 use Rattle.runs.specs.Model.Verdicts.{verdict}
-use Rattle.wait_lengths.specs.Waits.{lengthOf}
+use Rattle.wait_lengths.specs.Waits.{lengthOf, longestWait}
 use Rattle.text_order.specs.Model.{ranking}
 use Rattle.text_lines.specs.Model.{ending, linesOf}
 use Rattle.listing.specs.Text.{letters, refusedLetters}
@@ -15,9 +15,9 @@ use Rattle.listing.specs.Text.{letters, refusedLetters}
 unfoldable pub firstLine : List ℕ → List ℕ
 firstLine b = letters (verdict (planOf b) (startOf b)) ++ ending (lengthOf b 0)
 
--- then each task, in order
+-- then each task with its longest wait, in order
 unfoldable pub textOf : List ℕ → List ℕ
-textOf b = firstLine b ++ linesOf b (ranking b)
+textOf b = firstLine b ++ linesOf b (longestWait b) (ranking b)
 
 -- REFUSED, space, number, byte 10
 unfoldable pub refusedText : ℕ → List ℕ

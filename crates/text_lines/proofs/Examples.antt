@@ -13,7 +13,7 @@ use Rattle.text_order.specs.Model.{keyWith, keyOf, inserted, rankedTo, ranking}
 use Rattle.text_lines.specs.Model.{ending, lineOf, linesOf}
 
 -- RADI 12, SATL 12, CAST 0
-pub lines-of-B : linesOf planB (ranking planB)
+pub lines-of-B : linesOf planB (longestWait planB) (ranking planB)
     ≡ 82 ∷ 65 ∷ 68 ∷ 73 ∷ 32 ∷ 49 ∷ 50 ∷ 10 ∷ 83 ∷ 65 ∷ 84 ∷ 76 ∷ 32 ∷ 49 ∷ 50 ∷ 10 ∷ 67 ∷ 65 ∷ 83 ∷ 84 ∷ 32 ∷ 48 ∷ 10 ∷
     []
 unfolding planB u16At nodeCount condCount orderCount nameChar entryAt parentOf kindOf minutesOf earlierOf laterOf isKind

@@ -29,46 +29,55 @@ pub ending-length : (n : ℕ) → length (ending n) ≡ length (decimal n) + 2
 unfolding ending
 ending-length n = omega (arith, length-append (decimal n) (10 ∷ []))
 
-pub line-length : (b : List ℕ) (t : ℕ) → length (lineOf b t) ≡ length (ending (longestWait b t)) + 4
+pub line-length : (b : List ℕ) (t w : ℕ) → length (lineOf b t w) ≡ length (ending w) + 4
 unfolding lineOf
-line-length b t = omega (arith, length-append (nameOf b t) (ending (longestWait b t)), name-length b t)
+line-length b t w = omega (arith, length-append (nameOf b t) (ending w), name-length b t)
 
 -- a number of at most 7 digits
 pub ending-limit : (n : ℕ) → n ≤ 1290240 → length (ending n) ≤ 9
 ending-limit n l = omega (arith, ending-length n, length-limit 6 n (omega arith))
 
-lines-more : (b xs : List ℕ) (t : ℕ) → linesOf b (xs ++ (t ∷ [])) ≡ linesOf b xs ++ lineOf b t
-unfolding linesOf
-lines-more b [] t = append-nil (lineOf b t)
-lines-more b (x ∷ xs) t = rw (lines-more b xs t) (sym (append-assoc (lineOf b x) (linesOf b xs) (lineOf b t)))
+pub line-limit : (b : List ℕ) (t w : ℕ) → w ≤ 1290240 → length (lineOf b t w) ≤ 13
+line-limit b t w l = omega (arith, line-length b t w, ending-limit w l)
 
+-- the longest waits are within that
 module _ {b : List ℕ} (ok : Clean b) where
-  pub line-limit : (t : ℕ) → t < nodeCount b → length (lineOf b t) ≤ 13
-  line-limit t l = omega (arith, line-length b t, ending-limit (longestWait b t) (omega (arith, end-limit b ok t l)))
+  wait-limit : (t : ℕ) → t < nodeCount b → longestWait b t ≤ 1290240
+  wait-limit t l = omega (arith, end-limit b ok t l)
 
-  lines-short : (xs : List ℕ) → ((u : ℕ) → Among u xs → u < nodeCount b) → length (linesOf b xs) ≤ 13 * length xs
+  pub task-limit : {t w : ℕ} → t < nodeCount b → w ≡ longestWait b t → length (lineOf b t w) ≤ 13
+  task-limit {t} {w} l e = line-limit b t w (omega (arith, wait-limit t l))
+
+module _ (b : List ℕ) (wait : ℕ → ℕ) where
+  lines-more : (xs : List ℕ) (t : ℕ) → linesOf b wait (xs ++ (t ∷ [])) ≡ linesOf b wait xs ++ lineOf b t (wait t)
+  unfolding linesOf
+  lines-more [] t = append-nil (lineOf b t (wait t))
+  lines-more (x ∷ xs) t =
+      rw (lines-more xs t) (sym (append-assoc (lineOf b x (wait x)) (linesOf b wait xs) (lineOf b t (wait t))))
+
+  pub lines-short : (xs : List ℕ) → ((u : ℕ) → Among u xs → wait u ≤ 1290240)
+      → length (linesOf b wait xs) ≤ 13 * length xs
   unfolding linesOf
   lines-short [] h = omega arith
   lines-short (x ∷ xs) h = omega (
     arith,
-    length-append (lineOf b x) (linesOf b xs),
-    line-limit x (h x (here refl)),
+    length-append (lineOf b x (wait x)) (linesOf b wait xs),
+    line-limit b x (wait x) (h x (here refl)),
     lines-short xs (λ u a. h u (there a)),
   )
 
   -- the first i lines
-  lines-next : (i : ℕ) → i < length (ranking b)
-      → linesOf b (take (suc i) (ranking b)) ≡ linesOf b (take i (ranking b)) ++ lineOf b (getD (ranking b) i 0)
-  lines-next i l = ap (linesOf b) (take-suc (ranking b) i 0 l)
-      ∙ lines-more b (take i (ranking b)) (getD (ranking b) i 0)
+  pub lines-next : (xs : List ℕ) (i : ℕ) → i < length xs
+      → linesOf b wait (take (suc i) xs) ≡ linesOf b wait (take i xs) ++ lineOf b (getD xs i 0) (wait (getD xs i 0))
+  lines-next xs i l = ap (linesOf b wait) (take-suc xs i 0 l) ∙ lines-more (take i xs) (getD xs i 0)
 
 pub ending-is : (n : ℕ) → ((32 ∷ []) ++ decimal n) ++ (10 ∷ []) ≡ ending n
 unfolding ending
 ending-is n = refl
 
-pub line-is : (b : List ℕ) (t : ℕ) → nameOf b t ++ ending (longestWait b t) ≡ lineOf b t
+pub line-is : (b : List ℕ) (t w : ℕ) → nameOf b t ++ ending w ≡ lineOf b t w
 unfolding lineOf
-line-is b t = refl
+line-is b t w = refl
 
 -- ---- they are 01's lines
 pub ending-then : (x : List ℕ) (n : ℕ) (s : List ℕ) → (x ++ ending n) ++ s ≡ x ++ 32 ∷ decimal n ++ 10 ∷ s
@@ -76,24 +85,26 @@ unfolding ending
 ending-then x n s = ap (λ (xs : List ℕ). xs ++ s) (sym (append-assoc x (32 ∷ decimal n) (10 ∷ [])))
     ∙ append-assoc (x ++ 32 ∷ decimal n) (10 ∷ []) s
 
-line-then : (b : List ℕ) (t : ℕ) (s : List ℕ) → lineOf b t ++ s ≡ nameOf b t ++ 32 ∷ decimal (longestWait b t) ++ 10 ∷ s
+line-then : (b : List ℕ) (t w : ℕ) (s : List ℕ) → lineOf b t w ++ s ≡ nameOf b t ++ 32 ∷ decimal w ++ 10 ∷ s
 unfolding lineOf
-line-then b t s = ending-then (nameOf b t) (longestWait b t) s
+line-then b t w s = ending-then (nameOf b t) w s
 
-pub task-lines : (b ts : List ℕ) → TaskLines b (longestWait b) ts (linesOf b ts)
+pub task-lines : (b : List ℕ) (wait : ℕ → ℕ) (ts : List ℕ) → TaskLines b wait ts (linesOf b wait ts)
 unfolding linesOf
-task-lines b [] = no-lines
-task-lines b (t ∷ ts) = rw (line-then b t (linesOf b ts)) (line (plain (longestWait b t)) (task-lines b ts))
+task-lines b wait [] = no-lines
+task-lines b wait (t ∷ ts) =
+    rw (line-then b t (wait t) (linesOf b wait ts)) (line (plain (wait t)) (task-lines b wait ts))
 
 -- and no other text is
-pub lines-only : {b : List ℕ} {longest : ℕ → ℕ} {ts s : List ℕ} → ((u : ℕ) → Among u ts → longest u ≡ longestWait b u)
-    → TaskLines b longest ts s → s ≡ linesOf b ts
+pub lines-only : {b : List ℕ} {longest wait : ℕ → ℕ} {ts s : List ℕ} → ((u : ℕ) → Among u ts → longest u ≡ wait u)
+    → TaskLines b longest ts s → s ≡ linesOf b wait ts
 unfolding linesOf
 lines-only f no-lines = refl
-lines-only {b} {ts = t ∷ ts} f (line {digits = d} p r) =
+lines-only {b} {wait = wait} {ts = t ∷ ts} f (line {digits = d} p r) =
     ap (λ (xs : List ℕ). nameOf b t ++ 32 ∷ d ++ 10 ∷ xs) (lines-only (λ u a. f u (there a)) r)
-    ∙ ap (λ (xs : List ℕ). nameOf b t ++ 32 ∷ xs ++ 10 ∷ linesOf b ts) (plain-only p ∙ ap decimal (f t (here refl)))
-    ∙ sym (line-then b t (linesOf b ts))
+    ∙ ap (λ (xs : List ℕ). nameOf b t ++ 32 ∷ xs ++ 10 ∷ linesOf b wait ts)
+    (plain-only p ∙ ap decimal (f t (here refl)))
+    ∙ sym (line-then b t (wait t) (linesOf b wait ts))
 
 -- ---- a name is four bytes of the plan, one after another
 next-byte : (b : List ℕ) (i j n : ℕ) → j ≡ suc i → i < length b
@@ -118,15 +129,16 @@ name-bytes b t n e l = rw e (four b (16 + 4 * t) (16 + (4 * t + 1)) (16 + (4 * t
 -- ---- the first i lines are written
 pub record LinesTo (b out out′ : List ℕ) (at a i : ℕ) : Type 0 where
   pub inside : i ≤ length (ranking b)
-  pub wrote : Wrote out at (linesOf b (take i (ranking b))) a out′
+  pub wrote : Wrote out at (linesOf b (longestWait b) (take i (ranking b))) a out′
   pub short : a ≤ at + 13 * i
 
 module _ {b : List ℕ} (ok : Clean b) where
-  pub lines-limit : length (linesOf b (ranking b)) ≤ 1651
+  pub lines-limit : length (linesOf b (longestWait b) (ranking b)) ≤ 1651
   unfolding ranking
   lines-limit = omega (
     arith,
-    lines-short ok (rankedTo b (nodeCount b)) (λ u a. ranked-task b u (nodeCount b) a .0),
+    lines-short b (longestWait b) (rankedTo b (nodeCount b))
+        (λ u a. wait-limit ok u (ranked-task b u (nodeCount b) a .0)),
     ranking-length b ok,
   )
 
@@ -150,16 +162,19 @@ module _ {b : List ℕ} (ok : Clean b) where
         q,
       )
 
-  pub lines-turn : {out out′ out″ : List ℕ} {at a a′ i t : ℕ} → i < length (ranking b) → t < nodeCount b
-      → t ≡ getD (ranking b) i 0 → Wrote out′ a (lineOf b t) a′ out″ → LinesTo b out out′ at a i
+  pub lines-turn : {out out′ out″ : List ℕ} {at a a′ i t w : ℕ} → i < length (ranking b) → t < nodeCount b
+      → t ≡ getD (ranking b) i 0 → w ≡ longestWait b t → Wrote out′ a (lineOf b t w) a′ out″ → LinesTo b out out′ at a i
       → LinesTo b out out″ at a′ (i + 1)
-  lines-turn {i = i} {t} l m e w h = rw add-one (record {
-    inside = omega arith;
-    wrote = wrote-same (ap (λ (x : ℕ). linesOf b (take i (ranking b)) ++ lineOf b x) e ∙ sym (lines-next ok i l))
-        (wrote-then (h .wrote) w);
-    short = omega (arith, h .short, w .next, line-limit ok t m);
-  })
+  lines-turn {i = i} {t} l m e q x h =
+      let lines = linesOf b (longestWait b) (take i (ranking b)) in
+      rw add-one (record {
+        inside = omega arith;
+        wrote = wrote-same
+            (ap (λ (k : ℕ). lines ++ lineOf b t k) q ∙ ap (λ (k : ℕ). lines ++ lineOf b k (longestWait b k)) e
+            ∙ sym (lines-next b (longestWait b) (ranking b) i l)) (wrote-then (h .wrote) x);
+        short = omega (arith, h .short, x .next, task-limit ok m q);
+      })
 
   pub lines-all : {out out′ : List ℕ} {at a i : ℕ} → length (ranking b) ≤ i → LinesTo b out out′ at a i
-      → Wrote out at (linesOf b (ranking b)) a out′
-  lines-all {i = i} l h = wrote-same (ap (linesOf b) (take-all i (ranking b) l)) (h .wrote)
+      → Wrote out at (linesOf b (longestWait b) (ranking b)) a out′
+  lines-all {i = i} l h = wrote-same (ap (linesOf b (longestWait b)) (take-all i (ranking b) l)) (h .wrote)

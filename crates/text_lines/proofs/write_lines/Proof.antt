@@ -3,7 +3,7 @@ use Prim.Native.Nat.{_-_}
 use Rattle.plan_check.proofs.Accepted.{clean}
 use Rattle.text_decimals.proofs.Written.{wrote-long}
 use Rattle.text_order.proofs.Order.{ranking-length}
-use Rattle.text_lines.proofs.Text.{LinesTo, lines-none, line-task, lines-turn, lines-all}
+use Rattle.text_lines.proofs.Text.{task-limit, LinesTo, lines-none, line-task, lines-turn, lines-all}
 use native.Mathlib.Omega.{arith}
 use borrow.Author.Needs.{needs}
 use Rattle.text_lines.proofs.write_lines.Statement.{statement}
@@ -40,7 +40,6 @@ write-line-requires c κs =
     let t = line-task ok (s .pre .2) (omega arith) (c .before .before .wide .ensures .0) .0 in (
       s .pre .0,
       t,
-      s .pre .1 .is _ t,
       omega (
         arith,
         s .pre .3,
@@ -48,6 +47,7 @@ write-line-requires c κs =
         l .loop .inv .short,
         ranking-length _ ok,
         wrote-long (l .loop .inv .wrote),
+        task-limit ok t (s .pre .1 .is _ t),
       ),
     )
 
@@ -57,8 +57,8 @@ loop-again c =
     let s = l .before .before .before in
     let ok = clean _ (s .pre .0) in
     let t = line-task ok (s .pre .2) (omega arith) (c .before .before .before .before .before .wide .ensures .0) in
-    lines-turn ok (omega (arith, s .pre .2 .count)) (t .0) (t .1) (c .before .before .write-line .ensures)
-    (l .loop .inv)
+    lines-turn ok (omega (arith, s .pre .2 .count)) (t .0) (t .1) (s .pre .1 .is _ (t .0))
+    (c .before .before .write-line .ensures) (l .loop .inv)
 
 same-length : tie.Need-same-length Inv-loop μ-loop
 same-length c = wrote-long (c .before .loop .inv .wrote)
