@@ -23,7 +23,7 @@ use Rattle.tables.proofs.Segments.{has-children, listed, every-child}
 use Rattle.tables.proofs.Walks.{right-none, right-more, right-all}
 use Rattle.marks_group.specs.Groups.{AnyRow}
 use Rattle.marks_tree.specs.Clobbers.{AllOfRow}
-use Rattle.marks_tree.specs.Filled.{Given, OfAny, ChildrenTo, Filled, TasksFilled, AllFilled}
+use Rattle.marks_tree.specs.Filled.{Given, OfAny, ChildrenTo, Filled, TasksFilled, AllFilled, BelowFilled}
 
 -- in every plan that the table of kinds represents, the kind of c is in K
 abbrev pub OfKind : List ℕ → ℕ → (Kind → Type 0) → Type 0
@@ -148,21 +148,32 @@ module _ {kind conds rows : List ℕ} where
       at p w k c t l n q (yes e) = let y : getD kind i 0 ≡ kindNumber task = rw (q, e) at (k .is t n) in absurd (z y)
       at p w k c t l n q (no ne) = h .right p w k c t (omega arith) n q
 
--- all nodes, once the root is worked out
-pub all-nodes : {kind from kids order conds rows rows′ : List ℕ} {n : ℕ} → TasksFilled kind conds rows n
-    → Filled OfAny kind from kids order rows rows′ n 0 → AllFilled kind from kids order conds rows′ n
-all-nodes {kind} {from} {kids} {order} {conds} {rows} {n = n} t x = record {
-  long = x .long;
-  right = λ p w r m l. x .under p (given p w r) tt .right m (under-root p w m l);
-}
-  where
-    given : (p : Plan) → WellFormed p → Represents kind from kids order conds n p
-        → Given kind from kids order rows n 0 p
-    given p w r = record {
-      well-formed = w;
-      kinds = r .kinds;
-      tree = r .tree;
-      orders = r .orders;
-      is-node = w .root-node;
-      tasks = λ u l k. t .right p w (r .kinds) (r .conditions) u (rw (r .tree .size) at (w .node-below u l)) l k;
-    }
+-- all nodes, once the root is worked out or its children are
+module _ {kind from kids order conds rows : List ℕ} {n : ℕ} (t : TasksFilled kind conds rows n) where
+  given : (p : Plan) → WellFormed p → Represents kind from kids order conds n p
+      → Given kind from kids order rows n 0 p
+  given p w r = record {
+    well-formed = w;
+    kinds = r .kinds;
+    tree = r .tree;
+    orders = r .orders;
+    is-node = w .root-node;
+    tasks = λ u l k. t .right p w (r .kinds) (r .conditions) u (rw (r .tree .size) at (w .node-below u l)) l k;
+  }
+
+  pub all-nodes : {rows′ : List ℕ} → Filled OfAny kind from kids order rows rows′ n 0
+      → AllFilled kind from kids order conds rows′ n
+  all-nodes x = record {
+    long = x .long;
+    right = λ p w r m l. x .under p (given p w r) tt .right m (under-root p w m l);
+  }
+
+  pub nodes-below : {rows′ : List ℕ} {segment : Segment} → segment ≡ segmentOf from 0
+      → ChildrenTo kind from kids order n 0 segment rows rows′ (segment .end)
+      → BelowFilled kind from kids order conds rows′ n
+  nodes-below {rows′} z h = record {
+    long = h .long;
+    right = λ p w r m l. let g = given p w r in
+        right-all (has-children (g .tree) (g .is-node) z) {R″ = λ k. k ≢ 0 → Right p rows′ k} (h .walked p g)
+        (λ k x ne. x) (λ ne. absurd (ne refl)) .right m (under-root p w m l);
+  }

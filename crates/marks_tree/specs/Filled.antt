@@ -1,5 +1,6 @@
 -- What the rows hold after a group has been worked out, and after all of the plan has. Definitions only.
 use mathlib.Core.Path.{_≡_}
+use mathlib.Core.Logic.{_≢_}
 use mathlib.Core.List.{List}
 use Prim.Native.Nat.{ℕ, _<_}
 use lib.ListN.{length}
@@ -52,4 +53,10 @@ pub record TasksFilled (kind conds rows : List ℕ) (n : ℕ) : Type 0 where
 pub record AllFilled (kind from kids order conds rows : List ℕ) (n : ℕ) : Type 0 where
   pub long : length rows ≡ ROWS
   pub right : (p : Plan) → WellFormed p → Represents kind from kids order conds n p → (m : ℕ) → Node p m
+      → Right p rows m
+
+-- for every plan that the tables represent, the rows of all its nodes but the root
+pub record BelowFilled (kind from kids order conds rows : List ℕ) (n : ℕ) : Type 0 where
+  pub long : length rows ≡ ROWS
+  pub right : (p : Plan) → WellFormed p → Represents kind from kids order conds n p → (m : ℕ) → Node p m → m ≢ 0
       → Right p rows m

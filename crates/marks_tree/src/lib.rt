@@ -10,7 +10,7 @@ ghost use Rattle.tables.specs.Represents.{AtGroup};
 ghost use Rattle.marks_row.specs.Columns.{ROWS};
 ghost use Rattle.tables.specs.Sizes.{NODES};
 ghost use Rattle.marks_tree.specs.Clobbers.{AllOfRow, OpenLiterals, clobberOf, Ored};
-ghost use Rattle.marks_tree.specs.Filled.{OfAny, ChildrenTo, Filled, TasksFilled, AllFilled};
+ghost use Rattle.marks_tree.specs.Filled.{OfAny, ChildrenTo, Filled, TasksFilled, AllFilled, BelowFilled};
 use base::kinds::ALL_OF;
 use base::kinds::TASK;
 use base::wide;
@@ -228,4 +228,22 @@ pub fn node_rows(
 {
     task_rows(kind, conds, rows, n);
     group(kind, from, kids, order, rows, n, 0);
+}
+
+// Works out the rows of all nodes but the root: those of the tasks, then those of the groups from its children down.
+pub fn rows_below(
+    kind: &Nodes,
+    from: &Starts,
+    kids: &Nodes,
+    order: &Orders,
+    conds: &Conditions,
+    rows: &mut Rows,
+    n: usize,
+)
+    requires { ⌜ AtGroup (now from) (now kids) n 0 × (length (now rows) ≡ ROWS) ⌝ }
+    ensures { λ r. ⌜ BelowFilled (now (kind .entry)) (now (from .entry)) (now (kids .entry)) (now (order .entry))
+        (now (conds .entry)) (now (rows .exit)) n ⌝ }
+{
+    task_rows(kind, conds, rows, n);
+    groups_under(kind, from, kids, order, rows, n, 0);
 }
