@@ -11,7 +11,8 @@ use Rattle.plan_format.specs.Format.{nodeCount, condCount, orderCount}
 use Rattle.plan_rules.specs.Rules.{refusal}
 use Rattle.plan_rules.proofs.Causes.{usable}
 use Rattle.plan_check.proofs.Accepted.{Clean}
-use Rattle.table_orders.proofs.Chains.{sorted}
+use Rattle.plan_check.proofs.Nodes.{node-is}
+use Rattle.table_orders.proofs.Chains.{AnyNode, sorted}
 use Rattle.table_orders.proofs.Table.{Tabled, tabled-none, tabled-more, tabled-all}
 use Rattle.plan_reader.specs.Items.{itemCount, itemOf}
 use Rattle.plan_reader.specs.declared.items.Item.{Item}
@@ -32,16 +33,16 @@ ordersTo b i = i - nodeCount b - condCount b
 
 pub record Drawn (b k o c : List ℕ) (i : ℕ) : Type 0 where
   pub kinds : Kinds b k (nodesTo b i)
-  pub codes : Tabled b o (ordersTo b i)
+  pub codes : Tabled b AnyNode o (ordersTo b i)
   pub words : Noted b c (condsTo b i)
 
 -- the same tables, with the numbers said in another way
 drawn : (b k o c : List ℕ) (i x y z : ℕ) → x ≡ nodesTo b i → y ≡ ordersTo b i → z ≡ condsTo b i → Kinds b k x
-    → Tabled b o y → Noted b c z → Drawn b k o c i
+    → Tabled b AnyNode o y → Noted b c z → Drawn b k o c i
 drawn b k o c i x y z e f g h t n =
     record {
       kinds = subst (λ (m : ℕ). Kinds b k m) e h;
-      codes = subst (λ (m : ℕ). Tabled b o m) f t;
+      codes = subst (λ (m : ℕ). Tabled b AnyNode o m) f t;
       words = subst (λ (m : ℕ). Noted b c m) g n;
     }
 
@@ -102,7 +103,8 @@ module _ (b : List ℕ) (u : Clean b) {i : ℕ} (r : Item) (e : r ≡ itemOf b i
         let w = stored (e ∙ item-order b j f) in
         let n : ordersTo b i ≡ j = omega arith in
         drawn b k′ o′ c′ (i + 1) (nodesTo b i) (j + 1) (condsTo b i) (omega arith) (omega arith) (omega arith)
-        (rw (w .1 .0) (d .kinds)) (tabled-more (sorted b u) m (subst (λ (x : ℕ). Tabled b o x) n (d .codes)) (w .0))
+        (rw (w .1 .0) (d .kinds))
+        (tabled-more (sorted b u) m tt tt (subst (λ (x : ℕ). Tabled b AnyNode o x) n (d .codes)) (w .0))
         (rw (w .1 .1) (d .words))
 
     pub drawn-more : i < itemCount b → Drawn b k′ o′ c′ (i + 1)
@@ -116,6 +118,7 @@ drawn-all b {k} {o} {c} r d =
     let z : condsTo b (nodeCount b + condCount b + orderCount b) ≡ condCount b = omega arith in
     record {
       kinds = kinds-all r (subst (λ (n : ℕ). Kinds b k n) x (d .kinds));
-      orders = tabled-all r (subst (λ (n : ℕ). Tabled b o n) y (d .codes));
+      orders = tabled-all r (node-is b) (λ x y. (λ q. (q, (tt, tt)), λ q. q .0))
+          (subst (λ (n : ℕ). Tabled b AnyNode o n) y (d .codes));
       conditions = noted-all r (subst (λ (n : ℕ). Noted b c n) z (d .words));
     }

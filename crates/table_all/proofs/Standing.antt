@@ -7,6 +7,7 @@ use mathlib.Core.List.{List}
 use Prim.Native.Nat.{ℕ, _<_}
 use native.Mathlib.Decide.{decLt}
 use native.Mathlib.Omega.{arith}
+use lib.Dec.{T}
 use borrow.Author.Tests.{lt-ltb, le-ltb}
 use Rattle.node_sets.specs.Sets.{marked}
 use Rattle.plan_format.specs.Format.{nodeCount}
@@ -22,19 +23,36 @@ use Rattle.runs.specs.Blocked.{Stands}
 use Rattle.runs.specs.Branches.{Blocks}
 use Rattle.runs.specs.Model.Blocked.{within, over, stands, without}
 use Rattle.runs.proofs.Reflect.{true-T}
-use Rattle.runs.proofs.Blocked.Standing.{r-stands}
+use Rattle.runs.proofs.Blocked.Standing.{r-stands, r-standing-order}
 use Rattle.runs.proofs.Blocked.Branches.{before-standing}
-use Rattle.tables.specs.Represents.{Represents, RepresentsTree}
+use Rattle.tables.specs.Represents.{Represents, RepresentsTree, RepresentsOrder}
 use Rattle.plan_blocked.specs.Inner.{Standing}
+use Rattle.table_orders.specs.Among.{OrdersAmong}
 use Rattle.table_children.specs.Children.{planWith}
 use Rattle.table_all.specs.Filled.{ItemsOf}
 
-module _ (b : List ℕ) (ok : refusal b ≡ 0) (S : ℕ → Bool) (blocks : Blocks (planOf b) S) where
+module _ (b : List ℕ) (ok : refusal b ≡ 0) (S : ℕ → Bool) where
   w : WellFormed (planOf b)
   w = means-well-formed b ok
 
   standing : {i : ℕ} → Node (without (planOf b) S) i → Stands (planOf b) S i
   standing {i} l = (r-stands (planOf b) w S i) .to l
+
+  -- whatever is absent, the orders between nodes that stand are those of the plan that is left
+  pub orders-left : {table order : List ℕ} → Standing b S table → OrdersAmong b table order
+      → RepresentsOrder order (without (planOf b) S)
+  orders-left {table} h o = o .represents (without (planOf b) S) (λ n l. node-is b n (standing l .node))
+      (λ x y. let r = r-standing-order (planOf b) w S x y in (
+        λ t. let z = r .to t in (z .0, (mark (z .1 .0), mark (z .1 .1))),
+        λ z. let e = w .order-group x y (z .0) in
+            r .from (z .0, (stand (e .2 .node) (z .1 .0), stand (e .3 .node) (z .1 .1))),
+      ))
+    where
+      mark : {x : ℕ} → Stands (planOf b) S x → T (marked table x)
+      mark {x} s = rw (h .is x (node-is b x (s .node))) ((r-stands (planOf b) w S x) .from s)
+
+      stand : {x : ℕ} → Node (planOf b) x → T (marked table x) → Stands (planOf b) S x
+      stand {x} l t = (r-stands (planOf b) w S x) .to (rw (← h .is x (node-is b x l)) t)
 
   -- the nodes that the table marks are those that stand
   same-nodes : {table : List ℕ} → Standing b S table
@@ -47,10 +65,10 @@ module _ (b : List ℕ) (ok : refusal b ≡ 0) (S : ℕ → Bool) (blocks : Bloc
       past : (c : ℕ) → ¬ (c < nodeCount b) → stands (planOf b) S c ≡ false
       past c n = not-passed _ (λ y. n (node-is b c ((r-stands (planOf b) w S c) .to (true-T _ y) .node)))
 
-  pub left-represented : {table kind from kids order conds : List ℕ} → Standing b S table → ItemsOf b kind order conds
-      → RepresentsTree from kids (nodeCount b) (planWith b table)
+  pub left-represented : Blocks (planOf b) S → {table kind from kids order conds : List ℕ} → Standing b S table
+      → ItemsOf b kind order conds → RepresentsTree from kids (nodeCount b) (planWith b table)
       → Represents kind from kids order conds (nodeCount b) (without (planOf b) S)
-  left-represented {table} {from = from} {kids} h i t = record {
+  left-represented blocks {table} {from = from} {kids} h i t = record {
     kinds = record { is = λ n l. i .kinds .is n (standing l .node) };
     tree = record { size = tree .size; children = λ g l. record { child = tree .children g l .child } };
     orders = record {

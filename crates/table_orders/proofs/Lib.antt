@@ -2,3 +2,4 @@
 pub mod Links
 pub mod Chains
 pub mod Table
+pub mod Among

@@ -1,10 +1,20 @@
-// The table of relation codes: what one order adds to it.
+// The table of relation codes: what one order adds to it; all orders between nodes that stand.
 ghost use mathlib.Core.Path.{_≡_};
+ghost use mathlib.Core.Bool.{_&&_};
 ghost use Prim.Native.Nat.{_<_};
 ghost use lib.ListN.{length};
+ghost use Rattle.base.specs.Zeros.{Zeros};
 ghost use Rattle.tables.specs.Sizes.{NODES, PAIRS};
+ghost use Rattle.node_sets.specs.Sets.{marked};
+ghost use Rattle.plan_rules.specs.Rules.{refusal};
 ghost use Rattle.table_orders.specs.Links.{Linked, Leading};
+ghost use Rattle.table_orders.specs.Among.{OrdersAmong};
+use base::wide;
+use plan_format::fields::earlier;
+use plan_format::fields::later;
+use plan_format::fields::orders;
 use tables::NODES;
+use tables::Nodes;
 use tables::Orders;
 use tables::codes::AFTER;
 use tables::codes::BEFORE;
@@ -32,4 +42,30 @@ pub fn link_all(order: &mut Orders, a: usize, b: usize)
         c += 1;
     }
     link(order, a, b);
+}
+
+// Whether two nodes stand.
+fn both_stand(standing: &Nodes, a: usize, b: usize) -> bool
+    requires { ⌜ (a < NODES) × (b < NODES) ⌝ }
+    ensures { λ r. ⌜ r ≡ (marked (now (standing .entry)) a && marked (now (standing .entry)) b) ⌝ }
+{
+    (standing[a] == 1) & (standing[b] == 1)
+}
+
+// Puts the orders of an accepted plan into a blank table, those between nodes that stand. An order of which a node does
+// not stand puts nothing before anything.
+pub fn fill_orders(plan: &[u8], standing: &Nodes, order: &mut Orders)
+    requires { ⌜ (refusal (now plan) ≡ 0) × Zeros PAIRS (now order) ⌝ }
+    ensures { λ r. ⌜ OrdersAmong (now (plan .entry)) (now (standing .entry)) (now (order .exit)) ⌝ }
+{
+    let n = orders(plan);
+    let mut i = 0;
+    while i < n {
+        let a = wide(earlier(plan, i));
+        let b = wide(later(plan, i));
+        if both_stand(standing, a, b) {
+            link_all(order, a, b);
+        }
+        i += 1;
+    }
 }
