@@ -7,7 +7,11 @@ mod lists;
 mod summaries;
 mod together;
 
+use std::num::NonZeroUsize;
 use std::ops::RangeInclusive;
+use std::panic::resume_unwind;
+use std::sync::atomic::{AtomicUsize, Ordering};
+use std::thread::{self, available_parallelism};
 use std::time::Instant;
 
 use reference::tools::scenario::tally::Tally;
@@ -94,14 +98,41 @@ const MET: [(&str, usize, &[RangeInclusive<u32>]); 9] = [
     ("listing", 20, &[1..=15, 256..=256]),
 ];
 
-fn main() {
-    let mut all = Tally::default();
-    for (topic, run) in TOPICS {
+/// The topics that one thread takes, each once it is done with the last: their comparisons and seconds.
+fn take(next: &AtomicUsize) -> Vec<(usize, Tally, f32)> {
+    let mut taken = Vec::new();
+    loop {
+        let topic = next.fetch_add(1, Ordering::Relaxed);
+        let Some((_, run)) = TOPICS.get(topic) else {
+            return taken;
+        };
         let begin = Instant::now();
         let mut tally = Tally::default();
         run(&mut tally);
-        let (total, seconds) = (tally.total(), begin.elapsed().as_secs_f32());
-        println!("{topic:40}{total:8} comparisons, {seconds:.1} s");
+        taken.push((topic, tally, begin.elapsed().as_secs_f32()));
+    }
+}
+
+/// All topics, over the machine's cores, in their order.
+fn topics() -> Vec<(usize, Tally, f32)> {
+    let cores = available_parallelism().map_or(1, NonZeroUsize::get);
+    let next = AtomicUsize::new(0);
+    let mut all = thread::scope(|scope| {
+        let threads: Vec<_> = (0..cores).map(|_| scope.spawn(|| take(&next))).collect();
+        let joined = threads.into_iter().map(|thread| thread.join());
+        joined
+            .flat_map(|taken| taken.unwrap_or_else(|cause| resume_unwind(cause)))
+            .collect::<Vec<_>>()
+    });
+    all.sort_by_key(|(topic, ..)| *topic);
+    all
+}
+
+fn main() {
+    let mut all = Tally::default();
+    for (topic, tally, seconds) in topics() {
+        let (name, total) = (TOPICS[topic].0, tally.total());
+        println!("{name:40}{total:8} comparisons, {seconds:.1} s");
         all.add(&tally);
     }
     println!("{all}");
