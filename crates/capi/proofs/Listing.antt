@@ -11,9 +11,9 @@ use Rattle.base.specs.Answers.{refusedOr}
 use Rattle.base.proofs.First.{both-none}
 use Rattle.answers.specs.declared.Written.{Written}
 use Rattle.answers.specs.Written.{told}
-use Rattle.listing.specs.Model.{textOf}
+use Rattle.text_listing.specs.Model.{textOf}
 use Rattle.listing.specs.Listing.{listingRefusal, listedOf, Lists}
-use Rattle.listing.proofs.Text.{text-fits}
+use Rattle.text_listing.proofs.Text.{text-fits}
 use Rattle.listing.proofs.Answers.{said-value}
 use Rattle.capi_numbers.specs.Inner.{Short}
 

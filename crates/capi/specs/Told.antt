@@ -15,8 +15,8 @@ use Rattle.runs.specs.Violations.{NeverViolates, NeverCompletes}
 use Rattle.run_state.specs.State.{statusIn, stateRefusalUnder}
 use Rattle.run_monitor.specs.Status.{COMPLETE, statusAnswer}
 use Rattle.verdict.specs.Verdict.{answerOf}
-use Rattle.listing.specs.Model.{textOf}
-use Rattle.listing.specs.Sentences.{IsListing}
+use Rattle.text_listing.specs.Model.{textOf}
+use Rattle.text_listing.specs.Sentences.{IsListing}
 use Rattle.listing.specs.Listing.{listedOf, listingLeft}
 use Rattle.capi_numbers.specs.Numbers.{verdictNumber, statusNumber, writtenNumber}
 

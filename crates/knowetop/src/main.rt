@@ -1,18 +1,21 @@
 // Reads a plan from standard input, and prints its listing or its refusal.
 use libc::STDOUT_FILENO;
+use listing::Page;
 use listing::print;
 ghost use mathlib.Core.Path.{_≡_};
 ghost use lib.ListN.{length};
 
 // 5,136 bytes for the longest plan, and one more to tell a longer input.
-fn room() -> [u8; 5137]
+type Input = [u8; 5137];
+
+fn room() -> Input
     ensures { λ r. ⌜ 5137 ≡ length r ⌝ }
 {
     [0u8; 5137]
 }
 
 // What is printed has at most 2,048 bytes.
-fn page() -> [u8; 2048]
+fn page() -> Page
     ensures { λ r. ⌜ 2048 ≡ length r ⌝ }
 {
     [0u8; 2048]

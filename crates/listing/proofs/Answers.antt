@@ -17,10 +17,13 @@ use Rattle.plan_rules.specs.Rules.{refusal}
 use Rattle.text_decimals.specs.Decimals.{written, Wrote}
 use Rattle.text_decimals.proofs.Written.{wrote-long, wrote-same}
 use Rattle.plan_check.proofs.Accepted.{clean}
-use Rattle.listing.specs.Model.{textOf, refusedText, printed}
+use Rattle.text_listing.specs.Model.{textOf}
+use Rattle.text_listing.proofs.Text.{text-fits}
+use Rattle.text_listing.proofs.Sentences.{listing-is}
+use Rattle.listing.specs.Model.{refusedText, printed}
 use Rattle.listing.specs.Listing.{listingRefusal, listedOf, listingLeft, Lists, Prints}
-use Rattle.listing.proofs.Sentences.{listing-is, refusal-is}
-use Rattle.listing.proofs.Text.{text-fits, refusal-limit, refused-length, printed-text, printed-refused}
+use Rattle.listing.proofs.Refused.{refusal-is}
+use Rattle.listing.proofs.Printed.{refusal-limit, refused-length, printed-text, printed-refused}
 
 -- what an answer says of the refusal
 pub said-value : {A : Type 0} (r : ℕ) (x v : A) → inr v ≡ refusedOr r x → (r ≡ 0) × (v ≡ x)

@@ -14,7 +14,7 @@ use Rattle.base.proofs.Booleans.{either}
 use Rattle.plan_rules.proofs.Causes.{limits}
 use Rattle.plan_check.proofs.Chain.{second, third}
 use Rattle.listing.specs.Model.{refusedText, printed}
-use Rattle.listing.proofs.Text.{printed-refused}
+use Rattle.listing.proofs.Printed.{printed-refused}
 
 module _ (xs : List ℕ) (long : 5137 < length xs) where
   front : List ℕ

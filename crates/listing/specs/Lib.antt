@@ -1,5 +1,4 @@
 -- The listing, and all that the program prints.
-pub mod Text
+pub mod Refused
 pub mod Model
-pub mod Sentences
 pub mod Listing

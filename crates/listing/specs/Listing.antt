@@ -11,8 +11,10 @@ use Rattle.answers.specs.declared.Written.{Written}
 use Rattle.answers.specs.Written.{told}
 use Rattle.plan_rules.specs.Rules.{refusal}
 use Rattle.text_decimals.specs.Decimals.{written, Wrote}
-use Rattle.listing.specs.Model.{textOf, printed}
-use Rattle.listing.specs.Sentences.{IsListing, IsRefusal}
+use Rattle.text_listing.specs.Model.{textOf}
+use Rattle.text_listing.specs.Sentences.{IsListing}
+use Rattle.listing.specs.Refused.{IsRefusal}
+use Rattle.listing.specs.Model.{printed}
 
 -- 1 to 14; 15: under 2,048 bytes
 unfoldable pub listingRefusal : List ℕ → List ℕ → ℕ

@@ -5,7 +5,7 @@ use lib.ListN.{length}
 use denote.Ref.{now}
 use Rattle.text_decimals.proofs.Written.{wrote-long, wrote-then, wrote-same}
 use Rattle.text_lines.proofs.Text.{ending-limit}
-use Rattle.listing.proofs.Text.{refused-is}
+use Rattle.listing.proofs.Printed.{refused-is}
 use Rattle.listing.proofs.Answers.{text-answered, refused-answered, prints}
 use native.Mathlib.Omega.{arith}
 use borrow.Author.Needs.{needs}

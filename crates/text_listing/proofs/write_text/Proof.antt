@@ -6,12 +6,12 @@ use Rattle.plan_check.proofs.Accepted.{clean}
 use Rattle.verdict.specs.Verdict.{wordOf}
 use Rattle.text_decimals.proofs.Written.{wrote-long, wrote-then, wrote-same}
 use Rattle.text_lines.specs.Model.{ending}
-use Rattle.listing.specs.Text.{letters}
-use Rattle.listing.proofs.Text.{letters-limit, root-limit, text-is}
+use Rattle.text_listing.specs.Text.{letters}
+use Rattle.text_listing.proofs.Text.{letters-limit, root-limit, text-is}
 use native.Mathlib.Omega.{arith}
 use borrow.Author.Needs.{needs}
-use Rattle.listing.proofs.write_text.Statement.{statement}
-use Rattle.listing.proofs.write_text.Tie as tie
+use Rattle.text_listing.proofs.write_text.Statement.{statement}
+use Rattle.text_listing.proofs.write_text.Tie as tie
 
 end-line-requires : tie.Need-end-line-requires
 end-line-requires c κs =

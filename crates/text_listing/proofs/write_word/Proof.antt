@@ -3,10 +3,10 @@ use mathlib.Core.Path.{sym, ap}
 use Rattle.verdict.specs.declared.Verdict.{Verdict}
 use Rattle.verdict.specs.Verdict.{wordOf}
 use Rattle.text_decimals.proofs.Written.{wrote-same}
-use Rattle.listing.specs.Text.{letters}
+use Rattle.text_listing.specs.Text.{letters}
 use borrow.Author.Needs.{needs}
-use Rattle.listing.proofs.write_word.Statement.{statement}
-use Rattle.listing.proofs.write_word.Tie as tie
+use Rattle.text_listing.proofs.write_word.Statement.{statement}
+use Rattle.text_listing.proofs.write_word.Tie as tie
 
 returns : tie.Need-returns
 returns c = wrote-same (ap (λ (v : Verdict). letters (wordOf v))

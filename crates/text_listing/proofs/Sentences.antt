@@ -1,7 +1,7 @@
--- The computed text is the listing that 01 describes, and no other is; the same of a refusal. Assumes nothing.
+-- The computed text is the listing that 01 describes, and no other is. Assumes nothing.
 use mathlib.Core.Path.{_≡_, refl, sym, ap, _∙_}
 use mathlib.Core.Logic.{_↔_}
-use mathlib.Core.List.{List, [], _∷_, _++_, append-nil}
+use mathlib.Core.List.{List, _∷_, _++_}
 use Prim.Native.Nat.{ℕ}
 use Rattle.plan_rules.specs.Rules.{refusal}
 use Rattle.plan_check.specs.Meaning.{planOf, startOf}
@@ -16,11 +16,11 @@ use Rattle.text_decimals.specs.Model.{decimal}
 use Rattle.text_decimals.proofs.Decimals.{plain, plain-only}
 use Rattle.text_order.specs.Model.{ranking}
 use Rattle.text_order.proofs.Order.{arranged, arranged-node, arranged-only}
-use Rattle.text_lines.specs.Model.{ending, linesOf}
+use Rattle.text_lines.specs.Model.{linesOf}
 use Rattle.text_lines.proofs.Text.{ending-then, task-lines, lines-only}
-use Rattle.listing.specs.Text.{letters, refusedLetters}
-use Rattle.listing.specs.Model.{firstLine, textOf, refusedText}
-use Rattle.listing.specs.Sentences.{IsListing, IsRefusal}
+use Rattle.text_listing.specs.Text.{letters}
+use Rattle.text_listing.specs.Model.{firstLine, textOf}
+use Rattle.text_listing.specs.Sentences.{IsListing}
 
 is-listing : (b : List ℕ) → refusal b ≡ 0 → IsListing b (textOf b)
 unfolding textOf firstLine
@@ -61,20 +61,3 @@ listing-only {b} e h =
 
 pub listing-is : (b : List ℕ) → refusal b ≡ 0 → (s : List ℕ) → IsListing b s ↔ (s ≡ textOf b)
 listing-is b e s = (listing-only e, λ q. rw q (is-listing b e))
-
-is-refusal : (n : ℕ) → IsRefusal n (refusedText n)
-unfolding refusedText
-is-refusal n = record {
-  digits = decimal n;
-  plain = plain n;
-  text = sym (append-nil (refusedLetters ++ ending n))
-      ∙ ending-then refusedLetters n [];
-}
-
-refusal-only : {n : ℕ} {s : List ℕ} → IsRefusal n s → s ≡ refusedText n
-unfolding is-refusal
-refusal-only {n} h = h .text ∙ ap (λ (xs : List ℕ). refusedLetters ++ 32 ∷ xs ++ 10 ∷ []) (plain-only (h .plain))
-    ∙ sym (is-refusal n .text)
-
-pub refusal-is : (n : ℕ) (s : List ℕ) → IsRefusal n s ↔ (s ≡ refusedText n)
-refusal-is n s = (refusal-only, λ q. rw q (is-refusal n))

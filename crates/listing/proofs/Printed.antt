@@ -1,4 +1,4 @@
--- The text: how long it can be, and which one is printed. Assumes nothing.
+-- What is printed, accepted and refused. Assumes nothing.
 use mathlib.Core.Path.{_≡_, refl}
 use mathlib.Core.Bool.{Bool, true, false, cond}
 use mathlib.Core.List.{List, _++_}
@@ -8,37 +8,11 @@ use lib.ListN.{length, length-append}
 use borrow.Author.Tests.{ne-eqb}
 use Rattle.plan_rules.specs.Rules.{refusal, cause1, cause2, cause3, cause4, cause5, cause6, cause7, cause8, cause9}
 use Rattle.plan_rules.specs.Rules.{cause10, cause11, cause12, cause13, cause14}
-use Rattle.plan_check.specs.Meaning.{planOf, startOf}
-use Rattle.plan_check.proofs.Accepted.{Clean}
-use Rattle.runs.specs.Verdict.{Verdict, CLEAR, DOOMED, OPEN}
-use Rattle.runs.specs.Model.Verdicts.{verdict}
-use Rattle.wait_lengths.specs.Waits.{lengthOf, longestWait}
-use Rattle.wait_lengths.proofs.Bounds.{end-limit}
-use Rattle.text_order.specs.Model.{ranking}
-use Rattle.text_lines.specs.Model.{ending, linesOf}
-use Rattle.text_lines.proofs.Text.{ending-limit, lines-limit}
-use Rattle.listing.specs.Text.{letters, refusedLetters}
-use Rattle.listing.specs.Model.{firstLine, textOf, refusedText, printed}
-
-pub letters-limit : (v : Verdict) → length (letters v) ≤ 6
-letters-limit CLEAR = omega arith
-letters-limit DOOMED = omega arith
-letters-limit OPEN = omega arith
-
-pub root-limit : {b : List ℕ} → Clean b → length (ending (lengthOf b 0)) ≤ 9
-root-limit {b} ok = ending-limit (lengthOf b 0) (omega (arith, end-limit b ok 0 (ok .fits .limits .some-node)))
-
-pub text-fits : {b : List ℕ} → Clean b → length (textOf b) ≤ 1666
-unfolding textOf firstLine
-text-fits {b} ok =
-    omega (
-      arith,
-      length-append (firstLine b) (linesOf b (longestWait b) (ranking b)),
-      length-append (letters (verdict (planOf b) (startOf b))) (ending (lengthOf b 0)),
-      letters-limit (verdict (planOf b) (startOf b)),
-      root-limit ok,
-      lines-limit ok,
-    )
+use Rattle.text_lines.specs.Model.{ending}
+use Rattle.text_lines.proofs.Text.{ending-limit}
+use Rattle.text_listing.specs.Model.{textOf}
+use Rattle.listing.specs.Refused.{refusedLetters}
+use Rattle.listing.specs.Model.{refusedText, printed}
 
 cond-limit : (t : Bool) (k r : ℕ) → k ≤ 14 → r ≤ 14 → cond t k r ≤ 14
 cond-limit true k r l m = l
@@ -61,11 +35,6 @@ refusal-limit b =
     (cond-limit (cause12 b) 12 _ (omega arith)
     (cond-limit (cause13 b) 13 _ (omega arith)
     (cond-limit (cause14 b) 14 0 (omega arith) (omega arith))))))))))))))
-
-pub text-is : (b : List ℕ) → (letters (verdict (planOf b) (startOf b)) ++ ending (lengthOf b 0))
-    ++ linesOf b (longestWait b) (ranking b) ≡ textOf b
-unfolding textOf firstLine
-text-is b = refl
 
 pub refused-is : (n : ℕ) → refusedLetters ++ ending n ≡ refusedText n
 unfolding refusedText

@@ -1,14 +1,14 @@
--- The listing, and what is printed of a refused plan, in 01's words. Definitions only.
+-- The listing in 01's words. Definitions only.
 use Prim.Native.Nat.{ℕ}
 use mathlib.Core.Path.{_≡_}
-use mathlib.Core.List.{List, [], _∷_, _++_}
+use mathlib.Core.List.{List, _∷_, _++_}
 use Rattle.plan_check.specs.Meaning.{planOf, startOf}
 use Rattle.runs.specs.Verdict.{Verdict, Judged}
 use Rattle.wait_lengths.specs.Sentences.{Times}
 use Rattle.text_decimals.specs.Decimals.{Plain}
 use Rattle.text_order.specs.Order.{Arranged}
 use Rattle.text_lines.specs.Lines.{TaskLines}
-use Rattle.listing.specs.Text.{letters, refusedLetters}
+use Rattle.text_listing.specs.Text.{letters}
 
 -- s is the listing of an accepted plan
 pub record IsListing (b s : List ℕ) : Type 0 where
@@ -30,9 +30,3 @@ pub record IsListing (b s : List ℕ) : Type 0 where
   pub each : TaskLines b longest tasks lines
   -- first line: answer, space, root's length, byte 10; then each task
   pub text : s ≡ letters verdict ++ 32 ∷ digits ++ 10 ∷ lines
-
--- s is what is printed of a plan with refusal n: REFUSED, space, number, byte 10
-pub record IsRefusal (n : ℕ) (s : List ℕ) : Type 0 where
-  pub digits : List ℕ
-  pub plain : Plain n digits
-  pub text : s ≡ refusedLetters ++ 32 ∷ digits ++ 10 ∷ []

@@ -3,8 +3,8 @@ use borrow.Author.Needs.{needs}
 use Rattle.plan_check.proofs.Accepted.{clean}
 use Rattle.table_children.proofs.Whole.{whole-tree}
 use Rattle.verdict.proofs.Judging.{of-marks, whole-verdict}
-use Rattle.listing.proofs.write_listing.Statement.{statement}
-use Rattle.listing.proofs.write_listing.Tie as tie
+use Rattle.text_listing.proofs.write_listing.Statement.{statement}
+use Rattle.text_listing.proofs.write_listing.Tie as tie
 
 marks-requires : tie.Need-marks-and-children-requires
 marks-requires c κs =
