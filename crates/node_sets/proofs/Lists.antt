@@ -24,23 +24,31 @@ among-at [] i m = absurd (omega arith)
 among-at (x ∷ l) zero m = here refl
 among-at (x ∷ l) (suc i) m = there (among-at l i (omega arith))
 
+-- ---- the loop `while i < n { if g(ts[i]) { return true; } i += 1; } false`, over any test g
+-- what it knows at i: it is not past the list, and something passes exactly if something from i on does
+pub record UnfoundIn (ts : List ℕ) (g : ℕ → Bool) (i : ℕ) : Type 0 where
+  pub within : i ≤ length ts
+  pub rest : anyIn ts g ≡ anyIn (drop i ts) g
+
+pub read-starts : {ts : List ℕ} {g : ℕ → Bool} → UnfoundIn ts g 0
+read-starts = record { within = omega arith; rest = refl }
+
+-- a turn, where the code has t for the test of element i: it returns, or goes on
+module _ {ts : List ℕ} {g : ℕ → Bool} {i : ℕ} {t : Bool} (u : UnfoundIn ts g i) (l : i < length ts)
+    (e : t ≡ g (getD ts i 0)) where
+  pub read-finds : t ≡ true → true ≡ anyIn ts g
+  unfolding anyIn either
+  read-finds y = sym (u .rest ∙ rw (drop-cons ts i 0 l, sym e ∙ y))
+
+  pub read-goes-on : t ≡ false → UnfoundIn ts g (i + 1)
+  unfolding anyIn either
+  read-goes-on y = record { within = omega arith; rest = u .rest ∙ rw (drop-cons ts i 0 l, sym e ∙ y, add-one i) }
+
+pub read-ends : {ts : List ℕ} {g : ℕ → Bool} {i : ℕ} → UnfoundIn ts g i → length ts ≤ i → false ≡ anyIn ts g
+unfolding anyIn
+read-ends {ts} {i = i} u l = let e : i ≡ length ts = omega arith in sym (u .rest ∙ rw (e, drop-none ts))
+
 module _ (ts : List ℕ) where
-  -- ---- some number passes a test
-  module _ (g : ℕ → Bool) where
-    pub some-here : (i : ℕ) → i < length ts → anyIn ts g ≡ anyIn (drop i ts) g → g (getD ts i 0) ≡ true
-        → true ≡ anyIn ts g
-    unfolding anyIn either
-    some-here i l h y = sym (h ∙ rw (drop-cons ts i 0 l, y))
-
-    pub some-later : (i : ℕ) → i < length ts → anyIn ts g ≡ anyIn (drop i ts) g → g (getD ts i 0) ≡ false
-        → anyIn ts g ≡ anyIn (drop (i + 1) ts) g
-    unfolding anyIn either
-    some-later i l h y = h ∙ rw (drop-cons ts i 0 l, y, add-one i)
-
-    pub some-none : (i : ℕ) → i ≡ length ts → anyIn ts g ≡ anyIn (drop i ts) g → false ≡ anyIn ts g
-    unfolding anyIn
-    some-none i e h = sym (h ∙ rw (e, drop-none ts))
-
   -- ---- it strictly rises: from the number before position i on
   drop-two : (i : ℕ) → 1 ≤ i → i < length ts → drop (i - 1) ts ≡ getD ts (i - 1) 0 ∷ getD ts i 0 ∷ drop (i + 1) ts
   drop-two i l m = let e : suc (i - 1) ≡ i = omega arith in drop-cons ts (i - 1) 0 (omega arith) ∙ rw (e, add-one i)

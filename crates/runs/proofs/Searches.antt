@@ -3,7 +3,7 @@ use mathlib.Core.Bool.{true≢false}
 use Prim.Native.Nat.{_-_}
 use native.Mathlib.Numerals.{add-one}
 use Rattle.runs.specs.Searches.{anyBelow, either}
-use Rattle.runs.proofs.Base.{_≡_, refl, sym, ap, _∙_, Bool, true, false, ℕ, suc, _+_, _<_, arith}
+use Rattle.runs.proofs.Base.{_≡_, refl, sym, ap, _∙_, Bool, true, false, ℕ, suc, _+_, _<_, _≤_, arith}
 use Rattle.runs.proofs.Reflect.{Reflects, r-map, r-any, true-T, T-true, same-test}
 
 reflected : (n : ℕ) (p : ℕ → Bool) → Reflects (anyBelow n p) ((i : ℕ) × (i < n) × (p i ≡ true))
@@ -40,7 +40,27 @@ not-last n p e = rw e
 pub none-more : (i : ℕ) (p : ℕ → Bool) → anyBelow i p ≡ false → p i ≡ false → anyBelow (i + 1) p ≡ false
 none-more i p a b = rw (add-one i) (not-last i p b ∙ a)
 
--- the same tests find the same
+-- ---- the loop `while i < n { if p(i) { return true; } i += 1; } false`, over any test p
+-- what it knows at i: it is not past n, and nothing below passes
+pub record Unfound (n : ℕ) (p : ℕ → Bool) (i : ℕ) : Type 0 where
+  pub within : i ≤ n
+  pub none : anyBelow i p ≡ false
+
+pub search-starts : {n : ℕ} {p : ℕ → Bool} → Unfound n p 0
+search-starts {n} {p} = record { within = omega arith; none = none-none p }
+
+-- a turn, where the code has t for the test at i: it returns, or goes on
+module _ {n i : ℕ} {p : ℕ → Bool} {t : Bool} (u : Unfound n p i) (l : i < n) (e : t ≡ p i) where
+  pub search-finds : t ≡ true → true ≡ anyBelow n p
+  search-finds y = sym (some-yes n p i l (sym e ∙ y))
+
+  pub search-goes-on : t ≡ false → Unfound n p (i + 1)
+  search-goes-on y = record { within = omega arith; none = none-more i p (u .none) (sym e ∙ y) }
+
+pub search-ends : {n i : ℕ} {p : ℕ → Bool} → Unfound n p i → n ≤ i → false ≡ anyBelow n p
+search-ends {n} {i} {p} u l = let e : i ≡ n = omega arith in sym (rw e at (u .none))
+
+-- ---- the same tests find the same
 pub some-same : (n : ℕ) (p q : ℕ → Bool) → ((i : ℕ) → i < n → p i ≡ q i) → anyBelow n p ≡ anyBelow n q
 some-same n p q h = same-test (anyBelow n p) (anyBelow n q) (reflected n p) (r-map (
   λ w. (w .0, w .1, h (w .0) (w .1) ∙ w .2),

@@ -1,34 +1,16 @@
 -- `plan_blocked::branchless` meets its contract. Assumes nothing.
-use mathlib.Core.Path.{_≡_, refl, sym, _∙_}
-use Prim.Native.Nat.{_≤_, _-_}
-use lib.ListN.{drop}
-use Rattle.node_sets.proofs.Lists.{among-at, some-here, some-later, some-none}
-use Rattle.runs.specs.Searches.{anyIn}
+use Prim.Native.Nat.{_-_}
+use Rattle.node_sets.proofs.Lists.{among-at, UnfoundIn, read-starts, read-finds, read-goes-on, read-ends}
 use Rattle.plan_blocked.specs.Branches.{emptiedAt}
 use native.Mathlib.Omega.{arith}
 use Rattle.plan_blocked.proofs.branchless.Statement.{statement}
 use Rattle.plan_blocked.proofs.branchless.Tie as tie
 
 abbrev Inv-loop : tie.InvT-loop
-Inv-loop plan list standing marks n i₀ i = (i ≤ n)
-    × (anyIn list (emptiedAt plan standing marks) ≡ anyIn (drop i list) (emptiedAt plan standing marks))
+Inv-loop plan list standing marks n i₀ i = UnfoundIn list (emptiedAt plan standing marks) i
 
 abbrev μ-loop : tie.MeasureT-loop
 μ-loop plan list standing marks n i₀ i = n - i
-
-returns : tie.Need-returns Inv-loop μ-loop
-returns c = let l = c .before .before .before .before in some-here _ _ (l .loop .i) (omega arith) (l .loop .inv .1)
-    (sym (c .before .emptied .ensures) ∙ c .if1 .taken)
-
-loop-again : tie.Need-loop-again Inv-loop μ-loop
-loop-again c =
-    let l = c .before .before .before .before in (
-      omega arith,
-      some-later _ _ (l .loop .i) (omega arith) (l .loop .inv .1) (sym (c .before .emptied .ensures) ∙ c .if1 .left),
-    )
-
-returns-2 : tie.Need-returns-2 Inv-loop μ-loop
-returns-2 c = some-none _ _ (c .before .loop .i) (omega arith) (c .before .loop .inv .1)
 
 pub branchless-spec : {M : Type 1} → statement M
 branchless-spec =
@@ -36,12 +18,18 @@ branchless-spec =
     (tie.spec
     Inv-loop
     μ-loop
-    (λ c. (omega arith, refl))
+    (λ c. read-starts)
     (λ c. omega arith)
     (λ c. omega arith)
-    (λ c κs. (c .before .before .before .before .before .pre .0, c .before .before .before .before .before .pre .1 _ (among-at _ _ (omega arith))))
-    returns
+    (λ c κs. (
+      c .before .before .before .before .before .pre .0,
+      c .before .before .before .before .before .pre .1 _
+          (among-at _ _ (omega arith)),
+    ))
+    (λ c. read-finds (c .before .before .before .before .loop .inv) (omega arith) (c .before .emptied .ensures)
+    (c .if1 .taken))
     (λ c. omega arith)
     (λ c. omega arith)
-    loop-again
-    returns-2)
+    (λ c. read-goes-on (c .before .before .before .before .loop .inv) (omega arith) (c .before .emptied .ensures)
+    (c .if1 .left))
+    (λ c. read-ends (c .before .loop .inv) (omega arith)))

@@ -1,11 +1,10 @@
 -- `run_conditions::inc_broken` meets its contract. Assumes nothing.
-use mathlib.Core.Path.{_≡_, sym, ap, _∙_}
+use mathlib.Core.Path.{_≡_, ap, _∙_}
 use mathlib.Core.Bool.{true, false}
-use Prim.Native.Nat.{_≤_, _-_}
+use Prim.Native.Nat.{_-_}
 use denote.Ref.{now}
 use Rattle.plan_format.specs.Format.{condCount}
-use Rattle.runs.specs.Searches.{anyBelow}
-use Rattle.runs.proofs.Searches.{some-yes, none-more, none-none}
+use Rattle.runs.proofs.Searches.{Unfound, search-starts, search-finds, search-goes-on, search-ends}
 use Rattle.run_state.proofs.Passed.{has-room}
 use lib.ListN.{replicate}
 use mathlib.Core.List.{List}
@@ -19,8 +18,8 @@ use Rattle.run_conditions.proofs.inc_broken.Statement.{statement}
 use Rattle.run_conditions.proofs.inc_broken.Tie as tie
 
 abbrev Inv-loop : tie.InvT-loop
-Inv-loop plan state place tasks clear set n i₀ i = (i ≤ n)
-    × (anyBelow i (brokenAt plan state (clear .bytes) (set .bytes) (marked tasks)) ≡ false)
+Inv-loop plan state place tasks clear set n i₀ i = Unfound (condCount plan)
+    (brokenAt plan state (clear .bytes) (set .bytes) (marked tasks)) i
 
 abbrev μ-loop : tie.MeasureT-loop
 μ-loop plan state place tasks clear set n i₀ i = n - i
@@ -33,7 +32,7 @@ clear-is : (c : tie.After-all2 Inv-loop μ-loop) → let a = entry c .args in
     c .before .with-literals .result .bytes ≡ made (now (a .plan)) (a .place) (marked (now (a .tasks)))
     (replicate 8 (allByte false))
 clear-is c =
-    let a = c .before .before .before .before .before .args in
+    let a = entry c .args in
     c .before .with-literals .ensures
     ∙ ap (λ (x : List ℕ). made (now (a .plan)) (a .place) (marked (now (a .tasks))) x) (c .before .before .all .ensures)
 
@@ -41,36 +40,20 @@ set-is : (c : tie.After-with-literals2 Inv-loop μ-loop) → let a = entry (c .b
     c .with-literals2 .result .bytes ≡ made (now (a .plan)) (a .place) (marked (now (a .tasks)))
     (replicate 8 (allByte true))
 set-is c =
-    let a = c .before .before .before .before .before .before .args in
+    let a = entry (c .before) .args in
     c .with-literals2 .ensures ∙ ap (λ (x : List ℕ). made (now (a .plan)) (a .place) (marked (now (a .tasks))) x)
     (c .before .all2 .ensures)
-
-loop-holds : tie.Need-loop-holds Inv-loop μ-loop
-loop-holds c = (omega arith, none-none _)
-
-broken-at-requires : tie.Need-broken-at-requires Inv-loop μ-loop
-broken-at-requires c κs = (omega arith, c .before .before .before .before .before .before .before .before .before .pre)
 
 returns : tie.Need-returns Inv-loop μ-loop
 returns c =
     let l = c .before .before .before in
     rw (← clear-is (l .before .before .before), ← set-is (l .before .before))
-    (sym (some-yes (condCount _) _ (l .loop .i) (omega arith)
-    (sym (c .before .broken-at .ensures) ∙ c .if1 .taken)))
-
-loop-again : tie.Need-loop-again Inv-loop μ-loop
-loop-again c = (
-  omega arith,
-  none-more _ _ (c .before .before .before .loop .inv .1)
-      (sym (c .before .broken-at .ensures) ∙ c .if1 .left),
-)
+    (search-finds (l .loop .inv) (omega arith) (c .before .broken-at .ensures) (c .if1 .taken))
 
 returns-2 : tie.Need-returns-2 Inv-loop μ-loop
 returns-2 c =
     let l = c .before in
-    let e : l .loop .i ≡ condCount (now
-    (l .before .before .before .before .before .before .before .before .args .plan)) = omega arith in
-    rw (← clear-is (l .before .before .before), ← set-is (l .before .before)) (sym (rw e at (l .loop .inv .1)))
+    rw (← clear-is (l .before .before .before), ← set-is (l .before .before)) (search-ends (l .loop .inv) (omega arith))
 
 pub inc-broken-spec : {M : Type 1} → statement M
 inc-broken-spec =
@@ -83,10 +66,11 @@ inc-broken-spec =
     (λ c κs. tt)
     (λ c κs. has-room _ _ (c .before .before .before .before .before .pre) .accepted)
     (λ c κs. has-room _ _ (c .before .before .before .before .before .before .pre) .plan .fits .limits .long)
-    loop-holds
-    broken-at-requires
+    (λ c. search-starts)
+    (λ c κs. (omega arith, entry (c .before .before .before .before) .pre))
     returns
     (λ c. omega arith)
     (λ c. omega arith)
-    loop-again
+    (λ c. search-goes-on (c .before .before .before .loop .inv) (omega arith) (c .before .broken-at .ensures)
+    (c .if1 .left))
     returns-2)

@@ -1,43 +1,38 @@
 -- `ordinals_bad` meets its contract. Assumes nothing.
-use mathlib.Core.Path.{_≡_, sym, _∙_}
-use mathlib.Core.Bool.{false, not}
-use Prim.Native.Nat.{suc, _+_, _-_, _<_, _≤_}
+use mathlib.Core.Path.{_≡_, refl, sym, _∙_}
+use mathlib.Core.Bool.{true, false, not}
+use Prim.Native.Nat.{suc, _+_, _-_, _<_}
 use native.Mathlib.Numerals.{add-one}
 use native.Mathlib.Omega.{arith}
 use lib.ListN.{getD}
 use lib.Dec.{eqb}
 use borrow.Author.Tests.{eq-eqb, ne-eqb}
 use denote.Ref.{now}
-use Rattle.runs.specs.Searches.{anyBelow}
-use Rattle.runs.proofs.Searches.{some-yes, none-more, none-none}
+use Rattle.runs.proofs.Searches.{Unfound, search-starts, search-finds, search-goes-on, search-ends}
 use Rattle.run_starts.specs.Starts.{startedCount, holders, misnumbered}
 use Rattle.run_starts.proofs.Counts.{started-le}
 use Rattle.run_starts.proofs.ordinals_bad.Statement.{statement}
 use Rattle.run_starts.proofs.ordinals_bad.Tie as tie
 
 abbrev Inv-loop : tie.InvT-loop
-Inv-loop plan state m table k₀ k = (k ≤ m) × (anyBelow k (λ j. not (eqb (holders plan state (suc j)) 1)) ≡ false)
+Inv-loop plan state m table k₀ k = Unfound (startedCount plan state)
+    (λ j. not (eqb (holders plan state (suc j)) 1)) k
 
 abbrev μ-loop : tie.MeasureT-loop
 μ-loop plan state m table k₀ k = m - k
 
-loop-holds : tie.Need-loop-holds Inv-loop μ-loop
-loop-holds c = (omega arith, none-none _)
-
-below : (c : tie.In-loop Inv-loop μ-loop) → c .before .loop .k < 128
-below c =
-    let s = c .before .before .before .before .before .before in
-    omega (
-      arith,
-      c .loop-test .taken,
-      c .before .before .before .started .ensures,
-      started-le (now (s .args .plan)) (now (s .args .state)),
-      s .pre .plan .limits .nodes,
-    )
-
 -- what the call was given
 abbrev entry : tie.In-loop Inv-loop μ-loop → tie.Start Inv-loop μ-loop
 entry c = c .before .before .before .before .before .before
+
+-- the next ordinal is one of those given, and has a place in the table
+inside : (c : tie.In-loop Inv-loop μ-loop) → let a = entry c .args in
+    c .before .loop .k < startedCount (now (a .plan)) (now (a .state))
+inside c = omega (arith, c .loop-test .taken, c .before .before .before .started .ensures)
+
+below : (c : tie.In-loop Inv-loop μ-loop) → c .before .loop .k < 128
+below c = let s = entry c in
+    omega (arith, inside c, started-le (now (s .args .plan)) (now (s .args .state)), s .pre .plan .limits .nodes)
 
 -- an element of the table, by its number
 held : (c : tie.In-loop Inv-loop μ-loop) → getD (c .before .before .holders .result) (c .before .loop .k + 1) 0
@@ -47,28 +42,16 @@ held c = let l = below c in rw (add-one (c .before .loop .k))
 
 returns : tie.Need-returns Inv-loop μ-loop
 unfolding misnumbered
-returns c =
-    let l = c .before .before in
-    let s = l .before .before .before .before .before in
-    sym (some-yes (startedCount (now (s .args .plan)) (now (s .args .state))) _ (l .loop .k)
-    (omega (arith, c .before .loop-test .taken, l .before .before .started .ensures))
-    (rw (ne-eqb _ 1 (λ z. c .if1 .taken (held (c .before) ∙ z)))))
+returns c = search-finds {t = true} (c .before .before .loop .inv) (inside (c .before))
+    (sym (rw (ne-eqb _ 1 (λ z. c .if1 .taken (held (c .before) ∙ z))))) refl
 
 loop-again : tie.Need-loop-again Inv-loop μ-loop
-loop-again c = (
-  omega arith,
-  none-more _ _ (c .before .before .loop .inv .1)
-      (rw (eq-eqb _ 1 (sym (held (c .before)) ∙ c .if1 .left))),
-)
+loop-again c = search-goes-on {t = false} (c .before .before .loop .inv) (inside (c .before))
+    (sym (rw (eq-eqb _ 1 (sym (held (c .before)) ∙ c .if1 .left)))) refl
 
 returns-2 : tie.Need-returns-2 Inv-loop μ-loop
 unfolding misnumbered
-returns-2 c =
-    let l = c .before in
-    let a = l .before .before .before .before .before .args in
-    let e : l .loop .k ≡ startedCount (now (a .plan)) (now (a .state)) =
-    omega (arith, l .before .before .started .ensures) in
-    sym (rw e at (l .loop .inv .1))
+returns-2 c = search-ends (c .before .loop .inv) (omega (arith, c .before .before .before .started .ensures))
 
 pub ordinals-bad-spec : {M : Type 1} → statement M
 ordinals-bad-spec =
@@ -78,7 +61,7 @@ ordinals-bad-spec =
     μ-loop
     (λ c κs. c .before .before .pre)
     (λ c κs. c .before .before .before .pre)
-    loop-holds
+    (λ c. search-starts)
     (λ c. omega arith)
     (λ c. omega (arith, below c))
     returns

@@ -1,22 +1,20 @@
 -- `run_tasks::not_running` meets its contract. Assumes nothing.
-use mathlib.Core.Path.{_≡_, refl, ap}
+use mathlib.Core.Path.{_≡_, refl, sym, ap}
 use mathlib.Core.Bool.{true, false, not}
 use mathlib.Core.List.{List}
-use Prim.Native.Nat.{ℕ, _+_, _≤_, _<_, _-_}
-use lib.ListN.{length, getD, drop}
+use Prim.Native.Nat.{ℕ, _+_, _<_, _-_}
+use lib.ListN.{length, getD}
 use lib.Dec.{eqb}
 use denote.Ref.{now}
 use borrow.Author.Tests.{eq-eqb, ne-eqb}
-use Rattle.runs.specs.Searches.{anyIn}
 use Rattle.run_starts.specs.Starts.{nodeByte}
-use Rattle.node_sets.proofs.Lists.{among-at, some-here, some-later, some-none}
+use Rattle.node_sets.proofs.Lists.{among-at, UnfoundIn, read-starts, read-finds, read-goes-on, read-ends}
 use native.Mathlib.Omega.{arith}
 use Rattle.run_tasks.proofs.not_running.Statement.{statement}
 use Rattle.run_tasks.proofs.not_running.Tie as tie
 
 abbrev Inv-loop : tie.InvT-loop
-Inv-loop state tasks n i₀ i = (i ≤ n)
-    × (anyIn tasks (λ t. not (eqb (nodeByte state t) 1)) ≡ anyIn (drop i tasks) (λ t. not (eqb (nodeByte state t) 1)))
+Inv-loop state tasks n i₀ i = UnfoundIn tasks (λ t. not (eqb (nodeByte state t) 1)) i
 
 abbrev μ-loop : tie.MeasureT-loop
 μ-loop state tasks n i₀ i = n - i
@@ -36,34 +34,21 @@ inside : (c : tie.In-loop Inv-loop μ-loop)
     < length (now (c .before .before .args .state)))
 inside c = c .before .before .pre _ (among-at _ (c .before .loop .i) (omega arith))
 
-returns : tie.Need-returns Inv-loop μ-loop
-returns c =
-    let l = c .before .before .before .before in
-    some-here _ _ (l .loop .i) (omega arith) (l .loop .inv .1) (ap not (byte-other _ _ (omega (arith, c .if1 .taken))))
-
-loop-again : tie.Need-loop-again Inv-loop μ-loop
-loop-again c =
-    let l = c .before .before .before .before in (
-      omega arith,
-      some-later _ _ (l .loop .i) (omega arith) (l .loop .inv .1) (ap not (byte-same _ _ (c .if1 .left))),
-    )
-
-returns-2 : tie.Need-returns-2 Inv-loop μ-loop
-returns-2 c = some-none _ _ (c .before .loop .i) (omega arith) (c .before .loop .inv .1)
-
 pub not-running-spec : {M : Type 1} → statement M
 not-running-spec =
     tie.close
     (tie.spec
     Inv-loop
     μ-loop
-    (λ c. (omega arith, refl))
+    (λ c. read-starts)
     (λ c. omega arith)
     (λ c. omega arith)
     (λ c. omega (arith, inside (c .before) .0))
     (λ c. inside (c .before .before) .1)
-    returns
+    (λ c. read-finds {t = true} (c .before .before .before .before .loop .inv) (omega arith)
+    (sym (ap not (byte-other _ _ (omega (arith, c .if1 .taken))))) refl)
     (λ c. omega arith)
     (λ c. omega arith)
-    loop-again
-    returns-2)
+    (λ c. read-goes-on {t = false} (c .before .before .before .before .loop .inv) (omega arith)
+    (sym (ap not (byte-same _ _ (c .if1 .left)))) refl)
+    (λ c. read-ends (c .before .loop .inv) (omega arith)))
