@@ -24,10 +24,13 @@ loop-holds c =
     let ts = now (c .before .before .args .list) in
     (omega arith, (c .no-nodes .ensures .long, marked-none _ (c .no-nodes .ensures) ∙ ap listed (sym (drop-none ts))))
 
+-- what the call was given
+abbrev entry : tie.In-loop Inv-loop μ-loop → tie.Start Inv-loop μ-loop
+entry c = c .before .before .before .before
+
 -- the next task is a node's number
-inside : (c : tie.In-loop Inv-loop μ-loop)
-    → getD (now (c .before .before .before .before .args .list)) (c .before .loop .i - 1) 0 < 128
-inside c = c .before .before .before .before .pre _ (among-at _ (c .before .loop .i - 1) (omega arith))
+inside : (c : tie.In-loop Inv-loop μ-loop) → getD (now (entry c .args .list)) (c .before .loop .i - 1) 0 < 128
+inside c = entry c .pre _ (among-at _ (c .before .loop .i - 1) (omega arith))
 
 array-write-marks : tie.Need-array-write-marks Inv-loop μ-loop
 array-write-marks c = inside (c .before)
@@ -35,7 +38,7 @@ array-write-marks c = inside (c .before)
 loop-again : tie.Need-loop-again Inv-loop μ-loop
 loop-again c =
     let l = c .before .before .loop in
-    let ts = now (c .before .before .before .before .before .args .list) in
+    let ts = now (entry (c .before) .args .list) in
     let k : suc (l .i - 1) ≡ l .i = omega arith in (
       omega arith,
       (

@@ -33,15 +33,17 @@ loop-holds c =
 node-small : (c : tie.In-loop Inv-loop μ-loop) → c .before .loop .c < 128
 node-small c = omega (arith, clean _ (c .before .before .before .before .before .pre .0) .fits .limits .nodes)
 
+-- what the call was given
+abbrev entry : tie.After-wide Inv-loop μ-loop → tie.Start Inv-loop μ-loop
+entry c = c .before .before .before .before .before .before .before
+
 parent-is : (c : tie.After-wide Inv-loop μ-loop)
-    → c .wide .result ≡ parentOf (now (c .before .before .before .before .before .before .before .args .plan))
-    (c .before .before .before .loop .c)
+    → c .wide .result ≡ parentOf (now (entry c .args .plan)) (c .before .before .before .loop .c)
 parent-is c = c .wide .ensures .0 ∙ c .before .parent .ensures
 
 lower : (c : tie.After-wide Inv-loop μ-loop) → c .wide .result < c .before .before .before .loop .c
 lower c = let l = c .before .before .before in
-    parent-lower _ (l .before .before .before .before .pre .0) (l .loop .c) (c .wide .result) (l .loop .inv .0) (omega arith)
-    (parent-is c)
+    parent-lower _ (entry c .pre .0) (l .loop .c) (c .wide .result) (l .loop .inv .0) (omega arith) (parent-is c)
 
 small : (c : tie.After-wide Inv-loop μ-loop) → c .wide .result < 128
 small c = omega (arith, lower c, node-small (c .before .before))
@@ -50,21 +52,21 @@ loop-again : tie.Need-loop-again Inv-loop μ-loop
 unfolding marked
 loop-again c =
     let w = c .before .before .before in
-    let l = w .before .before .before in
-    let s = l .before .before .before .before in (
+    let i = w .before .before .before .loop .inv in
+    let ok = entry w .pre .0 in (
       omega arith,
       (
         omega arith,
         ⊎-elim
             (λ z. rw (z .1, z .2) (
-              stood-out _ (s .pre .0) _ (l .loop .inv .1 .1 .0) (l .loop .inv .0) (omega arith) (parent-is w) (z .0 .taken),
-              partly-same _ _ (l .loop .inv .1 .1 .1) (l .loop .inv .0) (omega arith)
-                  (absent-here _ (s .pre .0) _ (l .loop .inv .1 .1 .0) (l .loop .inv .0) (omega arith) (parent-is w) (z .0 .taken)),
+              stood-out _ ok _ (i .1 .1 .0) (i .0) (omega arith) (parent-is w) (z .0 .taken),
+              partly-same _ _ (i .1 .1 .1) (i .0) (omega arith)
+                  (absent-here _ ok _ (i .1 .1 .0) (i .0) (omega arith) (parent-is w) (z .0 .taken)),
             ))
             (λ z. rw (z .1, z .2) (
-              stood-in _ (s .pre .0) _ (l .loop .inv .1 .1 .0) (l .loop .inv .0) (omega arith) (parent-is w) (z .0 .left),
-              partly-more _ _ (l .loop .inv .1 .1 .1) (l .loop .inv .0) (omega arith) (w .wide .result) (parent-is w) (small w)
-                  (stands-here _ (s .pre .0) _ (l .loop .inv .1 .1 .0) (l .loop .inv .0) (omega arith) (parent-is w) (z .0 .left)),
+              stood-in _ ok _ (i .1 .1 .0) (i .0) (omega arith) (parent-is w) (z .0 .left),
+              partly-more _ _ (i .1 .1 .1) (i .0) (omega arith) (w .wide .result) (parent-is w) (small w)
+                  (stands-here _ ok _ (i .1 .1 .0) (i .0) (omega arith) (parent-is w) (z .0 .left)),
             ))
             (c .if1 .came),
       ),

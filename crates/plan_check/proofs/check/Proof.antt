@@ -10,11 +10,15 @@ use mathlib.Core.Path.{_≡_, sym, _∙_}
 use Rattle.plan_check.proofs.check.Statement.{statement}
 use Rattle.plan_check.proofs.check.Tie as tie
 
-in-limits : (c : tie.Else2) → cause2 (now (c .before .before .before .before .args .plan)) ≡ false
+-- what the call was given
+abbrev entry : tie.Else2 → tie.Start
+entry c = c .before .before .before .before
+
+in-limits : (c : tie.Else2) → cause2 (now (entry c .args .plan)) ≡ false
 in-limits c = sym (c .before .sizes-bad .ensures) ∙ c .if2 .left
 
-sized : (c : tie.Else2) → Limits (now (c .before .before .before .before .args .plan))
-sized c = limits (now (c .before .before .before .before .args .plan)) (omega arith) (in-limits c)
+sized : (c : tie.Else2) → Limits (now (entry c .args .plan))
+sized c = limits (now (entry c .args .plan)) (omega arith) (in-limits c)
 
 returns : tie.Need-returns
 returns c = first (now (c .before .before .args .plan)) (c .if1 .taken)
@@ -27,16 +31,16 @@ whole-length-requires : tie.Need-whole-length-requires
 whole-length-requires c κs = sized c
 
 returns-3 : tie.Need-returns-3
-returns-3 c = third (now (c .before .before .before .before .before .before .args .plan))
+returns-3 c = third (now (entry (c .before .before) .args .plan))
     (sized (c .before .before) .long) (in-limits (c .before .before)) (λ e. c .if3 .taken (omega arith))
 
 check-nodes-requires : tie.Need-check-nodes-requires
-check-nodes-requires c κs = whole (now (c .before .before .before .before .before .before .args .plan))
+check-nodes-requires c κs = whole (now (entry (c .before .before) .args .plan))
     (sized (c .before .before)) (omega arith)
 
 returns-4 : tie.Need-returns-4
 returns-4 c =
-    let e = rest (now (c .before .before .before .before .before .before .before .args .plan))
+    let e = rest (now (entry (c .before .before .before) .args .plan))
     (sized (c .before .before .before) .long) (in-limits (c .before .before .before)) (omega arith) in
     c .check-nodes .ensures ∙ e
 

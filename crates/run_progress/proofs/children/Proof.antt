@@ -20,23 +20,25 @@ abbrev μ-loop : tie.MeasureT-loop
 plan-clean : (c : tie.Start Inv-loop μ-loop) → Clean (now (c .args .plan))
 plan-clean c = has-room _ _ (c .pre) .plan
 
--- the node of this turn and its parent
-place : (c : tie.After-wide Inv-loop μ-loop) →
-    c .before .before .before .before .before .nodes .result - 1 - c .before .before .before .loop .m
-    ≡ nodeCount (now (c .before .before .before .before .before .before .before .before .args .plan)) - 1 - c .before
-    .before .before .loop .m
-place c = ap (λ (n : ℕ). n - 1 - c .before .before .before .loop .m)
-    (c .before .before .before .before .before .nodes .ensures)
+-- what the call was given
+abbrev entry : tie.After-wide Inv-loop μ-loop → tie.Start Inv-loop μ-loop
+entry c = c .before .before .before .before .before .before .before .before
 
-parent-is : (c : tie.After-wide Inv-loop μ-loop) →
-    c .wide .result ≡ parentOf (now (c .before .before .before .before .before .before .before .before .args .plan))
-    (c .before .before .before .before .before .nodes .result - 1 - c .before .before .before .loop .m)
+-- the node of this turn and its parent
+place : (c : tie.After-wide Inv-loop μ-loop) → let l = c .before .before .before in
+    l .before .before .nodes .result - 1 - l .loop .m ≡ nodeCount (now (entry c .args .plan)) - 1 - l .loop .m
+place c =
+    let l = c .before .before .before in
+    ap (λ (n : ℕ). n - 1 - l .loop .m) (l .before .before .nodes .ensures)
+
+parent-is : (c : tie.After-wide Inv-loop μ-loop) → let l = c .before .before .before in
+    c .wide .result ≡ parentOf (now (entry c .args .plan)) (l .before .before .nodes .result - 1 - l .loop .m)
 parent-is c = c .wide .ensures .0 ∙ c .before .parent .ensures
 
 parent-below : (c : tie.After-wide Inv-loop μ-loop) → c .wide .result < 128
 parent-below c =
     let l = c .before .before .before in
-    let s = l .before .before .before .before .before in
+    let s = entry c in
     parent-small (s .args .tally) _ _ (s .pre) (l .loop .m) _ (c .wide .result) (omega arith) (place c) (parent-is c)
 
 loop-holds : tie.Need-loop-holds Inv-loop μ-loop
@@ -51,7 +53,7 @@ parent-requires c κs = (omega arith, plan-clean (c .before .before .before .bef
 is-counted-requires : tie.Need-is-counted-requires Inv-loop μ-loop
 is-counted-requires c κs =
     let l = c .before .before .before .before in
-    let s = l .before .before .before .before .before in
+    let s = entry (c .before) in
     let e : l .before .before .nodes .result - 1 - l .loop .m ≡ nodeCount (now (s .args .plan)) - 1 - l .loop .m =
     place (c .before) in (
       omega arith,
@@ -64,13 +66,13 @@ is-counted-requires c κs =
 
 add-table : tie.Need-add-table Inv-loop μ-loop
 add-table c =
-    let l = c .before .before .before .before .before .before in
-    let s = l .before .before .before .before .before in
+    let w = c .before .before .before in
+    let l = w .before .before .before in
+    let s = entry w in
     omega (
       arith,
-      l .loop .inv .1 .1 _ (parent-below (c .before .before .before)),
-      part-le (s .args .tally) (now (s .args .plan)) (now (s .args .state)) (l .loop .m)
-          (c .before .before .before .wide .result),
+      l .loop .inv .1 .1 _ (parent-below w),
+      part-le (s .args .tally) (now (s .args .plan)) (now (s .args .state)) (l .loop .m) (w .wide .result),
       plan-clean s .fits .limits .nodes,
     )
 
@@ -78,7 +80,7 @@ loop-again : tie.Need-loop-again Inv-loop μ-loop
 loop-again c =
     let w = c .before .before .before in
     let l = w .before .before .before in
-    let s = l .before .before .before .before .before in
+    let s = entry w in
     let k = c .before .is-counted .ensures in (
       omega arith,
       ⊎-elim

@@ -20,15 +20,15 @@ Inv-loop plan blocked node out₀ r words n i₀ out i = (i ≤ n)
 abbrev μ-loop : tie.MeasureT-loop
 μ-loop plan blocked node out₀ r words n i₀ out i = n - i
 
-passed : (c : tie.Else1 Inv-loop μ-loop)
-    → Accepted (now (c .before .before .before .before .before .before .before .before .args .plan))
-    (now (c .before .before .before .before .before .before .before .before .args .blocked))
-    (c .before .before .before .before .before .before .before .before .args .node)
-    (now (c .before .before .before .before .before .before .before .before .args .out))
+-- what the call was given
+abbrev entry : tie.Else1 Inv-loop μ-loop → tie.Start Inv-loop μ-loop
+entry c = c .before .before .before .before .before .before .before .before
+
+passed : (c : tie.Else1 Inv-loop μ-loop) → let a = entry c .args in
+    Accepted (now (a .plan)) (now (a .blocked)) (a .node) (now (a .out))
 passed c = accepted _ _ _ _ (sym (c .before .summary-refused .ensures .returns) ∙ c .if1 .left)
 
-whole : (c : tie.Else1 Inv-loop μ-loop)
-    → Clean (now (c .before .before .before .before .before .before .before .before .args .plan))
+whole : (c : tie.Else1 Inv-loop μ-loop) → Clean (now (entry c .args .plan))
 whole c = clean _ (plan-accepted _ _ (passed c .plan))
 
 same-length : tie.Need-same-length Inv-loop μ-loop
@@ -86,9 +86,9 @@ returns-2 : tie.Need-returns-2 Inv-loop μ-loop
 returns-2 c =
     let l = c .before in
     let i = l .before .before .before .before in
-    let e : l .loop .i ≡ 16 * flagCount (now (i .before .before .before .before .before .before .before .before .args .plan)) =
-    omega (arith, l .before .flags .ensures) in
-    rw (l .loop .inv .1, e) (summary-written _ _ _ _ (sym (i .before .summary-refused .ensures .returns) ∙ i .if1 .left))
+    let e : l .loop .i ≡ 16 * flagCount (now (entry i .args .plan)) = omega (arith, l .before .flags .ensures) in
+    rw (l .loop .inv .1, e)
+    (summary-written _ _ _ _ (sym (i .before .summary-refused .ensures .returns) ∙ i .if1 .left))
 
 pub summary-spec : {M : Type 1} → statement M
 summary-spec =

@@ -10,11 +10,14 @@ use borrow.Author.Needs.{needs}
 use Rattle.summary.proofs.summary_refused.Statement.{statement}
 use Rattle.summary.proofs.summary_refused.Tie as tie
 
-passed : (c : tie.Else1) → refusalUnder (now (c .before .before .before .before .before .before .args .plan))
-    (now (c .before .before .before .before .before .before .args .blocked)) ≡ 0
+-- what the call was given
+abbrev entry : tie.Else1 → tie.Start
+entry c = c .before .before .before .before .before .before
+
+passed : (c : tie.Else1) → let a = entry c .args in refusalUnder (now (a .plan)) (now (a .blocked)) ≡ 0
 passed c = sym (c .before .check-blocked .ensures .returns) ∙ c .if1 .left
 
-whole : (c : tie.Else1) → Clean (now (c .before .before .before .before .before .before .args .plan))
+whole : (c : tie.Else1) → Clean (now (entry c .args .plan))
 whole c = clean _ (plan-accepted _ _ (passed c))
 
 returns : tie.Need-returns
@@ -51,7 +54,8 @@ returns-4 : tie.Need-returns-4
 returns-4 c =
     let i = c .before .before in
     record {
-      returns = refused-none _ _ _ _ (passed (i .before .before)) (omega (arith, i .if2 .left, i .before .flags .ensures))
+      returns =
+          refused-none _ _ _ _ (passed (i .before .before)) (omega (arith, i .if2 .left, i .before .flags .ensures))
           (omega (arith, c .if3 .left, c .before .nodes .ensures));
       stands = λ z. i .before .before .before .check-blocked .ensures .standing (i .before .before .if1 .left);
     }

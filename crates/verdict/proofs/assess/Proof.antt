@@ -7,8 +7,11 @@ use Rattle.verdict.proofs.Judging.{assessed-refused, assessed}
 use Rattle.verdict.proofs.assess.Statement.{statement}
 use Rattle.verdict.proofs.assess.Tie as tie
 
-passed : (c : tie.Else1) → refusalUnder (now (c .before .before .before .before .before .before .args .plan))
-    (now (c .before .before .before .before .before .before .args .blocked)) ≡ 0
+-- what the call was given
+abbrev entry : tie.Else1 → tie.Start
+entry c = c .before .before .before .before .before .before
+
+passed : (c : tie.Else1) → let a = entry c .args in refusalUnder (now (a .plan)) (now (a .blocked)) ≡ 0
 passed c = sym (c .before .check-blocked .ensures .returns) ∙ c .if1 .left
 
 returns-2 : tie.Need-returns-2
