@@ -67,7 +67,8 @@ verdict-told b xs a x q =
       judged = λ acc v.
           rw q
           (Iff·trans
-          (number-tells verdictNumber verdictIn verdict-back (x .returns ∙ sym (answer-none (refusalUnder b xs) _ acc)) v)
+          (number-tells verdictNumber verdictIn verdict-back
+          (x .returns ∙ sym (answer-none (refusalUnder b xs) _ acc)) v)
           (x .judged acc v));
       clear = λ acc. rw q (Iff·trans (tells acc CLEAR) (x .clear acc));
       doomed = λ acc z. x .doomed acc (tells acc DOOMED .0 (sym q ∙ z));
@@ -86,7 +87,8 @@ status-told b xs s a x q =
       complete = λ ok.
           rw q
           (Iff·trans
-          (number-tells statusNumber wordIn word-back (x .returns ∙ sym (answer-none (stateRefusalUnder b xs s) _ ok)) COMPLETE)
+          (number-tells statusNumber wordIn word-back
+          (x .returns ∙ sym (answer-none (stateRefusalUnder b xs s) _ ok)) COMPLETE)
           (λ c. x .complete .0 c .1, λ c. x .complete .1 (ok, c)));
     }
 

@@ -29,7 +29,8 @@ pub record VerdictNumber (b xs : List ℕ) (r : ℕ) : Type 0 where
   pub judged : refusalUnder b xs ≡ 0 → (v : Verdict)
       → (r ≡ verdictNumber (inr v)) ↔ Judged (planUnder b xs) (startOf b) v
   pub clear : refusalUnder b xs ≡ 0 → (r ≡ verdictNumber (inr CLEAR)) ↔ NeverViolates (planOf b) (listed xs) (startOf b)
-  pub doomed : refusalUnder b xs ≡ 0 → r ≡ verdictNumber (inr DOOMED) → NeverCompletes (planOf b) (listed xs) (startOf b)
+  pub doomed : refusalUnder b xs ≡ 0 → r ≡ verdictNumber (inr DOOMED)
+      → NeverCompletes (planOf b) (listed xs) (startOf b)
 
 -- r is the number of the answer for the state, with the list xs; accepted, it is the number of COMPLETE exactly if the
 -- state shows the root complete

@@ -54,8 +54,8 @@ pub extern "C" fn knowetop_start(
     state: &mut [u8],
     task: usize,
 ) -> u32
-    ensures { λ r. ⌜ Called (now (plan .entry)) (now (blocked .entry)) (now (state .entry)) (one (execution.start task)) r
-        (now (state .exit)) ⌝ }
+    ensures { λ r. ⌜ Called (now (plan .entry)) (now (blocked .entry)) (now (state .entry))
+        (one (execution.start task)) r (now (state .exit)) ⌝ }
 {
     run_monitor::start(plan, blocked, state, task)
 }
@@ -67,8 +67,8 @@ pub extern "C" fn knowetop_finish(
     state: &mut [u8],
     task: usize,
 ) -> u32
-    ensures { λ r. ⌜ Called (now (plan .entry)) (now (blocked .entry)) (now (state .entry)) (one (execution.finish task)) r
-        (now (state .exit)) ⌝ }
+    ensures { λ r. ⌜ Called (now (plan .entry)) (now (blocked .entry)) (now (state .entry))
+        (one (execution.finish task)) r (now (state .exit)) ⌝ }
 {
     run_monitor::finish(plan, blocked, state, task)
 }
@@ -80,8 +80,8 @@ pub extern "C" fn knowetop_finish_together(
     state: &mut [u8],
     tasks: &[usize],
 ) -> u32
-    ensures { λ r. ⌜ Called (now (plan .entry)) (now (blocked .entry)) (now (state .entry)) (together (now (tasks .entry))) r
-        (now (state .exit)) ⌝ }
+    ensures { λ r. ⌜ Called (now (plan .entry)) (now (blocked .entry)) (now (state .entry))
+        (together (now (tasks .entry))) r (now (state .exit)) ⌝ }
 {
     run_monitor::finish_together(plan, blocked, state, tasks)
 }
@@ -93,8 +93,8 @@ pub extern "C" fn knowetop_skip(
     state: &mut [u8],
     group: usize,
 ) -> u32
-    ensures { λ r. ⌜ Called (now (plan .entry)) (now (blocked .entry)) (now (state .entry)) (one (execution.skip group)) r
-        (now (state .exit)) ⌝ }
+    ensures { λ r. ⌜ Called (now (plan .entry)) (now (blocked .entry)) (now (state .entry))
+        (one (execution.skip group)) r (now (state .exit)) ⌝ }
 {
     run_monitor::skip(plan, blocked, state, group)
 }

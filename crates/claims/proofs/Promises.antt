@@ -81,6 +81,7 @@ orders-promise b c xs h okb pc a d x y =
     let wb = means-well-formed b pb in
     let wc = means-well-formed c pc in
     let k = blocks b xs okb in
-    let okc = list-passes c xs pc (strictly-rises b xs okb) (blocks-out (planOf b) (planOf c) wb wc more (listed xs) k) in
+    let okc =
+    list-passes c xs pc (strictly-rises b xs okb) (blocks-out (planOf b) (planOf c) wb wc more (listed xs) k) in
     answers-keep b c xs xs okb okc (same-start b c pb h)
     (orders-keep (planOf b) (planOf c) wb wc more (listed xs) k) a d x y

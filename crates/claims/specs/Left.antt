@@ -1,6 +1,6 @@
 -- What is left of an accepted plan without a list of blocked nodes, and which lists are refused, in 02's words: struck
--- nodes "are read as if their subtrees were absent". Every promise over a list speaks of `planUnder` and `refusalUnder`,
--- which compute; this says what they come to. Definitions only.
+-- nodes "are read as if their subtrees were absent". Every promise over a list speaks of `planUnder` and
+-- `refusalUnder`, which compute; this says what they come to. Definitions only.
 use mathlib.Core.Path.{_≡_}
 use mathlib.Core.Logic.{_≢_, _↔_}
 use mathlib.Core.List.{List, [], List·Memᴰ as Among}

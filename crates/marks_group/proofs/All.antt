@@ -22,7 +22,8 @@ module _ (p : Plan) (w : WellFormed p) {n : ℕ} (l : Node p n) (k : p .tree .ki
   group-all : p .tree .kind n ≢ task
   group-all e = clash cc
 
-  pub every-part : (c : Column) → indexOf c < firstWord covered → Within p n f c ↔ ((b : ℕ) → Child p n b → Fact p b f c)
+  pub every-part : (c : Column) → indexOf c < firstWord covered → Within p n f c
+      ↔ ((b : ℕ) → Child p n b → Fact p b f c)
   every-part avoid s = avoids-all p w f k
   every-part (quiet v) s = quiet-all p w (Neutral p f v) k
   every-part (covered v) s = absurd (omega arith)

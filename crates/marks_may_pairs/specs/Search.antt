@@ -25,7 +25,8 @@ Unclobbered p n wanted c = (d : ℕ) → Child p n d → NoClobber p n wanted c 
 
 -- The search stands at the child at position i and the partner at position j: no pair that it has passed clobbers a
 -- wanted literal. These are the pairs of the children before i, and those of the child at i with a partner before j.
-pub record SearchedTo (kids : List ℕ) (segment : Segment) (order rows : List ℕ) (wanted : Literals) (i j : ℕ) : Type 0 where
+pub record SearchedTo (kids : List ℕ) (segment : Segment) (order rows : List ℕ) (wanted : Literals)
+    (i j : ℕ) : Type 0 where
   pub child : Reached segment i
   pub partner : Reached segment j
   pub before : OfGroups kids segment order rows (λ p n. Every kids (segment .start) i (Unclobbered p n wanted))

@@ -82,7 +82,8 @@ module _ (b : List ℕ) (S : ℕ → Bool) where
     unfolding branch childB planOf both
     here g = rw (lt-ltb 0 c z, lt-ltb c (nodeCount b) l)
 
-    pub partly-more : (g : ℕ) → g ≡ parentOf b c → g < 128 → stands (planOf b) S c ≡ true → Partly (set marks g 1) (c + 1)
+    pub partly-more : (g : ℕ) → g ≡ parentOf b c → g < 128 → stands (planOf b) S c ≡ true
+        → Partly (set marks g 1) (c + 1)
     partly-more g e m y = record {
       long = length-set marks g 1 ∙ h .long;
       is = λ x. marked-more marks g (omega (arith, m, h .long)) x
@@ -132,13 +133,20 @@ module _ (b xs table marks : List ℕ) (ok : refusal b ≡ 0) (nodes : Each xs (
   emptied-is s i =
       let g : parentOf b s < s = parent-lower b ok s (parentOf b s) (nodes s i .0) (nodes s i .1) refl in
       let l : parentOf b s < nodeCount b = omega (arith, g, nodes s i .1) in
-      rw (h .is _ l, m .is _ l, lt-ltb (parentOf b s) (nodeCount b) l, kinds (kindOf b (parentOf b s)) (kind-limit b (clean b ok) _ l))
+      rw (
+        h .is _ l,
+        m .is _ l,
+        lt-ltb (parentOf b s) (nodeCount b) l,
+        kinds (kindOf b (parentOf b s))
+            (kind-limit b (clean b ok) _ l),
+      )
       (three _ _ _)
 
   pub emptied-29 : anyIn xs (emptiedAt b table marks) ≡ refused29B p xs
   unfolding Bare planOf
   emptied-29 = any-same xs _ _ emptied-is
-      ∙ same-test _ _ (r-map (to, from) (r-some-of (λ s. Bare (parentOf b s)) xs _ (λ s. r-bare (parentOf b s)))) (r-29 p w xs)
+      ∙ same-test _ _ (r-map (to, from) (r-some-of (λ s. Bare (parentOf b s)) xs _ (λ s. r-bare (parentOf b s))))
+      (r-29 p w xs)
     where
       to : SomeOf xs (λ s. Bare (parentOf b s)) → Refused29 p xs
       to (s, i, (x, (k, n))) = no-branch (parentOf b s) x k (λ c hc y. n (c, hc, y))

@@ -65,14 +65,16 @@ module _ (b : List ℕ) (ok : refusal b ≡ 0) (S : ℕ → Bool) where
   pub stood-first : {table : List ℕ} → S 0 ≡ false → AllMarked table → Stood b S table 1
   stood-first {table} e all = record {
     long = all .long;
-    below = λ i l. let z : i ≡ 0 = omega arith in rw z (mark table 0 (all .is 0 (omega arith)) ∙ sym (root-standing (planOf b) (means-well-formed b ok) S free));
+    below = λ i l. let z : i ≡ 0 = omega arith in
+        rw z (mark table 0 (all .is 0 (omega arith)) ∙ sym (root-standing (planOf b) (means-well-formed b ok) S free));
     others = λ i l m. all .is i m;
   }
     where
       free : ¬ T (S 0)
       free x = rw e at x
 
-  module _ {table : List ℕ} {c g : ℕ} (h : Stood b S table c) (z : 0 < c) (l : c < nodeCount b) (e : g ≡ parentOf b c) where
+  module _ {table : List ℕ} {c g : ℕ} (h : Stood b S table c) (z : 0 < c) (l : c < nodeCount b)
+      (e : g ≡ parentOf b c) where
     small : c < 128
     small = omega (arith, l, clean b ok .fits .limits .nodes)
 

@@ -64,8 +64,8 @@ fn list_bad(plan: &[u8], list: &[usize]) -> bool
     true
 }
 
-// Leaves the marks of the nodes that stand: a child does if it is not blocked and its parent stands. Hands over those of
-// the groups that have a child that stands.
+// Leaves the marks of the nodes that stand: a child does if it is not blocked and its parent stands. Hands over those
+// of the groups that have a child that stands.
 fn mark_standing(plan: &[u8], blocked: &Nodes, standing: &mut Nodes) -> Nodes
     requires { ⌜ (refusal (now plan) ≡ 0) × ((marked (now blocked) 0 ≡ false) × AllMarked (now standing)) ⌝ }
     ensures { λ r. ⌜ Standing (now (plan .entry)) (marked (now (blocked .entry))) (now (standing .exit))

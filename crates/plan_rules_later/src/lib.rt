@@ -18,7 +18,8 @@ ghost use Rattle.base.specs.Zeros.{Zeros};
 ghost use Rattle.plan_format.specs.Format.{nodeCount, condCount};
 ghost use Rattle.plan_format.specs.Whole.{Whole};
 ghost use Rattle.plan_rules.specs.Rules.{cause9};
-ghost use Rattle.plan_rules_later.specs.Passes.{childStep, signStep, postStep, stepOf, stepsOf, NoneBefore, passCause};
+ghost use Rattle.plan_rules_later.specs.Passes.{childStep, signStep, postStep, stepOf, stepsOf, NoneBefore};
+ghost use Rattle.plan_rules_later.specs.Passes.{passCause};
 
 // Which rule: groups without child, conditions with both signs, inconditions without postcondition.
 pub enum Pass {

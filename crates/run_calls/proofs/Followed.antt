@@ -23,7 +23,8 @@ use Rattle.run_calls.specs.Demand3.{Bytes, Shows, Follows, EachCall}
 use Rattle.run_calls.proofs.Kept.{Kept, fresh-kept, call-kept, group-none, shown-is}
 
 -- one list of calls after another
-pub calls-append : {b xs s z y : List ℕ} {cs ds : List Call} {rs ns : List ℕ} → Calls b xs s cs rs z → Calls b xs z ds ns y
+pub calls-append : {b xs s z y : List ℕ} {cs ds : List Call} {rs ns : List ℕ} → Calls b xs s cs rs z
+    → Calls b xs z ds ns y
     → Calls b xs s (cs ++ ds) (rs ++ ns) y
 calls-append no-calls d = d
 calls-append (next-call x c) d = next-call x (calls-append c d)
@@ -35,7 +36,8 @@ one-answered (runs.next-call x runs.no-calls) = x
 
 module _ (b xs : List ℕ) where
   -- a call leaves a state that passes all checks as one that does
-  called-well : {s s′ : List ℕ} {c : Call} {r : ℕ} → stateRefusalUnder b xs s ≡ 0 → Called b xs s c r s′ → stateRefusalUnder b xs s′ ≡ 0
+  called-well : {s s′ : List ℕ} {c : Call} {r : ℕ} → stateRefusalUnder b xs s ≡ 0 → Called b xs s c r s′
+      → stateRefusalUnder b xs s′ ≡ 0
   called-well {s} {c = c} ok x = ap (stateRefusalUnder b xs) (x .leaves) ∙ call-steps b xs s ok c .well-formed
 
   -- the calls of a list after a state s, which keeps what s₀ has
@@ -125,7 +127,8 @@ module _ (b xs : List ℕ) where
     itself : Calls b xs between (c ∷ []) (returned ∷ []) left
     rest : Calls b xs left ds later z
 
-  parted : (s : List ℕ) (cs : List Call) (c : Call) (ds : List Call) (rs z : List ℕ) → Calls b xs s (cs ++ (c ∷ ds)) rs z
+  parted : (s : List ℕ) (cs : List Call) (c : Call) (ds : List Call) (rs z : List ℕ)
+      → Calls b xs s (cs ++ (c ∷ ds)) rs z
       → Parted s cs c ds rs z
   parted s [] c ds rs z (next-call {s′ = s′} {r = r} {rs = ns} x y) =
       record {

@@ -52,7 +52,8 @@ fresh-kept b xs s h e =
     (record {
       same-length = length-overlay (freshByte b) s n;
       later = λ k l. past-overlay (freshByte b) s n k l;
-      small = λ k l. rw (at-overlay (freshByte b) s n k (room-passed b xs s e .room) (omega arith), lt-ltb k 8 l) (h (8 + k));
+      small = λ k l. rw (at-overlay (freshByte b) s n k (room-passed b xs s e .room) (omega arith), lt-ltb k 8 l)
+          (h (8 + k));
     })
 
 -- ---- events

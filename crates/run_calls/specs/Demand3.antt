@@ -1,5 +1,5 @@
--- Demand 3 over bytes: one claim over every accepted plan with a list of blocked nodes and over whole lists of calls with
--- any numbers, refused calls anywhere among them, on any bytes that have room for a state.
+-- Demand 3 over bytes: one claim over every accepted plan with a list of blocked nodes and over whole lists of calls
+-- with any numbers, refused calls anywhere among them, on any bytes that have room for a state.
 -- Its hypotheses are the relations that `fresh`, `start`, `finish`, `skip`, `finish_together`, `assess` and `status`
 -- promise; what it says comes from the plan and the calls alone.
 use Prim.Native.Nat.{ℕ, suc, _+_, _*_, _≤_, _<_}
@@ -100,7 +100,8 @@ pub record Demand3Of (b xs : List ℕ) : Type 0 where
       × ((u : Verdict) → Judged (planUnder b xs) (startOf b) u → u ≡ v)
   -- it is CLEAR exactly if no call in any list returns 21, 22 or 26
   pub clear : (r : Answer) → Assessed b xs r
-      → (said r ≡ inr CLEAR) ↔ ((s : List ℕ) (cs : List Call) (rs z : List ℕ) → ListMade b xs s cs rs z → NoViolation rs)
+      → (said r ≡ inr CLEAR)
+      ↔ ((s : List ℕ) (cs : List Call) (rs z : List ℕ) → ListMade b xs s cs rs z → NoViolation rs)
   -- if it is not, some list of calls has such a return (02: "a book that is not CLEAR has one"), on any bytes that have
   -- room for a state
   pub violated : (r : Answer) → Assessed b xs r → said r ≢ inr CLEAR → (s : List ℕ) → 8 + 3 * nodeCount b ≤ length s
@@ -111,7 +112,7 @@ pub record Demand3Of (b xs : List ℕ) : Type 0 where
       → ((a : World) → WorkedOut b xs cs rs a → ¬ Complete (planUnder b xs) (a .status) 0)
       × ((t : Progress) → Told b xs z t → status.reported t ≢ inr COMPLETE)
 
--- the whole claim: it holds of every accepted plan with every list of blocked nodes that passes 28 and 29, the empty one
--- among them, which "is given to the answer, to fresh and to every keeper call alike" (02)
+-- the whole claim: it holds of every accepted plan with every list of blocked nodes that passes 28 and 29, the empty
+-- one among them, which "is given to the answer, to fresh and to every keeper call alike" (02)
 abbrev pub Demand3 : Type 0
 Demand3 = (b xs : List ℕ) → Bytes b → refusalUnder b xs ≡ 0 → Demand3Of b xs

@@ -40,7 +40,8 @@ called b xs s c q h = record {
 pub called-16 : (b xs s : List ℕ) (c : Call) (r : ℕ) → r ≡ stateRefusalUnder b xs s → (r ≡ 0 → ⊥) → Called b xs s c r s
 called-16 b xs s c r q n = let w = refused-16 b xs s c (λ z. n (q ∙ z)) in called b xs s c (q ∙ w .0) (w .1)
 
-pub called-22 : (b xs s : List ℕ) (c : Call) → stateRefusalUnder b xs s ≡ 0 → (r : ℕ) → r ≡ callRefusal b xs s c → (r ≡ 0 → ⊥)
+pub called-22 : (b xs s : List ℕ) (c : Call) → stateRefusalUnder b xs s ≡ 0 → (r : ℕ)
+    → r ≡ callRefusal b xs s c → (r ≡ 0 → ⊥)
     → Called b xs s c r s
 called-22 b xs s c ok r q n = let w = refused-22 b xs s c ok (λ z. n (q ∙ z)) in called b xs s c (q ∙ w .0) (w .1)
 
@@ -62,5 +63,6 @@ module _ (b xs s : List ℕ) (t : ℕ) where
   unfolding callState
   same-state = rw same-return
 
-  pub one-finishes : {r : ℕ} {s′ : List ℕ} → Called b xs s (together (t ∷ [])) r s′ → Called b xs s (one (finish t)) r s′
+  pub one-finishes : {r : ℕ} {s′ : List ℕ} → Called b xs s (together (t ∷ [])) r s′
+      → Called b xs s (one (finish t)) r s′
   one-finishes c = called b xs s (one (finish t)) (c .returns ∙ same-return) (c .leaves ∙ same-state)

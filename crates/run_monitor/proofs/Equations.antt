@@ -12,13 +12,15 @@ use Rattle.run_step.specs.Steps.{afterAll}
 use Rattle.run_monitor.specs.Events.{callReturn, callState}
 
 module _ (b xs s : List ℕ) (c : Call) where
-  pub refused-16 : (stateRefusalUnder b xs s ≡ 0 → ⊥) → (stateRefusalUnder b xs s ≡ callReturn b xs s c) × (s ≡ callState b xs s c)
+  pub refused-16 : (stateRefusalUnder b xs s ≡ 0 → ⊥)
+      → (stateRefusalUnder b xs s ≡ callReturn b xs s c) × (s ≡ callState b xs s c)
   unfolding callReturn callState
   refused-16 n = let z = first-some (stateRefusalUnder b xs s) (callRefusal b xs s c) n in
       (z, rw (ne-eqb (first (stateRefusalUnder b xs s) (callRefusal b xs s c)) 0 (λ y. n (z ∙ y))))
 
   module _ (ok : stateRefusalUnder b xs s ≡ 0) where
-    pub refused-22 : (callRefusal b xs s c ≡ 0 → ⊥) → (callRefusal b xs s c ≡ callReturn b xs s c) × (s ≡ callState b xs s c)
+    pub refused-22 : (callRefusal b xs s c ≡ 0 → ⊥)
+        → (callRefusal b xs s c ≡ callReturn b xs s c) × (s ≡ callState b xs s c)
     unfolding callReturn callState
     refused-22 n = (rw ok, rw (ok, ne-eqb (callRefusal b xs s c) 0 n))
 

@@ -101,7 +101,8 @@ module _ (b xs s : List ℕ) (under : stateRefusalUnder b xs s ≡ 0) where
   pub goes-under : {h : History} → Going b xs s h
       → ShowingUnder b xs (afterAll b s h) (happenAll (planOf b) (worldOf b s) h)
   goes-under {h} g = record {
-    well-formed = under-passed b xs (afterAll b s h) (list-passed b xs s under) (all-happened g .well-formed) (absent-stay g);
+    well-formed =
+        under-passed b xs (afterAll b s h) (list-passed b xs s under) (all-happened g .well-formed) (absent-stay g);
     shows = all-happened g .shows;
   }
 

@@ -20,12 +20,12 @@ callReturn b xs s c = first (stateRefusalUnder b xs s) (callRefusal b xs s c)
 unfoldable pub callState : List ℕ → List ℕ → List ℕ → Call → List ℕ
 callState b xs s c = cond (eqb (callReturn b xs s c) 0) (afterAll b s (events c)) s
 
--- what `start`, `finish`, `skip` and `finish_together` return with the list xs of blocked nodes, and the bytes that they
--- leave
+-- what `start`, `finish`, `skip` and `finish_together` return with the list xs of blocked nodes, and the bytes that
+-- they leave
 pub record Called (b xs s : List ℕ) (c : Call) (r : ℕ) (s′ : List ℕ) : Type 0 where
   pub returns : r ≡ callReturn b xs s c
   pub leaves : s′ ≡ callState b xs s c
-  -- on a state that passes the checks up to 16, in the words of 01 and 02: no refusal applies, 0, and the events happen;
-  -- or the first that applies, and nothing does
+  -- on a state that passes the checks up to 16, in the words of 01 and 02: no refusal applies, 0, and the events
+  -- happen; or the first that applies, and nothing does
   pub answered : stateRefusalUnder b xs s ≡ 0
       → Answered (planOf b) (planUnder b xs) (worldOf b s) c r (worldOf b s′)

@@ -61,24 +61,24 @@ fn call(plan: &[u8], blocked: &[usize], state: &mut [u8], m: Move, task: usize) 
 // The task starts: its byte says running, its inconditions are made true and its start takes the next ordinal. Refused,
 // nothing changes.
 pub fn start(plan: &[u8], blocked: &[usize], state: &mut [u8], task: usize) -> u32
-    ensures { λ r. ⌜ Called (now (plan .entry)) (now (blocked .entry)) (now (state .entry)) (one (execution.start task)) r
-        (now (state .exit)) ⌝ }
+    ensures { λ r. ⌜ Called (now (plan .entry)) (now (blocked .entry)) (now (state .entry))
+        (one (execution.start task)) r (now (state .exit)) ⌝ }
 {
     call(plan, blocked, state, Move::Start, task)
 }
 
 // The task finishes: its byte says done and its postconditions are made true. Refused, nothing changes.
 pub fn finish(plan: &[u8], blocked: &[usize], state: &mut [u8], task: usize) -> u32
-    ensures { λ r. ⌜ Called (now (plan .entry)) (now (blocked .entry)) (now (state .entry)) (one (execution.finish task)) r
-        (now (state .exit)) ⌝ }
+    ensures { λ r. ⌜ Called (now (plan .entry)) (now (blocked .entry)) (now (state .entry))
+        (one (execution.finish task)) r (now (state .exit)) ⌝ }
 {
     call(plan, blocked, state, Move::Finish, task)
 }
 
 // The optional group is skipped: its byte says done, and no other byte changes. Refused, nothing changes.
 pub fn skip(plan: &[u8], blocked: &[usize], state: &mut [u8], group: usize) -> u32
-    ensures { λ r. ⌜ Called (now (plan .entry)) (now (blocked .entry)) (now (state .entry)) (one (execution.skip group)) r
-        (now (state .exit)) ⌝ }
+    ensures { λ r. ⌜ Called (now (plan .entry)) (now (blocked .entry)) (now (state .entry))
+        (one (execution.skip group)) r (now (state .exit)) ⌝ }
 {
     let mut standing = all_nodes();
     let r = check_state(plan, blocked, state, &mut standing);

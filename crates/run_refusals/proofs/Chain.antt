@@ -18,8 +18,8 @@ use Rattle.plan_check.proofs.Meaning.{kind-is, kind-of, kind-number, kind-limit
 use Rattle.plan_check.proofs.Nodes.{is-node, node-is, plan-kind}
 use Rattle.runs.specs.Plan.{Kind, task, all-of, any-of, optional, post, Node, itself, kindNumber, placeNumber}
 use Rattle.runs.specs.Execution.{Status, waiting, running, Status-discrete, Event, start, finish, skip, nodeOf, asserts}
-use Rattle.runs.specs.Calls.{Call, one, checks, asks, statusByte, no-task, wrong-status, branch-begun, order-open, pre-unmet}
-use Rattle.runs.specs.Calls.{inc-broken, no-optional}
+use Rattle.runs.specs.Calls.{Call, one, checks, asks, statusByte, no-task, wrong-status, branch-begun, order-open}
+use Rattle.runs.specs.Calls.{pre-unmet, inc-broken, no-optional}
 use Rattle.runs.specs.Model.Monitor.{returned, firstOf, orElse, refusalNumber, appliesB, taskB, optionalB, statusB}
 use Rattle.runs.specs.Model.Monitor.{begunB, wrongStatusB, branchBegunB, orderOpenB, preUnmetB, incBrokenB}
 use Rattle.plan_blocked.specs.Inner.{Standing}
@@ -190,10 +190,12 @@ module _ (b xs s : List ℕ) (under : stateRefusalUnder b xs s ≡ 0) where
   stood t = stands (planOf b) (listed xs) t
 
   -- a call's refusal, by the table of the whole plan and the nodes that stand
-  pub by-table : (c : Call) → callRefusal b xs s c ≡ refusalNumber (firstOf (testedB (planOf b) (well-formed b s ok) (listed xs)
+  pub by-table : (c : Call) → callRefusal b xs s c
+      ≡ refusalNumber (firstOf (testedB (planOf b) (well-formed b s ok) (listed xs)
       (blocks b xs (list-passed b xs s under)) (worldOf b s) c) (checks c))
   unfolding returned worldOf
-  by-table c = ap refusalNumber (tested-is (planOf b) (well-formed b s ok) (listed xs) (blocks b xs (list-passed b xs s under))
+  by-table c =
+      ap refusalNumber (tested-is (planOf b) (well-formed b s ok) (listed xs) (blocks b xs (list-passed b xs s under))
       (worldOf b s) (absent-waits b xs s under) c)
 
   -- the end of the chain: 22
@@ -202,13 +204,15 @@ module _ (b xs s : List ℕ) (under : stateRefusalUnder b xs s ≡ 0) where
 
   chain-of : (e : Event) → OfTask e → eventRefusal b xs s e
       ≡ cond (not (taskB (planOf b) (nodeOf e))) 17
-      (cond (not (statusB (statusIn b s (nodeOf e)) (asks e))) 18 (first (beginRefusal b s e (stood (nodeOf e))) (broken e)))
+      (cond (not (statusB (statusIn b s (nodeOf e)) (asks e))) 18
+      (first (beginRefusal b s e (stood (nodeOf e))) (broken e)))
   unfolding firstOf testedB appliesB worldOf negate treeRefusal beginRefusal stood
   chain-of (start t) x = by-table (one (start t)) ∙ start-chain (not (taskB (planOf b) t))
       (not (statusB (statusIn b s t) waiting))
       (or (not (stood t)) (λ u. branchBegunB (planOf b) (statusIn b s) t)) (orderOpenB (planOf b) (statusIn b s) t)
       (preUnmetB (planOf b) (flagShown s) (start t)) (incBrokenB (planOf b) (statusIn b s) (start t))
-  chain-of (finish t) x = by-table (one (finish t)) ∙ finish-chain (not (taskB (planOf b) t)) (not (statusB (statusIn b s t) running))
+  chain-of (finish t) x =
+      by-table (one (finish t)) ∙ finish-chain (not (taskB (planOf b) t)) (not (statusB (statusIn b s t) running))
       (incBrokenB (planOf b) (statusIn b s) (finish t))
   chain-of (skip g) x = absurd x
 
@@ -266,9 +270,11 @@ module _ (b xs s : List ℕ) (under : stateRefusalUnder b xs s ≡ 0) where
   -- ---- a skip
   module _ (g : ℕ) where
     skips : eventRefusal b xs s (skip g)
-        ≡ cond (not (isKind b g 3)) 27 (cond (wrongStatusB (planOf b) (statusIn b s) (skip g)) 18 (treeRefusal b s g (stood g)))
+        ≡ cond (not (isKind b g 3)) 27
+        (cond (wrongStatusB (planOf b) (statusIn b s) (skip g)) 18 (treeRefusal b s g (stood g)))
     unfolding firstOf testedB appliesB worldOf negate treeRefusal stood
-    skips = by-table (one (skip g)) ∙ skip-chain (not (optionalB (planOf b) g)) (wrongStatusB (planOf b) (statusIn b s) (skip g))
+    skips = by-table (one (skip g))
+        ∙ skip-chain (not (optionalB (planOf b) g)) (wrongStatusB (planOf b) (statusIn b s) (skip g))
         (or (not (stood g)) (λ u. branchBegunB (planOf b) (statusIn b s) g)) (orderOpenB (planOf b) (statusIn b s) g)
         ∙ rw (optional-is b s ok g)
 
@@ -370,22 +376,27 @@ module _ (b table s : List ℕ) (t : ℕ) where
   unfolding treeRefusal marked or negate
   tree-19 e y = rw (e, y)
 
-  pub tree-20 : getD table t 0 ≡ 1 → branchBegunB (planOf b) (statusIn b s) t ≡ false → orderOpenB (planOf b) (statusIn b s) t ≡ true
+  pub tree-20 : getD table t 0 ≡ 1 → branchBegunB (planOf b) (statusIn b s) t ≡ false
+      → orderOpenB (planOf b) (statusIn b s) t ≡ true
       → 20 ≡ treeRefusal b s t (marked table t)
   unfolding treeRefusal marked or negate
   tree-20 e x y = rw (e, x, y)
 
-  pub tree-none : getD table t 0 ≡ 1 → branchBegunB (planOf b) (statusIn b s) t ≡ false → orderOpenB (planOf b) (statusIn b s) t ≡ false
+  pub tree-none : getD table t 0 ≡ 1 → branchBegunB (planOf b) (statusIn b s) t ≡ false
+      → orderOpenB (planOf b) (statusIn b s) t ≡ false
       → 0 ≡ treeRefusal b s t (marked table t)
   unfolding treeRefusal marked or negate
   tree-none e x y = rw (e, x, y)
 
-  pub begin-tree : (r : ℕ) → r ≡ treeRefusal b s t (marked table t) → (r ≡ 0 → ⊥) → r ≡ beginRefusal b s (start t) (marked table t)
+  pub begin-tree : (r : ℕ) → r ≡ treeRefusal b s t (marked table t) → (r ≡ 0 → ⊥)
+      → r ≡ beginRefusal b s (start t) (marked table t)
   unfolding beginRefusal
-  begin-tree r q n = q ∙ first-some (treeRefusal b s t (marked table t)) (cond (preUnmetB (planOf b) (flagShown s) (start t)) 21 0)
+  begin-tree r q n =
+      q ∙ first-some (treeRefusal b s t (marked table t)) (cond (preUnmetB (planOf b) (flagShown s) (start t)) 21 0)
       (λ z. n (q ∙ z))
 
-  pub begin-unmet : treeRefusal b s t (marked table t) ≡ 0 → (z : Bool) → preUnmetB (planOf b) (flagShown s) (start t) ≡ z
+  pub begin-unmet : treeRefusal b s t (marked table t) ≡ 0 → (z : Bool)
+      → preUnmetB (planOf b) (flagShown s) (start t) ≡ z
       → cond z 21 0 ≡ beginRefusal b s (start t) (marked table t)
   unfolding beginRefusal
   begin-unmet q z d = ap (λ (x : Bool). cond x 21 0) (sym d)

@@ -8,7 +8,7 @@ use Rattle.runs.specs.Calls.{Call}
 use Rattle.runs.specs.Model.Monitor.{returned}
 use Rattle.run_state.specs.State.{worldOf}
 
--- the first of a call's checks that applies, or 0: of the plan that the bytes mean, and of what is left of it without the
--- blocked nodes of a list
+-- the first of a call's checks that applies, or 0: of the plan that the bytes mean, and of what is left of it without
+-- the blocked nodes of a list
 abbrev pub callRefusal : List ℕ → List ℕ → List ℕ → Call → ℕ
 callRefusal b xs s c = returned (planOf b) (planUnder b xs) (worldOf b s) c

@@ -1,4 +1,5 @@
--- Inner contracts: the events that moves are, and what a refusal is by a table of the nodes that stand. Definitions only.
+-- Inner contracts: the events that moves are, and what a refusal is by a table of the nodes that stand. Definitions
+-- only.
 use Prim.Native.Nat.{ℕ}
 use mathlib.Core.Path.{_≡_}
 use mathlib.Core.List.{List}
@@ -26,8 +27,8 @@ eventPlace (skip g) = post
 abbrev pub eventRefusal : List ℕ → List ℕ → List ℕ → Event → ℕ
 eventRefusal b xs s e = callRefusal b xs s (one e)
 
--- r is a call's refusal, whatever list of blocked nodes plan and state pass with; that of an event, if a table marks the
--- nodes that stand
+-- r is a call's refusal, whatever list of blocked nodes plan and state pass with; that of an event, if a table marks
+-- the nodes that stand
 abbrev pub Refuses : List ℕ → List ℕ → Call → ℕ → Type 0
 Refuses b s c r = (xs : List ℕ) → stateRefusalUnder b xs s ≡ 0 → r ≡ callRefusal b xs s c
 

@@ -116,7 +116,8 @@ fn begin_refused(plan: &[u8], state: &[u8], standing: &Nodes, m: Move, task: usi
 // Refusals 17 to 22 of a move, or 0.
 pub fn refused(plan: &[u8], state: &[u8], standing: &Nodes, m: Move, task: usize) -> u32
     requires { ⌜ stateRefusal (now plan) (now state) ≡ 0 ⌝ }
-    ensures { λ r. ⌜ RefusesEvent (now (plan .entry)) (now (state .entry)) (now (standing .entry)) (eventOf m task) r ⌝ }
+    ensures { λ r. ⌜ RefusesEvent (now (plan .entry)) (now (state .entry)) (now (standing .entry))
+        (eventOf m task) r ⌝ }
 {
     if !is_kind(plan, task, TASK) {
         return 17;

@@ -63,14 +63,17 @@ check-of b xs s (suc r) e = refuses b xs s (suc r) e (λ q. omega arith)
 
 unfoldable pub allCheckedB : List StateRow → Bool
 allCheckedB [] = true
-allCheckedB (c ∷ l) = both (eqb (stateRefusalUnder (bytesOf (c .plan)) (c .blocked) (c .state)) (c .refusal)) (λ u. allCheckedB l)
+allCheckedB (c ∷ l) =
+    both (eqb (stateRefusalUnder (bytesOf (c .plan)) (c .blocked) (c .state)) (c .refusal)) (λ u. allCheckedB l)
 
 pub all-checked : (l : List StateRow) → T (allCheckedB l) → AllChecked l
 unfolding allCheckedB
 all-checked [] x = tt
 all-checked (c ∷ l) x =
-    let r : Reflects (both (eqb (stateRefusalUnder (bytesOf (c .plan)) (c .blocked) (c .state)) (c .refusal)) (λ u. allCheckedB l))
-    ((stateRefusalUnder (bytesOf (c .plan)) (c .blocked) (c .state) ≡ c .refusal) × T (allCheckedB l)) = r-both _ _ (r-eq _ _) (r-T _) in
+    let r : Reflects
+    (both (eqb (stateRefusalUnder (bytesOf (c .plan)) (c .blocked) (c .state)) (c .refusal)) (λ u. allCheckedB l))
+    ((stateRefusalUnder (bytesOf (c .plan)) (c .blocked) (c .state) ≡ c .refusal) × T (allCheckedB l)) =
+    r-both _ _ (r-eq _ _) (r-T _) in
     let (a, y) = r .to x in
     (check-of (bytesOf (c .plan)) (c .blocked) (c .state) (c .refusal) a, all-checked l y)
 
@@ -99,8 +102,10 @@ all-worded [] x = tt
 all-worded (c ∷ l) x =
     let b = bytesOf (c .plan) in
     let r : Reflects (both (eqb (stateRefusalUnder b (c .blocked) (c .state)) 0)
-    (λ u. both (sameB (completeIs (c .word)) (completeB (planUnder b (c .blocked)) (statusIn b (c .state)) 0)) (λ u. allWordedB l)))
-    ((stateRefusalUnder b (c .blocked) (c .state) ≡ 0) × ((completeIs (c .word) ≡ completeB (planUnder b (c .blocked)) (statusIn b (c .state)) 0)
+    (λ u. both (sameB (completeIs (c .word)) (completeB (planUnder b (c .blocked)) (statusIn b (c .state)) 0))
+    (λ u. allWordedB l)))
+    ((stateRefusalUnder b (c .blocked) (c .state) ≡ 0)
+    × ((completeIs (c .word) ≡ completeB (planUnder b (c .blocked)) (statusIn b (c .state)) 0)
     × T (allWordedB l))) = r-both _ _ (r-eq _ _) (r-both _ _ (r-same _ _) (r-T _)) in
     let (a, (w, y)) = r .to x in
     (λ p t. t .returns ∙ rw a (ap inr (word-of (c .word) _ (sym w))), all-worded l y)
@@ -140,14 +145,16 @@ module _ (b xs : List ℕ) (r : ℕ) (e : refusalUnder b xs ≡ r) (n : r ≢ 0)
 
 unfoldable pub allRefusedB : List Listing → Bool
 allRefusedB [] = true
-allRefusedB (c ∷ l) = both (both (negate (eqb (c .refusal) 0)) (λ u. eqb (refusalUnder (bytesOf (c .plan)) (c .blocked)) (c .refusal)))
+allRefusedB (c ∷ l) =
+    both (both (negate (eqb (c .refusal) 0)) (λ u. eqb (refusalUnder (bytesOf (c .plan)) (c .blocked)) (c .refusal)))
     (λ u. allRefusedB l)
 
 pub all-refused : (l : List Listing) → T (allRefusedB l) → AllRefused l
 unfolding allRefusedB
 all-refused [] x = tt
 all-refused (c ∷ l) x =
-    let r : Reflects (both (both (negate (eqb (c .refusal) 0)) (λ u. eqb (refusalUnder (bytesOf (c .plan)) (c .blocked)) (c .refusal)))
+    let r : Reflects (both
+    (both (negate (eqb (c .refusal) 0)) (λ u. eqb (refusalUnder (bytesOf (c .plan)) (c .blocked)) (c .refusal)))
     (λ u. allRefusedB l)) (((c .refusal ≢ 0) × (refusalUnder (bytesOf (c .plan)) (c .blocked) ≡ c .refusal))
     × T (allRefusedB l)) = r-both _ _ (r-both _ _ (r-negate _ (r-eq _ _)) (r-eq _ _)) (r-T _) in
     let ((n, e), y) = r .to x in

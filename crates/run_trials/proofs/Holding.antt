@@ -40,7 +40,8 @@ unfolding computing nameAllowed flagOf signOf placeOf valueBad u16At nodeCount c
     cause1 cause2 cause3 badStart cause4 badChar cause5 badEntry cause6 badParent cause7 childless cause8 badCondition
     cause9 notBelow notRising cause10 bothSigns cause11 postOf noPost cause12 isChild badPair badOrder cause13 cause14
     refusal refusalUnder blockedRefusal refused28B refused29B unblockableB stands standingOrder planOf kindAt
-    conditionIs hasCondition signIn orderIs hasOrder flagByte two twos eight names nodes conditionNodes conditionValues earlierNodes laterNodes bytesOf
+    conditionIs hasCondition signIn orderIs hasOrder flagByte two twos eight names nodes conditionNodes conditionValues
+    earlierNodes laterNodes bytesOf
     statusBytes stateBytes
 bytes = tt
 

@@ -103,7 +103,8 @@ module _ (b : List ℕ) (t : Trial) (x : T (holdsB b t)) where
   unfolding holdsB leftB
   passed =
       let r : Reflects (holdsB b t) ((T (areBytes b) × (refusalUnder b (t .blocked) ≡ 0))
-      × ((verdict (planUnder b (t .blocked)) (startOf b) ≡ t .verdict) × (T (showsB b (t .blocked) (t .marks)) × ((p-returns ≡ t .returned)
+      × ((verdict (planUnder b (t .blocked)) (startOf b) ≡ t .verdict)
+      × (T (showsB b (t .blocked) (t .marks)) × ((p-returns ≡ t .returned)
       × ((k : ℕ) → k < 8 + 3 * nodeCount b → shownByte (nodeCount b) p-after k ≡ getD (t .left) k 0)))))
       = r-both _ _ (r-both _ _ (r-T _) (r-eq _ _))
       (r-both _ _ (r-decide _) (r-both _ _ (r-T _) (r-both _ _ (r-list _ _) (r-all _ _ _ (λ k. r-eq _ _))))) in

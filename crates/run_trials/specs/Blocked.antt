@@ -18,8 +18,8 @@ use Rattle.run_trials.specs.Requested.{lowr, cali, tone, ping, dive, nes
 
 abbrev pub of-branches : List Trial
 of-branches =
-    -- 01's choice, OPEN, without the branch that has no conditions: CLEAR. Start there 19, finish and finish together 18;
-    -- the group is still no task
+    -- 01's choice, OPEN, without the branch that has no conditions: CLEAR. Start there 19, finish and finish together
+    -- 18; the group is still no task
     trial-without picked (4 ∷ []) CLEAR (shown 2 0 off must-post ∷ [])
     (begin 1 ∷ end 1 ∷ begin 4 ∷ end 4 ∷ together (4 ∷ []) ∷ begin 2 ∷ begin 3 ∷ together (3 ∷ 4 ∷ []) ∷ end 3 ∷ begin 5
     ∷ [])

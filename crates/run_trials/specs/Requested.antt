@@ -1,4 +1,5 @@
--- Trial plans and calls for 02: its order of starts, its optional groups and its finishes in one step. Definitions only.
+-- Trial plans and calls for 02: its order of starts, its optional groups and its finishes in one step. Definitions
+-- only.
 use Prim.Native.Nat.{ℕ}
 use mathlib.Core.List.{List, [], _∷_, _++_}
 use lib.ListN.{take}

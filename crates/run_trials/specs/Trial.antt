@@ -26,8 +26,8 @@ use Rattle.run_trials.specs.Written.{PlanPieces, bytesOf, eight, twos}
 pub data Shown : Type 0 where
   shown : ℕ → ℕ → Bool → Mark → Shown
 
--- a plan and a list of blocked nodes, the verdict, marks that summaries show; a list of calls, what they return, and the
--- first bytes of the state after them
+-- a plan and a list of blocked nodes, the verdict, marks that summaries show; a list of calls, what they return, and
+-- the first bytes of the state after them
 pub record Trial : Type 0 where
   pub plan : PlanPieces
   pub blocked : List ℕ
@@ -55,8 +55,9 @@ abbrev pub AllShown : List ℕ → List ℕ → List Shown → Type 0
 AllShown b xs [] = Unit {0}
 AllShown b xs (shown n f v m ∷ l) = ShownBy b xs n f v m × AllShown b xs l
 
--- the plan's bytes b and the list are accepted; whatever `assess` answers for them, it is the verdict; whatever fresh and
--- the calls return and leave, on any bytes s with room, it is what the trial says, the bytes after 8 + 3N as they were
+-- the plan's bytes b and the list are accepted; whatever `assess` answers for them, it is the verdict; whatever fresh
+-- and the calls return and leave, on any bytes s with room, it is what the trial says, the bytes after 8 + 3N as they
+-- were
 pub record HoldsOf (b : List ℕ) (t : Trial) : Type 0 where
   pub accepted : refusalUnder b (t .blocked) ≡ 0
   pub judged : (r : Answer) → Assessed b (t .blocked) r → said r ≡ inr (t .verdict)

@@ -45,4 +45,5 @@ module _ (p : Plan) where
     pub inc-post : (t f : ℕ) (v : Bool) → p .conditions .sign inc t f ≡ some v
         → (u : Bool) × (p .conditions .sign post t f ≡ some u)
     -- 13: an order is between children of one all-of group, the earlier number the lower
-    pub orders : (a b : ℕ) → T (p .order a b) → (a < b) × ((g : ℕ) × (p .tree .kind g ≡ all-of) × Child p g a × Child p g b)
+    pub orders : (a b : ℕ) → T (p .order a b)
+        → (a < b) × ((g : ℕ) × (p .tree .kind g ≡ all-of) × Child p g a × Child p g b)

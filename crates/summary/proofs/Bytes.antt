@@ -62,7 +62,8 @@ sign-back true = refl
 module _ (b xs : List ℕ) (ok : refusalUnder b xs ≡ 0) (n : ℕ) where
   exact : (f : ℕ) (v : Bool) (m : Mark)
       → Reflects (markedUnderB (planOf b) (listed xs) n f v m) (MarkedUnder (planOf b) (listed xs) n f v m)
-  exact f v m = blocked-marks (planOf b) (means-well-formed b (plan-accepted b xs ok)) (listed xs) (blocks b xs ok) n f v m
+  exact f v m =
+      blocked-marks (planOf b) (means-well-formed b (plan-accepted b xs ok)) (listed xs) (blocks b xs ok) n f v m
 
   pub byte-is : {standing words : List ℕ} → UnderWords b standing n words → Standing b (listed xs) standing → (i : ℕ)
       → i < 1024 → getD words (i % 16) 0 / 2 ^ (i / 16) % 2 ≡ summaryByte b xs n i
@@ -114,7 +115,8 @@ module _ (b standing : List ℕ) (ok : refusal b ≡ 0) (n : ℕ) (l : n < nodeC
       → UnderWords b standing n words
   unfolding marked
   no-words k z = record {
-    says = λ S y h v m f j. says-none (z (wordIndex v m) (omega (arith, mark-small m, sign-small v))) (λ x. true≢false (sym (T-true _ (x .0)) ∙ sym (h .is n l) ∙ ne-eqb _ 1 k));
+    says = λ S y h v m f j. says-none (z (wordIndex v m) (omega (arith, mark-small m, sign-small v)))
+        (λ x. true≢false (sym (T-true _ (x .0)) ∙ sym (h .is n l) ∙ ne-eqb _ 1 k));
   }
 
 -- ---- refusals, forwards and backwards
@@ -127,11 +129,13 @@ module _ (b xs : List ℕ) (n : ℕ) (out : List ℕ) where
   unfolding summaryRefusal
   refused-15 e l = simp (e, lt-ltb _ _ l)
 
-  pub refused-17 : refusalUnder b xs ≡ 0 → 16 * flagCount b ≤ length out → nodeCount b ≤ n → 17 ≡ summaryRefusal b xs n out
+  pub refused-17 : refusalUnder b xs ≡ 0 → 16 * flagCount b ≤ length out → nodeCount b ≤ n
+      → 17 ≡ summaryRefusal b xs n out
   unfolding summaryRefusal
   refused-17 e l k = simp (e, le-ltb _ _ l, le-ltb _ _ k)
 
-  pub refused-none : refusalUnder b xs ≡ 0 → 16 * flagCount b ≤ length out → n < nodeCount b → 0 ≡ summaryRefusal b xs n out
+  pub refused-none : refusalUnder b xs ≡ 0 → 16 * flagCount b ≤ length out → n < nodeCount b
+      → 0 ≡ summaryRefusal b xs n out
   unfolding summaryRefusal
   refused-none e l k = simp (e, le-ltb _ _ l, lt-ltb _ _ k)
 

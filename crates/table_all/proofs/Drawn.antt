@@ -67,7 +67,8 @@ kind-of b i l =
 module _ (b : List ℕ) (u : Clean b) {i : ℕ} (r : Item) (e : r ≡ itemOf b i) where
   fits-at : Kind b i → ItemFits i r
   unfolding ItemFits
-  fits-at (a-node m) = subst (λ (x : Item). ItemFits i x) (sym (e ∙ item-node b m)) (omega (arith, u .fits .limits .nodes))
+  fits-at (a-node m) =
+      subst (λ (x : Item). ItemFits i x) (sym (e ∙ item-node b m)) (omega (arith, u .fits .limits .nodes))
   fits-at (a-condition j f m) =
       let v = usable b (u .fits) (u .conditions) in
       subst (λ (x : Item). ItemFits i x) (sym (e ∙ item-condition b f m))

@@ -1,5 +1,5 @@
--- The tables of a plan are tables of what is left of it without blocked nodes, if that of the children has only the nodes
--- that stand. Assumes nothing.
+-- The tables of a plan are tables of what is left of it without blocked nodes, if that of the children has only the
+-- nodes that stand. Assumes nothing.
 use mathlib.Core.Path.{_≡_, sym, subst, fun-ext}
 use mathlib.Core.Logic.{by-cases, Iff·trans}
 use mathlib.Core.Bool.{Bool, false}

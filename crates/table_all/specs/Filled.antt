@@ -26,8 +26,8 @@ pub record Fresh (kind from kids order conds : List ℕ) : Type 0 where
   pub no-order : Zeros PAIRS order
   pub no-conditions : Zeros CONDITIONS conds
 
--- tables of the plan that the bytes b mean, without the blocked nodes: of any blocked nodes S, if a table marks the nodes
--- that stand
+-- tables of the plan that the bytes b mean, without the blocked nodes: of any blocked nodes S, if a table marks the
+-- nodes that stand
 pub record TablesOf (b standing kind from kids order conds : List ℕ) : Type 0 where
   pub children : TreeIn (planWith b standing) (nodeCount b) from kids
   pub represents : (S : ℕ → Bool) → Blocks (planOf b) S → Standing b S standing

@@ -21,7 +21,8 @@ all-left : (b table : List ℕ) → refusal b ≡ 0 → AllMarked table → plan
 unfolding planOf both marked
 all-left b table ok all = ap (λ (here : ℕ → Bool). over (planOf b) (within (planOf b .tree) here) (planOf b .order))
     (fun-ext (λ c. by-cases (decLt c (nodeCount b))
-    (λ (l : c < nodeCount b). rw (lt-ltb c (nodeCount b) l, all .is c (omega (arith, l, clean b ok .fits .limits .nodes))))
+    (λ (l : c < nodeCount b). rw
+    (lt-ltb c (nodeCount b) l, all .is c (omega (arith, l, clean b ok .fits .limits .nodes))))
     (λ n. rw (le-ltb c (nodeCount b) (omega arith)))))
 
 pub whole-tree : (b table : List ℕ) {from kids : List ℕ} → refusal b ≡ 0 → AllMarked table

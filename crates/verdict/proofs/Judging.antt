@@ -121,7 +121,8 @@ number-in (inr v) = 0
 
 -- a number that an answer tells is its refusal
 told : (a : ℕ ⊎ verdicts.Verdict) (r k : ℕ) (v : verdicts.Verdict) → a ≡ refusedOr r v → (a ≡ inl (suc k)) ↔ (r ≡ suc k)
-told a zero k v e = (λ q. let z : 0 ≡ suc k = ap number-in (sym e ∙ q) in absurd (omega arith), λ q. absurd (omega arith))
+told a zero k v e =
+    (λ q. let z : 0 ≡ suc k = ap number-in (sym e ∙ q) in absurd (omega arith), λ q. absurd (omega arith))
 told a (suc r) k v e = (λ q. ap number-in (sym e ∙ q), λ q. e ∙ ap inl q)
 
 module _ (b xs : List ℕ) where

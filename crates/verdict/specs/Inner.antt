@@ -20,8 +20,8 @@ abbrev pub OfWords : List ℕ → ℕ → Verdict → Type 0
 OfWords words start v = (p : Plan) (F : ℕ → Bool) → WellFormed p → p .conditions .flags ≤ 64 → MarkWords p 0 words
     → StartWord F start → wordOf v ≡ verdict p F
 
--- the verdict of the plan that the bytes b mean, without the blocked nodes: of any blocked nodes S, if a table marks the
--- nodes that stand
+-- the verdict of the plan that the bytes b mean, without the blocked nodes: of any blocked nodes S, if a table marks
+-- the nodes that stand
 abbrev pub OfStanding : List ℕ → List ℕ → Verdict → Type 0
 OfStanding b standing v = (S : ℕ → Bool) → Blocks (planOf b) S → Standing b S standing
     → wordOf v ≡ verdict (without (planOf b) S) (startOf b)

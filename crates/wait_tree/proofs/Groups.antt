@@ -126,7 +126,8 @@ module _ {b from kids lengths₀ waits₀ lengths waits : List ℕ} {test : Bool
       → LengthsUnder b lengths₀ waits₀ (set lengths g v) waits′ g
   all-worked x = worked (x .greatest) (x .tables) (x .grown) (x .children)
 
-  pub any-worked : {v : ℕ} → isChoice b g ≡ true → v ≡ lengthOf b g → LengthsUnder b lengths₀ waits₀ (set lengths g v) waits g
+  pub any-worked : {v : ℕ} → isChoice b g ≡ true → v ≡ lengthOf b g
+      → LengthsUnder b lengths₀ waits₀ (set lengths g v) waits g
   any-worked e q =
       let ok = clean b (o .accepted) in
       worked q (s .tables) (λ i. omega arith)
@@ -154,7 +155,8 @@ module _ {b lengths waits : List ℕ} (e : refusal b ≡ 0) where
     };
   }
 
-  pub root-worked : {lengths₀ waits₀ : List ℕ} → LengthsUnder b lengths₀ waits₀ lengths waits 0 → AllWorked b lengths waits
+  pub root-worked : {lengths₀ waits₀ : List ℕ} → LengthsUnder b lengths₀ waits₀ lengths waits 0
+      → AllWorked b lengths waits
   root-worked x = all-done (x .tables) (x .under .right)
 
   pub root-task : Tables b lengths waits → kindOf b 0 ≡ 0 → AllWorked b lengths waits

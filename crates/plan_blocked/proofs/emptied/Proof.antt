@@ -12,7 +12,8 @@ use Rattle.plan_blocked.proofs.emptied.Statement.{statement}
 use Rattle.plan_blocked.proofs.emptied.Tie as tie
 
 -- the parent is a node
-parent-is : (c : tie.After-wide) → c .wide .result ≡ parentOf (now (c .before .before .before .args .plan)) (c .before .before .before .args .s)
+parent-is : (c : tie.After-wide)
+    → c .wide .result ≡ parentOf (now (c .before .before .before .args .plan)) (c .before .before .before .args .s)
 parent-is c = c .wide .ensures .0 ∙ c .before .parent .ensures
 
 small : (c : tie.After-wide) → c .wide .result < 128

@@ -37,7 +37,9 @@ returns-2 c = called-22 _ _ _ _ (passed (c .before .before .before .before)) _ (
 
 write-move-requires : tie.Need-write-move-requires
 write-move-requires c κs =
-    let a = c .before .before .before .before .before .before .before .before .before .before .before .before .before .args in
+    let a =
+    c .before .before .before .before .before .before .before .before .before .before .before .before .before .args
+    in
     let ok = passed (c .before .before .before .before .before) in
     record {
       node = kind-is _ _ 0 (answer-task _ _ _ ok (a .task) _ (node-of (a .m) (a .task)) (task-event (a .m) (a .task))

@@ -3,5 +3,5 @@ use Rattle.run_refusals.proofs.asserted_place.Statement.{statement}
 use Rattle.run_refusals.proofs.asserted_place.Tie as tie
 
 pub asserted-place-spec : {M : Type 1} → statement M
-asserted-place-spec = tie.close (tie.spec (λ c. c .match .keys1) (λ c. c .match .keys2) (λ c. rw (c .enum-told .given .1))
-    (λ c. rw (c .enum-told2 .given .1)))
+asserted-place-spec = tie.close (tie.spec (λ c. c .match .keys1) (λ c. c .match .keys2)
+    (λ c. rw (c .enum-told .given .1)) (λ c. rw (c .enum-told2 .given .1)))

@@ -65,7 +65,8 @@ broken c =
     sym (broken-by (now (s .args .plan)) (now (s .args .state)) (s .pre) (s .args .task)
     (eventOf (s .args .m) (s .args .task)) (node-of (s .args .m) (s .args .task))
     (task-event (s .args .m) (s .args .task)) _
-    (c .before .before .asserted-place .ensures ∙ ap (λ (k : Place). placeNumber k) (place-is (s .args .m) (s .args .task)))
+    (c .before .before .asserted-place .ensures
+    ∙ ap (λ (k : Place). placeNumber k) (place-is (s .args .m) (s .args .task)))
     _ (c .before .before .before .mark-one .ensures) _ (c .inc-broken .ensures))
 
 returns : tie.Need-returns

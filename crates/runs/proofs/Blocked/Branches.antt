@@ -1,7 +1,7 @@
 -- Blocked branches: 28 and 29 as tests; the plan without them is well formed; blocking more of them and adding orders
 -- leave CLEAR as CLEAR and DOOMED as DOOMED.
-use Rattle.runs.proofs.Base.{_≡_, refl, sym, ap, _∙_, _⊎_, inl, inr, _↔_, Iff·trans, Bool, true, false, cond, List}
-use Rattle.runs.proofs.Base.{[], Among, among-none, ℕ, _<_, arith, T}
+use Rattle.runs.proofs.Base.{_≡_, refl, sym, ap, _∙_, _⊎_, inl, inr, _↔_, Iff·trans, Bool, true, false, cond}
+use Rattle.runs.proofs.Base.{List, [], Among, among-none, ℕ, _<_, arith, T}
 use Rattle.runs.specs.Plan.{all-of, any-of, Picks, Plan, itself, below, Node, Child, Under, Before, direct, chain}
 use Rattle.runs.specs.WellFormed.{WellFormed}
 use Rattle.runs.specs.Summary.{Mark}
@@ -12,13 +12,13 @@ use Rattle.runs.specs.Blocked.{Refused29, no-branch}
 use Rattle.runs.specs.Branches.{Keeps, OrdersAdded, Blocks, BlocksMore}
 use Rattle.runs.specs.Model.Blocked.{over, stands, without, markedUnderB, unblockableB, refused28B, refused29B}
 use Rattle.runs.specs.Model.Blocked.{blockedRefusal}
-use Rattle.runs.proofs.Reflect.{Reflects, decided, force, r-map, r-T, r-both, r-either, r-negate, r-guarded, r-eq}
-use Rattle.runs.proofs.Reflect.{r-lt, r-any, T-true}
+use Rattle.runs.proofs.Reflect.{Reflects, decided, force, r-map, r-T, r-both, r-either, r-negate, r-guarded}
+use Rattle.runs.proofs.Reflect.{r-eq, r-lt, r-any, T-true}
 use Rattle.runs.proofs.Plan.{under-node, r-kind, r-picks, r-some-child}
 use Rattle.runs.proofs.Summary.{marks-exact}
 use Rattle.runs.proofs.Calls.Listed.{r-rising, r-some-of, r-listed}
-use Rattle.runs.proofs.Blocked.Standing.{r-stands, r-standing-order, stands-up, stands-down, stands-above, standing-child}
-use Rattle.runs.proofs.Blocked.Standing.{child-stands}
+use Rattle.runs.proofs.Blocked.Standing.{r-stands, r-standing-order, stands-up, stands-down, stands-above}
+use Rattle.runs.proofs.Blocked.Standing.{standing-child, child-stands}
 use Rattle.runs.proofs.Blocked.Standing.{without-well-formed, nothing-absent}
 use Rattle.runs.proofs.Blocked.Thinner.{Thinner, thinner-keeps}
 
@@ -226,7 +226,8 @@ module _ (p r : Plan) (w : WellFormed p) (wr : WellFormed r) (added : OrdersAdde
     node = λ s x. rw (added .same-nodes s) at (ok .node s x);
     not-root = ok .not-root;
     of-choice = λ s x. let z = ok .not-root s x in let l = ok .node s x in
-        let k : p .tree .kind (p .tree .parent s) ≡ r .tree .kind (p .tree .parent s) = added .same-kind _ (w .parent-node s z l) in
+        let k : p .tree .kind (p .tree .parent s) ≡ r .tree .kind (p .tree .parent s) =
+        added .same-kind _ (w .parent-node s z l) in
         rw (added .same-parent s z l) at (rw k at (ok .of-choice s x));
     branch-left = λ g x e.
         let xr = (r-stands r wr S g) .to x in
@@ -252,14 +253,18 @@ module _ (p r : Plan) (w : WellFormed p) (wr : WellFormed r) (added : OrdersAdde
       same-parent = λ i z l. added .same-parent i z (node-in i (standing i l .node));
       no-other = λ g c ug hc. let (h, x) = child-stands r wr R hc in standing-child p w S (child-in h) (fewer c x);
       all-parts = λ g c ug k hc. let h : Child r g c = child-out (child-stands p w S hc .0) in
-          standing-child r wr R h (parts-stand r wr R okR k h (standing g (under-node (without r R) (wq .root-node) ug)));
-      all-orders = λ g a b ug ha hb x. (r-standing-order r wr R a b) .from
-          (added .no-order-lost a b ((r-standing-order p w S a b) .to x .0), (child-stands r wr R ha .1, child-stands r wr R hb .1));
+          standing-child r wr R h
+          (parts-stand r wr R okR k h (standing g (under-node (without r R) (wq .root-node) ug)));
+      all-orders = λ g a b ug ha hb x. (r-standing-order r wr R a b) .from (
+        added .no-order-lost a b ((r-standing-order p w S a b) .to x .0),
+        (child-stands r wr R ha .1, child-stands r wr R hb .1),
+      );
     }
 
     -- 02's two promises, both at once: orders are added and more branches are blocked
     pub promises : Keeps (without p S) (without r R)
-    promises = rw same at (thinner-keeps (without p S) (blocked-well-formed p w S okS) (without r R .tree) (without r R .order) (rw same wq) blocked-thinner)
+    promises = rw same at (thinner-keeps (without p S) (blocked-well-formed p w S okS) (without r R .tree)
+        (without r R .order) (rw same wq) blocked-thinner)
       where
         same : over p (without r R .tree) (without r R .order) ≡ without r R
         same = ap (λ c. record { tree = without r R .tree; conditions = c; order = without r R .order })
@@ -276,21 +281,25 @@ none-added p = record {
 }
 
 -- each blocked node of S is absent under R (it or a node above it is blocked) exactly if fewer nodes stand
-pub more-blocked : (p : Plan) → WellFormed p → (S R : ℕ → Bool) → BlocksMore p S R ↔ ((i : ℕ) → Stands p R i → Stands p S i)
+pub more-blocked : (p : Plan) → WellFormed p → (S R : ℕ → Bool) → BlocksMore p S R
+    ↔ ((i : ℕ) → Stands p R i → Stands p S i)
 more-blocked p w S R = (
   λ m i x. record { node = x .node; outside = λ s y u. m s y (stands-above p w R u x) },
   λ f s y x. f s x .outside s y itself,
 )
 
--- and one by one: blocking more branches where 28 and 29 pass; adding orders that the rules accept, under the same blocked nodes
+-- and one by one: blocking more branches where 28 and 29 pass; adding orders that the rules accept, under the same
+-- blocked nodes
 pub more-keeps : (p : Plan) → WellFormed p → (S R : ℕ → Bool) → Blocks p S → Blocks p R → BlocksMore p S R
     → Keeps (without p S) (without p R)
 more-keeps p w S R okS okR more = promises p p w w (none-added p) S R okS okR ((more-blocked p w S R) .0 more)
 
-pub blocking-keeps : (p : Plan) → WellFormed p → (S R : ℕ → Bool) → Blocks p S → Blocks p R → ((s : ℕ) → T (S s) → T (R s))
+pub blocking-keeps : (p : Plan) → WellFormed p → (S R : ℕ → Bool) → Blocks p S → Blocks p R
+    → ((s : ℕ) → T (S s) → T (R s))
     → Keeps (without p S) (without p R)
 blocking-keeps p w S R okS okR more = more-keeps p w S R okS okR (λ s y x. x .outside s (more s y) itself)
 
-pub orders-keep : (p r : Plan) → WellFormed p → WellFormed r → OrdersAdded p r → (S : ℕ → Bool) → Blocks p S → Keeps (without p S) (without r S)
+pub orders-keep : (p r : Plan) → WellFormed p → WellFormed r → OrdersAdded p r → (S : ℕ → Bool) → Blocks p S
+    → Keeps (without p S) (without r S)
 orders-keep p r w wr added S ok = promises p r w wr added S S ok (blocks-out p r w wr added S ok)
     (λ i x. stood p r w wr added S S (λ s y. y) x)

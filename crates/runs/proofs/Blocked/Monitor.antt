@@ -1,13 +1,15 @@
--- The monitor under blocked branches: as long as everything absent waits, each call meets what it meets in the whole plan with one more test, a start or a
--- skip at or under a blocked node; and what stands is complete exactly if it is in the whole plan.
+-- The monitor under blocked branches: as long as everything absent waits, each call meets what it meets in the whole
+-- plan with one more test, a start or a skip at or under a blocked node; and what stands is complete exactly if it is
+-- in the whole plan.
 use Rattle.runs.proofs.Base.{_≡_, refl, ap, _≢_, inl, inr, _↔_, Bool, true, false, List, [], _∷_}
 use Rattle.runs.proofs.Base.{Among, ℕ, T}
 use Rattle.runs.specs.Tests.{negate}
 use Rattle.runs.specs.Searches.{either, anyIn}
 use Rattle.runs.specs.Plan.{Plan, itself, Node}
 use Rattle.runs.specs.WellFormed.{WellFormed}
-use Rattle.runs.specs.Execution.{waiting, running, State, Event, start, finish, skip, History, nodeOf, statusAfter}
-use Rattle.runs.specs.Execution.{Execution, task-done, all-done, any-done, skip-done, Complete, Begun, Rival}
+use Rattle.runs.specs.Execution.{waiting, running, State, Event, start, finish, skip, History, nodeOf}
+use Rattle.runs.specs.Execution.{statusAfter, Execution, task-done, all-done, any-done, skip-done, Complete}
+use Rattle.runs.specs.Execution.{Begun, Rival}
 use Rattle.runs.specs.Execution.{by-branch, by-skip}
 use Rattle.runs.specs.Calls.{Call, one, together, finishes, events, World, happen, happenAll, Refusal, no-task}
 use Rattle.runs.specs.Calls.{wrong-status, branch-begun, order-open, pre-unmet, inc-broken, no-optional}
@@ -16,7 +18,8 @@ use Rattle.runs.specs.Blocked.{Stands}
 use Rattle.runs.specs.Branches.{Blocks}
 use Rattle.runs.specs.Model.Blocked.{stands, without}
 use Rattle.runs.specs.Model.Monitor.{statusB, taskB, absentB, wrongStatusB, branchBegunB, orderOpenB, appliesB}
-use Rattle.runs.specs.Model.Monitor.{preUnmetB, incBrokenB, postOpposedB, orElse, firstOf, settle, refusalOf, step}
+use Rattle.runs.specs.Model.Monitor.{preUnmetB, incBrokenB, postOpposedB, orElse, firstOf, settle, refusalOf}
+use Rattle.runs.specs.Model.Monitor.{step}
 use Rattle.runs.proofs.Reflect.{clash, decided, r-map, r-negate, same-test, true-T}
 use Rattle.runs.proofs.Plan.{under-node, child-under}
 use Rattle.runs.proofs.Execution.{complete-begun, execution-outside, running-moved}
@@ -79,13 +82,21 @@ module _ (p : Plan) (w : WellFormed p) (S : ℕ → Bool) (ok : Blocks p S) wher
         at (no k) = absurd (t .begun (idle (t .who) (under-node p l (t .beneath)) k))
 
     begun-out : {c : ℕ} → Node p c → Begun p s c → Stands p S c × Begun q s c
-    begun-out l t = let x = begun-stands l t in
-        (stands-above p w S (t .beneath) x, record { who = t .who; moves = t .moves; beneath = standing-under p w S (t .beneath) x; begun = t .begun })
+    begun-out l t = let x = begun-stands l t in (
+      stands-above p w S (t .beneath) x,
+      record {
+        who = t .who;
+        moves = t .moves;
+        beneath = standing-under p w S (t .beneath) x;
+        begun = t .begun;
+      },
+    )
 
     complete-out : {n : ℕ} → Stands p S n → Complete p s n → Complete q s n
     complete-out x (task-done k d) = task-done k d
     complete-out x (all-done k f) = all-done k (λ c hc. let (h, y) = child-stands p w S hc in complete-out y (f c h))
-    complete-out x (any-done c k hc d) = let y = begun-out (hc .node) (complete-begun p w (hc .not-root) (hc .node) d) .0 in
+    complete-out x (any-done c k hc d) =
+        let y = begun-out (hc .node) (complete-begun p w (hc .not-root) (hc .node) d) .0 in
         any-done c k (standing-child p w S hc y) (complete-out y d)
     complete-out x (skip-done k d) = skip-done k d
 
@@ -93,7 +104,8 @@ module _ (p : Plan) (w : WellFormed p) (S : ℕ → Bool) (ok : Blocks p S) wher
     complete-same n x = (complete-in p w (q .tree) (q .order) wq thinner itself, complete-out x)
       where
         thinner : Thinner p (q .tree) (q .order) n
-        thinner = without-thinner p w S x (λ g c ug k hc. parts-stand p w S ok k hc (standing g (under-node q ((r-stands p w S n) .from x) ug)))
+        thinner = without-thinner p w S x
+            (λ g c ug k hc. parts-stand p w S ok k hc (standing g (under-node q ((r-stands p w S n) .from x) ug)))
 
     begun-in : {c : ℕ} → Begun q s c → Begun p s c
     begun-in t = record { who = t .who; moves = t .moves; beneath = under-stands p w S (t .beneath); begun = t .begun }
@@ -113,7 +125,14 @@ module _ (p : Plan) (w : WellFormed p) (S : ℕ → Bool) (ok : Blocks p S) wher
     branch-same : (t : ℕ) → Stands p S t → BranchBegun q s t ↔ BranchBegun p s t
     branch-same t x = (
       λ y. let (h, z) = child-stands p w S (y .own-child) in
-          record { group = y .group; own = y .own; picks = y .picks; own-child = h; above = under-stands p w S (y .above); rival = (rival-same (y .group) (y .own)) .0 (y .rival) },
+          record {
+            group = y .group;
+            own = y .own;
+            picks = y .picks;
+            own-child = h;
+            above = under-stands p w S (y .above);
+            rival = (rival-same (y .group) (y .own)) .0 (y .rival);
+          },
       λ y. record {
         group = y .group;
         own = y .own;
@@ -134,24 +153,26 @@ module _ (p : Plan) (w : WellFormed p) (S : ℕ → Bool) (ok : Blocks p S) wher
         above = under-stands p w S (y .above);
         incomplete = λ d. y .incomplete (complete-out xa d);
       },
-      λ y. let xb = stands-above p w S (y .above) x in let xa = earlier (y .earlier) (y .later) (y .ordered) xb in record {
-        earlier = y .earlier;
-        later = y .later;
-        ordered = (r-standing-order p w S (y .earlier) (y .later)) .from (y .ordered, (xa, xb));
-        above = standing-under p w S (y .above) x;
-        incomplete = λ d. y .incomplete ((complete-same (y .earlier) xa) .0 d);
-      },
+      λ y. let xb = stands-above p w S (y .above) x in
+          let xa = earlier (y .earlier) (y .later) (y .ordered) xb in record {
+            earlier = y .earlier;
+            later = y .later;
+            ordered = (r-standing-order p w S (y .earlier) (y .later)) .from (y .ordered, (xa, xb));
+            above = standing-under p w S (y .above) x;
+            incomplete = λ d. y .incomplete ((complete-same (y .earlier) xa) .0 d);
+          },
     )
       where
         earlier : (a b : ℕ) → T (p .order a b) → Stands p S b → Stands p S a
-        earlier a b o xb = let (g, k, ha, hb) = w .order-group a b o in parts-stand p w S ok k ha (stands-above p w S (child-under p hb) xb)
+        earlier a b o xb = let (g, k, ha, hb) = w .order-group a b o in
+            parts-stand p w S ok k ha (stands-above p w S (child-under p hb) xb)
 
   happen-same : (a : World) (h : History) → happenAll q a h ≡ happenAll p a h
   happen-same a [] = refl
   happen-same a (e ∷ h) = ap (λ b. happen p b e) (happen-same a h)
 
-  -- the table of the whole plan with one more test: a start or a skip of what does not stand meets 19. (A number that is
-  -- no task is told by 17, so 18 asks for the status alone.)
+  -- the table of the whole plan with one more test: a start or a skip of what does not stand meets 19. (A number that
+  -- is no task is told by 17, so 18 asks for the status alone.)
   unfoldable pub testedB : World → Call → Refusal → Bool
   testedB a (one (start t)) wrong-status = negate (statusB (a .status t) waiting)
   testedB a (one (finish t)) wrong-status = negate (statusB (a .status t) running)
@@ -179,7 +200,8 @@ module _ (p : Plan) (w : WellFormed p) (S : ℕ → Bool) (ok : Blocks p S) wher
     -- 18, of a task
     status-row : (t : ℕ) → Task p t
         → wrongStatusB q (a .status) (finish t) ≡ negate (statusB (a .status t) running)
-    status-row t k = same-test _ _ (r-map (to (decided (r-stands p w S t)), inr) (r-wrong-status q wq (a .status) (finish t)))
+    status-row t k =
+        same-test _ _ (r-map (to (decided (r-stands p w S t)), inr) (r-wrong-status q wq (a .status) (finish t)))
         (r-negate _ (r-status _ _))
       where
         to : Dec (Stands p S t) → WrongStatus q (a .status) (finish t) → a .status t ≢ running
@@ -227,7 +249,8 @@ module _ (p : Plan) (w : WellFormed p) (S : ℕ → Bool) (ok : Blocks p S) wher
 
     tested : (c : Call) → Agree (appliesB p q a c) (testedB a c) (checks c)
     unfolding appliesB testedB wrongStatusB preUnmetB incBrokenB postOpposedB
-    tested (one (start t)) = alike-row refl (alike-row refl (begins (start t) _ (alike-row refl (alike-row refl no-more))))
+    tested (one (start t)) =
+        alike-row refl (alike-row refl (begins (start t) _ (alike-row refl (alike-row refl no-more))))
     tested (one (finish t)) = alike refl (λ z. alike-row (status-row t ((r-task p t) .to (negate-none _ z)))
         (alike-row refl no-more))
     tested (one (skip g)) = alike-row refl (alike-row (skip-row g) (begins (skip g) _ no-more))

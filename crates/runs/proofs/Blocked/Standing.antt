@@ -1,4 +1,5 @@
--- The plan with subtrees absent: which nodes stand; it is well formed where each any-of group keeps a branch and, below the root, only choices lose one.
+-- The plan with subtrees absent: which nodes stand; it is well formed where each any-of group keeps a branch and, below
+-- the root, only choices lose one.
 use Rattle.runs.proofs.Base.{_≡_, refl, ap, _∙_, fun-ext, _↔_, Bool, true, ℕ, _<_, arith, T}
 use Rattle.runs.specs.Plan.{all-of, any-of, Picks, Plan, itself, below, Node, Child, Under}
 use Rattle.runs.specs.WellFormed.{WellFormed}
@@ -20,17 +21,24 @@ module _ (p : Plan) (w : WellFormed p) (S : ℕ → Bool) where
   pub r-stands : (i : ℕ) → Reflects (stands p S i) (Stands p S i)
   unfolding stands
   r-stands i = r-map {A = Node p i × (¬ ((s : ℕ) × (s < p .tree .size) × (T (S s) × Under p s i)))} (
-    λ x. record { node = x .0; outside = λ s y u. x .1 (s, omega (arith, under-le p w u, w .node-below i (x .0)), (y, u)) },
+    λ x. record {
+      node = x .0;
+      outside = λ s y u. x .1 (s, omega (arith, under-le p w u, w .node-below i (x .0)), (y, u));
+    },
     λ x. (x .node, λ y. x .outside (y .0) (y .2 .0) (y .2 .1)),
   )
-      (r-both _ _ (r-T _) (r-negate _ (r-any (λ s. T (S s) × Under p s i) _ _ (λ s. r-both _ _ (r-T (S s)) (r-under p w s i)))))
+      (r-both _ _ (r-T _)
+      (r-negate _ (r-any (λ s. T (S s) × Under p s i) _ _ (λ s. r-both _ _ (r-T (S s)) (r-under p w s i)))))
 
   pub r-standing-order : (a b : ℕ) → Reflects (standingOrder p S a b) (T (p .order a b) × (Stands p S a × Stands p S b))
   unfolding standingOrder
   r-standing-order a b = r-both _ _ (r-T _) (r-both _ _ (r-stands a) (r-stands b))
 
   pub stands-up : {i : ℕ} → 0 < i → Stands p S i → Stands p S (p .tree .parent i)
-  stands-up {i} z x = record { node = w .parent-node i z (x .node); outside = λ s y u. x .outside s y (below z (x .node) u) }
+  stands-up {i} z x = record {
+    node = w .parent-node i z (x .node);
+    outside = λ s y u. x .outside s y (below z (x .node) u);
+  }
 
   pub stands-down : {g c : ℕ} → Child p g c → ¬ T (S c) → Stands p S g → Stands p S c
   stands-down {g} {c} hc k x = record { node = hc .node; outside = λ s y u. at c s hc k y u }
@@ -41,10 +49,16 @@ module _ (p : Plan) (w : WellFormed p) (S : ℕ → Bool) where
 
   -- from the root down, one node after the other
   pub stands-child : {g c : ℕ} → Child p g c → Stands p S c ↔ ((¬ T (S c)) × Stands p S g)
-  stands-child {g} {c} hc = (λ x. (λ y. x .outside c y itself, rw (hc .up) at (stands-up (hc .not-root) x)), λ x. stands-down hc (x .0) (x .1))
+  stands-child {g} {c} hc = (
+    λ x. (λ y. x .outside c y itself, rw (hc .up) at (stands-up (hc .not-root) x)),
+    λ x. stands-down hc (x .0) (x .1),
+  )
 
   pub root-stands : ¬ T (S 0) → Stands p S 0
-  root-stands k = record { node = w .root-node; outside = λ s y u. let z : s ≡ 0 = omega (arith, under-le p w u) in k (rw z at y) }
+  root-stands k = record {
+    node = w .root-node;
+    outside = λ s y u. let z : s ≡ 0 = omega (arith, under-le p w u) in k (rw z at y);
+  }
 
   -- the same as tests
   pub root-standing : ¬ T (S 0) → stands p S 0 ≡ true
@@ -52,14 +66,16 @@ module _ (p : Plan) (w : WellFormed p) (S : ℕ → Bool) where
 
   pub child-standing : (c : ℕ) → 0 < c → Node p c
       → stands p S c ≡ both (negate (S c)) (λ u. stands p S (p .tree .parent c))
-  child-standing c z l = same-test _ _ (r-map (stands-child (record { not-root = z; node = l; up = refl })) (r-stands c))
+  child-standing c z l =
+      same-test _ _ (r-map (stands-child (record { not-root = z; node = l; up = refl })) (r-stands c))
       (r-both _ _ (r-negate _ (r-T _)) (r-stands (p .tree .parent c)))
 
   pub standing-child : {g c : ℕ} → Child p g c → Stands p S c → Child (without p S) g c
   standing-child {g} {c} hc x = record { not-root = hc .not-root; node = (r-stands c) .from x; up = hc .up }
 
   pub child-stands : {g c : ℕ} → Child (without p S) g c → Child p g c × Stands p S c
-  child-stands {g} {c} hc = let x : Stands p S c = (r-stands c) .to (hc .node) in (record { not-root = hc .not-root; node = x .node; up = hc .up }, x)
+  child-stands {g} {c} hc = let x : Stands p S c = (r-stands c) .to (hc .node) in
+      (record { not-root = hc .not-root; node = x .node; up = hc .up }, x)
 
   -- what is above a node that stands, stands
   pub stands-above : {a i : ℕ} → Under p a i → Stands p S i → Stands p S a
@@ -75,7 +91,8 @@ module _ (p : Plan) (w : WellFormed p) (S : ℕ → Bool) where
   under-stands (below {n = i} z l u) = below z ((r-stands i) .to l .node) (under-stands u)
 
   -- from n down the plan without S is thinner, if the all-of groups there keep their children
-  pub without-thinner : {n : ℕ} → Stands p S n → ((g c : ℕ) → Under (without p S) n g → p .tree .kind g ≡ all-of → Child p g c → Stands p S c)
+  pub without-thinner : {n : ℕ} → Stands p S n
+      → ((g c : ℕ) → Under (without p S) n g → p .tree .kind g ≡ all-of → Child p g c → Stands p S c)
       → Thinner p (without p S .tree) (without p S .order) n
   without-thinner {n} x kept = record {
     present = (r-stands n) .from x;
@@ -94,8 +111,10 @@ module _ (p : Plan) (w : WellFormed p) (S : ℕ → Bool) where
     parent-node = λ i z l. (r-stands (p .tree .parent i)) .from (stands-up z (standing i l));
     parent-group = λ i z l. w .parent-group i z (standing i l .node);
     some-branch = ok .branch-left;
-    some-part = λ g z l k. let (c, hc) = w .some-part g z (standing g l .node) k in (c, standing-child hc (stands-down hc (kept z k hc) (standing g l)));
-    order-group = λ a b o. let (oab, x, y) = order o in let (g, k, ha, hb) = w .order-group a b oab in (g, k, standing-child ha x, standing-child hb y);
+    some-part = λ g z l k. let (c, hc) = w .some-part g z (standing g l .node) k in
+        (c, standing-child hc (stands-down hc (kept z k hc) (standing g l)));
+    order-group = λ a b o. let (oab, x, y) = order o in let (g, k, ha, hb) = w .order-group a b oab in
+        (g, k, standing-child ha x, standing-child hb y);
     on-task = w .on-task;
     inc-post = w .inc-post;
     rank = w .rank;
@@ -117,7 +136,8 @@ module _ (p : Plan) (w : WellFormed p) (S : ℕ → Bool) where
 
   -- with nothing absent it is the plan itself
   pub nothing-absent : ((s : ℕ) → ¬ T (S s)) → without p S ≡ p
-  nothing-absent k = ap (λ h. over p (within (p .tree) h) (standingOrder p S)) nodes ∙ ap (λ o. over p (p .tree) o) orders
+  nothing-absent k =
+      ap (λ h. over p (within (p .tree) h) (standingOrder p S)) nodes ∙ ap (λ o. over p (p .tree) o) orders
     where
       all-stand : (i : ℕ) → Node p i → Stands p S i
       all-stand i l = record { node = l; outside = λ s y u. k s y }

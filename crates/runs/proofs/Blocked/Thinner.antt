@@ -1,12 +1,14 @@
--- Fewer branches and more orders: every execution is one of the plan before, so what may not happen and what must happen stay as they are.
+-- Fewer branches and more orders: every execution is one of the plan before, so what may not happen and what must
+-- happen stay as they are.
 use Rattle.runs.proofs.Base.{_≡_, refl, sym, _∙_, inl, inr, Bool, ℕ, _<_, T}
 use Rattle.runs.specs.Plan.{all-of, Tree, Plan, itself, below, Node, Child, Under, Before, direct, chain}
 use Rattle.runs.specs.Plan.{Unordered, Concurrent, at-group, deeper}
 use Rattle.runs.specs.WellFormed.{WellFormed}
-use Rattle.runs.specs.Execution.{State, Event, History, statusAfter, task-done, all-done, any-done, skip-done, Complete, Begun, Rival, by-branch}
-use Rattle.runs.specs.Execution.{by-skip, Ready, Enabled, can-start, can-finish, can-skip, Execution, none-yet, one-more, Completed}
-use Rattle.runs.specs.Summary.{May, Must, ExternalPre, Clobbers, precondition, incondition, MayClobber, Silent, MustClobber}
-use Rattle.runs.specs.Summary.{by-any-of, by-child, by-pair}
+use Rattle.runs.specs.Execution.{State, Event, History, statusAfter, task-done, all-done, any-done, skip-done}
+use Rattle.runs.specs.Execution.{Complete, Begun, Rival, by-branch, by-skip, Ready, Enabled, can-start}
+use Rattle.runs.specs.Execution.{can-finish, can-skip, Execution, none-yet, one-more, Completed}
+use Rattle.runs.specs.Summary.{May, Must, ExternalPre, Clobbers, precondition, incondition, MayClobber, Silent}
+use Rattle.runs.specs.Summary.{MustClobber, by-any-of, by-child, by-pair}
 use Rattle.runs.specs.Verdict.{Doomed, by-clobber, by-start}
 use Rattle.runs.specs.Branches.{Keeps}
 use Rattle.runs.specs.Model.Blocked.{over}
@@ -22,15 +24,17 @@ module _ (p : Plan) (t : Tree) (o : ℕ → ℕ → Bool) where
   clobbers-over (precondition nd sp) = precondition nd sp
   clobbers-over (incondition u ne ho ru br) = incondition u ne ho ru br
 
-  -- From n down, the plan with the tree t and the orders o is thinner: it has no other nodes, what it lacks hangs from choices, and no order among its
-  -- nodes is lost. (Kinds and parents are compared at nodes only: past them a tree may say anything.)
+  -- From n down, the plan with the tree t and the orders o is thinner: it has no other nodes, what it lacks hangs from
+  -- choices, and no order among its nodes is lost. (Kinds and parents are compared at nodes only: past them a tree may
+  -- say anything.)
   pub record Thinner (n : ℕ) : Type 0 where
     pub present : T (t .here n)
     pub same-kind : (i : ℕ) → T (t .here i) → p .tree .kind i ≡ t .kind i
     pub same-parent : (i : ℕ) → 0 < i → T (t .here i) → p .tree .parent i ≡ t .parent i
     pub no-other : (g c : ℕ) → Under (over p t o) n g → Child (over p t o) g c → Child p g c
     pub all-parts : (g c : ℕ) → Under (over p t o) n g → t .kind g ≡ all-of → Child p g c → Child (over p t o) g c
-    pub all-orders : (g a b : ℕ) → Under (over p t o) n g → Child (over p t o) g a → Child (over p t o) g b → T (p .order a b) → T (o a b)
+    pub all-orders : (g a b : ℕ) → Under (over p t o) n g → Child (over p t o) g a → Child (over p t o) g b
+        → T (p .order a b) → T (o a b)
 
   pub thinner-below : {n c : ℕ} → Thinner n → Under (over p t o) n c → Thinner c
   thinner-below th u = record {
@@ -54,7 +58,11 @@ module _ (p : Plan) (w : WellFormed p) (t : Tree) (o : ℕ → ℕ → Bool) (wq
     parent-out {i} z l = rw (th .same-parent i z l) (wq .parent-node i z l)
 
     child-out : {g c : ℕ} → Child p g c → Node q c → Child q g c
-    child-out {g} {c} x l = record { not-root = x .not-root; node = l; up = sym (th .same-parent c (x .not-root) l) ∙ x .up }
+    child-out {g} {c} x l = record {
+      not-root = x .not-root;
+      node = l;
+      up = sym (th .same-parent c (x .not-root) l) ∙ x .up;
+    }
 
     -- what stands above a node of q is a node of q
     under-out : {a i : ℕ} → Under p a i → Node q i → Under q a i
@@ -68,7 +76,8 @@ module _ (p : Plan) (w : WellFormed p) (t : Tree) (o : ℕ → ℕ → Bool) (wq
     under-listed : {a i : ℕ} → Under q n a → Under q a i → Under p a i
     under-listed ua itself = itself
     under-listed {a} ua (below {n = i} z l u) =
-        let hp : Child p (t .parent i) i = th .no-other (t .parent i) i (under-trans q ua u) (record { not-root = z; node = l; up = refl }) in
+        let hp : Child p (t .parent i) i =
+        th .no-other (t .parent i) i (under-trans q ua u) (record { not-root = z; node = l; up = refl }) in
         below z (hp .node) (rw (hp .up) (under-listed ua u))
 
     pub complete-in : {s : State} {a : ℕ} → Under q n a → Complete q s a → Complete p s a
@@ -82,10 +91,16 @@ module _ (p : Plan) (w : WellFormed p) (t : Tree) (o : ℕ → ℕ → Bool) (wq
     module _ {r : History} (x : Execution q n r) where
       -- what has begun in p is a node of q, and has begun in q
       begun-out : {c : ℕ} → Begun p (statusAfter r) c → Node q c × Begun q (statusAfter r) c
-      begun-out y = let u : Under q n (y .who) = moved-under q wq x (y .who) (y .begun) in let l : Node q (y .who) = under-node q (th .present) u in (
-        node-above (y .beneath) l,
-        record { who = y .who; moves = rw (kind-of u) at (y .moves); beneath = under-out (y .beneath) l; begun = y .begun },
-      )
+      begun-out y = let u : Under q n (y .who) = moved-under q wq x (y .who) (y .begun) in
+          let l : Node q (y .who) = under-node q (th .present) u in (
+            node-above (y .beneath) l,
+            record {
+              who = y .who;
+              moves = rw (kind-of u) at (y .moves);
+              beneath = under-out (y .beneath) l;
+              begun = y .begun;
+            },
+          )
 
       rival-out : {g b : ℕ} → Rival p (statusAfter r) g b → Rival q (statusAfter r) g b
       rival-out (by-branch c hc ne y) = let (l, z) = begun-out y in by-branch c (child-out hc l) ne z
@@ -118,7 +133,11 @@ module _ (p : Plan) (w : WellFormed p) (t : Tree) (o : ℕ → ℕ → Bool) (wq
         waits = m .waits;
         ready = ready-in (under-node q (th .present) (m .beneath)) (m .ready);
       }
-      enabled-in (can-finish m) = can-finish record { is-task = kind-of (m .beneath) ∙ m .is-task; beneath = under-listed itself (m .beneath); runs = m .runs }
+      enabled-in (can-finish m) = can-finish record {
+        is-task = kind-of (m .beneath) ∙ m .is-task;
+        beneath = under-listed itself (m .beneath);
+        runs = m .runs;
+      }
       enabled-in (can-skip m) = can-skip record {
         is-optional = kind-of (m .beneath) ∙ m .is-optional;
         beneath = under-listed itself (m .beneath);
@@ -140,7 +159,11 @@ module _ (p : Plan) (w : WellFormed p) (t : Tree) (o : ℕ → ℕ → Bool) (wq
     may-in m = record { history = m .history; completed = completed-in (m .completed); holds = m .holds }
 
     pub may-pre-in : {f : ℕ} {v : Bool} → May q n (ExternalPre q f v) → May p n (ExternalPre p f v)
-    may-pre-in m = record { history = m .history; completed = completed-in (m .completed); holds = pre-over q (p .tree) (p .order) (m .holds) }
+    may-pre-in m = record {
+      history = m .history;
+      completed = completed-in (m .completed);
+      holds = pre-over q (p .tree) (p .order) (m .holds);
+    }
 
     pub must-pre-out : {f : ℕ} {v : Bool} → Must p n (ExternalPre p f v) → Must q n (ExternalPre q f v)
     must-pre-out m r x = pre-over p t o (m r (completed-in x))
@@ -154,7 +177,8 @@ module _ (p : Plan) (w : WellFormed p) (t : Tree) (o : ℕ → ℕ → Bool) (wq
       part-out {c} hc = th .all-parts n c itself (sym (kind-of itself) ∙ k) hc
 
       before-out : {a b : ℕ} → Child p n b → Before p a b → Before q a b
-      before-out hb (direct {a = a} {b = b} x) = direct (th .all-orders n a b itself (part-out (order-child p w a hb x)) (part-out hb) x)
+      before-out hb (direct {a = a} {b = b} x) =
+          direct (th .all-orders n a b itself (part-out (order-child p w a hb x)) (part-out hb) x)
       before-out hb (chain {a = a} {b = b} x y) = let hb′ : Child p n b = before-child p w hb y in
           chain (th .all-orders n a b itself (part-out (order-child p w a hb′ x)) (part-out hb′) x) (before-out hb y)
 
@@ -167,9 +191,11 @@ module _ (p : Plan) (w : WellFormed p) (t : Tree) (o : ℕ → ℕ → Bool) (wq
 
   concurrent-in : {n y z : ℕ} → Thinner p t o n → Concurrent q y z n → Concurrent p y z n
   concurrent-in {n} th (at-group k c d hc hd un uy uz) = let kp = kind-of th itself ∙ k in
-      let hcp = th .no-other n c itself hc in let hdp = th .no-other n d itself hd in at-group kp c d hcp hdp (unordered-in th kp hcp hdp un)
+      let hcp = th .no-other n c itself hc in let hdp = th .no-other n d itself hd in
+      at-group kp c d hcp hdp (unordered-in th kp hcp hdp un)
       (under-listed th (child-under q hc) uy) (under-listed th (child-under q hd) uz)
-  concurrent-in {n} th (deeper c hc x) = deeper c (th .no-other n c itself hc) (concurrent-in (thinner-below p t o th (child-under q hc)) x)
+  concurrent-in {n} th (deeper c hc x) =
+      deeper c (th .no-other n c itself hc) (concurrent-in (thinner-below p t o th (child-under q hc)) x)
 
   pub may-clobber-listed : {n f : ℕ} {v : Bool} → Thinner p t o n → MayClobber q f v n → MayClobber p f v n
   may-clobber-listed th (inl m) = inl (record {
@@ -179,16 +205,25 @@ module _ (p : Plan) (w : WellFormed p) (t : Tree) (o : ℕ → ℕ → Bool) (wq
     clobbers = clobbers-over q (p .tree) (p .order) (m .clobbers);
   })
   may-clobber-listed th (inr m) =
-      inr (record { who = m .who; other = m .other; concurrent = concurrent-in th (m .concurrent); leaves = m .leaves; opposes = m .opposes })
+      inr (record {
+        who = m .who;
+        other = m .other;
+        concurrent = concurrent-in th (m .concurrent);
+        leaves = m .leaves;
+        opposes = m .opposes;
+      })
 
   pub must-clobber-out : {n f : ℕ} {v : Bool} → Thinner p t o n → MustClobber p f v n → MustClobber q f v n
   must-clobber-out {n} th (by-any-of k a) = by-any-of (sym (kind-of th itself) ∙ k)
       (λ c hc. must-clobber-out (thinner-below p t o th (child-under q hc)) (a c (th .no-other n c itself hc)))
   must-clobber-out {n} th (by-child k c hc d u) = let hq : Child q n c = part-out th k hc in
       by-child (sym (kind-of th itself) ∙ k) c hq (must-clobber-out (thinner-below p t o th (child-under q hq)) d)
-      (λ b hb x. let hp : Child p n b = th .no-other n b itself hb in silent-out th (child-under q hb) (u b hp (unordered-in th k hp hc x)))
-  must-clobber-out {n} th (by-pair k c d hc hd y mp mn u) = let hcq : Child q n c = part-out th k hc in let hdq : Child q n d = part-out th k hd in
-      by-pair (sym (kind-of th itself) ∙ k) c d hcq hdq (before-out th k hc y) (λ r x. mp r (completed-in (thinner-below p t o th (child-under q hdq)) x))
+      (λ b hb x. let hp : Child p n b = th .no-other n b itself hb in
+      silent-out th (child-under q hb) (u b hp (unordered-in th k hp hc x)))
+  must-clobber-out {n} th (by-pair k c d hc hd y mp mn u) = let hcq : Child q n c = part-out th k hc in
+      let hdq : Child q n d = part-out th k hd in
+      by-pair (sym (kind-of th itself) ∙ k) c d hcq hdq (before-out th k hc y)
+      (λ r x. mp r (completed-in (thinner-below p t o th (child-under q hdq)) x))
       (must-pre-out (thinner-below p t o th (child-under q hcq)) mn)
       (λ b hb k₁ k₂ k₃ k₄. let hp : Child p n b = th .no-other n b itself hb in
       silent-out th (child-under q hb) (u b hp k₁ k₂ (λ z. k₃ (before-out th k hd z)) (λ z. k₄ (before-out th k hp z))))
@@ -196,7 +231,10 @@ module _ (p : Plan) (w : WellFormed p) (t : Tree) (o : ℕ → ℕ → Bool) (wq
   -- CLEAR stays CLEAR and DOOMED stays DOOMED
   pub thinner-keeps : Thinner p t o 0 → Keeps p q
   thinner-keeps th = record {
-    clear = λ F c. record { no-clobber = λ f v x. c .no-clobber f v (may-clobber-listed th x); no-pre = λ f v y x. c .no-pre f v y (may-pre-in th x) };
+    clear = λ F c. record {
+      no-clobber = λ f v x. c .no-clobber f v (may-clobber-listed th x);
+      no-pre = λ f v y x. c .no-pre f v y (may-pre-in th x);
+    };
     doomed = doomed;
   }
     where

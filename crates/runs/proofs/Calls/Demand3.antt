@@ -51,7 +51,8 @@ module _ (whole p : Plan) (part : LeftOf whole p) (w : WellFormed p) (F : ℕ �
           at (inr (inl q)) = (g (x .calls) (number (x .refusal)) (x .hit)) .1 (ap number q)
           at (inr (inr q)) = (g (x .calls) (number (x .refusal)) (x .hit)) .2 (ap number q)
 
-      from : ((cs : List Call) → NoViolation (returns whole p (fresh F) cs)) → Clear p F ⊎ FirstViolation p F → Clear p F
+      from : ((cs : List Call) → NoViolation (returns whole p (fresh F) cs))
+          → Clear p F ⊎ FirstViolation p F → Clear p F
       from g (inl c) = c
       from g (inr x) = absurd (no-list g (violating-list whole p part w F x))
 
@@ -66,8 +67,14 @@ module _ (whole p : Plan) (part : LeftOf whole p) (w : WellFormed p) (F : ℕ �
 
       from : Clear p F ⊎ FirstViolation p F → (cs : List Call) × Violation (returns whole p (fresh F) cs)
       from (inl c) = absurd (k c)
-      from (inr x) = let y = violating-list whole p part w F x in
-          (y .calls, record { return = number (y .refusal); returned = y .hit; violates = number-of (y .refusal) (y .violating) })
+      from (inr x) = let y = violating-list whole p part w F x in (
+        y .calls,
+        record {
+          return = number (y .refusal);
+          returned = y .hit;
+          violates = number-of (y .refusal) (y .violating);
+        },
+      )
 
   -- DOOMED: the root is complete after no list
   pub doomed-never-complete : Doomed p F → (cs : List Call) → ¬ Complete p (states whole p (fresh F) cs .status) 0

@@ -9,8 +9,8 @@ use Rattle.runs.specs.Calls.{Call, events, World, happenAll, Refusal, no
 use Rattle.runs.specs.Calls.{order-open, pre-unmet, inc-broken, no-optional, not-rising, post-opposed, number}
 use Rattle.runs.specs.Calls.{Applies, checks, First, None, Answered, accepted, refused, Worked, no-calls}
 use Rattle.runs.specs.Calls.{next-call, Refusal-discrete}
-use Rattle.runs.specs.Model.Monitor.{appliesB, orElse, firstOf, refusalNumber, settle, refusalOf, returned, step, returns}
-use Rattle.runs.specs.Model.Monitor.{states}
+use Rattle.runs.specs.Model.Monitor.{appliesB, orElse, firstOf, refusalNumber, settle, refusalOf, returned, step}
+use Rattle.runs.specs.Model.Monitor.{returns, states}
 use Rattle.runs.proofs.Reflect.{r-either, r-decide, r-T, clash, Reflects}
 use Rattle.runs.proofs.Calls.Reflect.{r-applies}
 
@@ -123,11 +123,13 @@ module _ (whole p : Plan) (w : WellFormed p) (a : World) (c : Call) where
   unfolding returned step
   answered = go (refusalOf whole p a c) refl
     where
-      go : (o : Option Refusal) → refusalOf whole p a c ≡ o → Answered whole p a c (refusalNumber o) (settle o a (happenAll p a (events c)))
+      go : (o : Option Refusal) → refusalOf whole p a c ≡ o
+          → Answered whole p a c (refusalNumber o) (settle o a (happenAll p a (events c)))
       go none q = accepted (refused-none .0 q)
       go (some r) q = refused r ((refused-first r) .0 q)
 
-  pub answered-only : {n : ℕ} {b : World} → Answered whole p a c n b → (n ≡ returned whole p a c) × (b ≡ step whole p a c)
+  pub answered-only : {n : ℕ} {b : World} → Answered whole p a c n b
+      → (n ≡ returned whole p a c) × (b ≡ step whole p a c)
   unfolding returned step
   answered-only (accepted k) = let q : refusalOf whole p a c ≡ none = refused-none .1 k in (rw q, rw q)
   answered-only (refused r k) = let q : refusalOf whole p a c ≡ some r = (refused-first r) .1 k in (rw q, rw q)
@@ -147,5 +149,6 @@ module _ (whole p : Plan) (w : WellFormed p) where
       at (answered-only whole p w a c x) (worked-only y)
     where
       at : (n ≡ returned whole p a c) × (b ≡ step whole p a c) → (ns ≡ returns whole p b cs) × (z ≡ states whole p b cs)
-          → (n ∷ ns ≡ returned whole p a c ∷ returns whole p (step whole p a c) cs) × (z ≡ states whole p (step whole p a c) cs)
+          → (n ∷ ns ≡ returned whole p a c ∷ returns whole p (step whole p a c) cs)
+          × (z ≡ states whole p (step whole p a c) cs)
       at (e, f) (g, h) = (rw (e, g, f), h ∙ ap (λ b. states whole p b cs) f)

@@ -73,9 +73,11 @@ module _ (whole p : Plan) (part : LeftOf whole p) (w : WellFormed p) (F : ℕ �
   states-reached : (cs : List Call) {ds : List Call} → AcceptedAll p F ds → Reached p F (states whole p (After ds) cs)
   unfolding states
   states-reached [] {ds} k = record { calls = ds; accepted = k; same = refl }
-  states-reached (c ∷ cs) {ds} k = go (step whole p (After ds) c) (step-reached k c) (λ g m. states-reached cs {ds = g} m)
+  states-reached (c ∷ cs) {ds} k =
+      go (step whole p (After ds) c) (step-reached k c) (λ g m. states-reached cs {ds = g} m)
     where
-      go : (b : World) → Reached p F b → ((g : List Call) → AcceptedAll p F g → Reached p F (states whole p (After g) cs))
+      go : (b : World) → Reached p F b
+          → ((g : List Call) → AcceptedAll p F g → Reached p F (states whole p (After g) cs))
           → Reached p F (states whole p b cs)
       go b x ih = rw (x .same) (ih (x .calls) (x .accepted))
 
@@ -84,7 +86,8 @@ module _ (whole p : Plan) (part : LeftOf whole p) (w : WellFormed p) (F : ℕ �
   reaches cs = rw fresh-is (states-reached cs no-call)
 
   -- the accepted calls ds, and then the calls cs: what is returned among these is returned among all
-  among-accepted : {ds : List Call} → AcceptedAll p F ds → (cs : List Call) (r : ℕ) → Among r (returns whole p (After ds) cs)
+  among-accepted : {ds : List Call} → AcceptedAll p F ds → (cs : List Call) (r : ℕ)
+      → Among r (returns whole p (After ds) cs)
       → Among r (returns whole p (fresh F) (reverseAux ds cs))
   unfolding returns
   among-accepted no-call cs r x = rw fresh-is x
@@ -93,7 +96,8 @@ module _ (whole p : Plan) (part : LeftOf whole p) (w : WellFormed p) (F : ℕ �
 
   pub violating-list : FirstViolation p F → ViolatingList whole p F
   unfolding returns returned
-  violating-list x = let (r, v, q) = violates-from whole p part w (After (x .calls)) (x .call) (x .enabled) (x .violates) in
+  violating-list x =
+      let (r, v, q) = violates-from whole p part w (After (x .calls)) (x .call) (x .enabled) (x .violates) in
       record {
         calls = reverseAux (x .calls) (x .call ∷ []);
         refusal = r;
@@ -112,7 +116,8 @@ module _ (whole p : Plan) (part : LeftOf whole p) (w : WellFormed p) (F : ℕ �
   violates-in [] k r v x = absurd (among-none x)
   violates-in (c ∷ cs) {ds} k r v x = go (among-cases x) (λ g m y. violates-in cs {ds = g} m r v y)
     where
-      go : (number r ≡ refusalNumber (refusalOf whole p (After ds) c)) ⊎ Among (number r) (returns whole p (step whole p (After ds) c) cs)
+      go : (number r ≡ refusalNumber (refusalOf whole p (After ds) c))
+          ⊎ Among (number r) (returns whole p (step whole p (After ds) c) cs)
           → ((g : List Call) → AcceptedAll p F g → Among (number r) (returns whole p (After g) cs) → FirstViolation p F)
           → FirstViolation p F
       go (inl q) ih = let (m, b) = violates-to whole p part w (After ds) c r v

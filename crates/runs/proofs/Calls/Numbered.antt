@@ -124,13 +124,15 @@ number-some r = ne-eqb (number r) 0 (λ q. let e = number-inj {o = some r} {x = 
 
 module _ (whole p : Plan) where
   -- calls after starts in the order of l
-  pub worked-numbered : {a z : World} {cs : List Call} {ns : List ℕ} (l : List ℕ) → Worked whole p a cs ns z → Numbered whole l a
+  pub worked-numbered : {a z : World} {cs : List Call} {ns : List ℕ} (l : List ℕ) → Worked whole p a cs ns z
+      → Numbered whole l a
       → Numbered whole (l ++ acceptedStarts cs ns) z
   unfolding acceptedStarts
   worked-numbered l no-calls h = rw (append-nil l) h
   worked-numbered l (next-call {a = a} {c = one (start t)} {cs = cs} {ns = ns} (accepted k) w) h =
       rw (← append-assoc l (t ∷ []) (acceptedStarts cs ns))
-      (worked-numbered (l ++ (t ∷ [])) w (start-numbered whole p l a h t (k .0) (found (Status-discrete _ _) (k .1 .0))))
+      (worked-numbered (l ++ (t ∷ [])) w
+      (start-numbered whole p l a h t (k .0) (found (Status-discrete _ _) (k .1 .0))))
   worked-numbered l (next-call {a = a} {c = one (finish t)} (accepted k) w) h =
       worked-numbered l w (finish-numbered whole p l a h t (k .0) (running-begun (λ n. k .1 .0 (inr n))))
   worked-numbered l (next-call {a = a} {c = one (skip g)} (accepted k) w) h =

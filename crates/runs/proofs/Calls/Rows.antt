@@ -1,15 +1,15 @@
 -- The rows of the table: a call is accepted exactly if it is enabled and violates nothing; 21, 22 or 26 is its first
 -- refusal exactly if it is enabled and violates something.
-use Rattle.runs.proofs.Base.{_≡_, refl, sym, _∙_, _⊎_, inl, inr, _↔_, Iff·trans, Bool, decide, Option, none, some}
-use Rattle.runs.proofs.Base.{List, [], _∷_, _++_, ℕ, T}
+use Rattle.runs.proofs.Base.{_≡_, refl, sym, _∙_, _⊎_, inl, inr, _↔_, Iff·trans, Bool, decide, Option, none}
+use Rattle.runs.proofs.Base.{some, List, [], _∷_, _++_, ℕ, T}
 use Rattle.runs.specs.Searches.{either}
 use Rattle.runs.specs.Plan.{task, Plan, Node, Under}
 use Rattle.runs.specs.WellFormed.{WellFormed}
 use Rattle.runs.specs.Execution.{waiting, running, start, finish, skip, Ready, Enabled, can-start}
 use Rattle.runs.specs.Execution.{can-finish, can-skip}
 use Rattle.runs.specs.Calls.{Call, one, together, World, Refusal, no-task, wrong-status, branch-begun, order-open}
-use Rattle.runs.specs.Calls.{pre-unmet, inc-broken, not-rising, post-opposed, no-optional, Task, Absent, WrongStatus}
-use Rattle.runs.specs.Calls.{BranchBegun, OrderOpen, Applies, checks, First, None}
+use Rattle.runs.specs.Calls.{pre-unmet, inc-broken, not-rising, post-opposed, no-optional, Task, Absent}
+use Rattle.runs.specs.Calls.{WrongStatus, BranchBegun, OrderOpen, Applies, checks, First, None}
 use Rattle.runs.specs.Model.Monitor.{refusalOf}
 use Rattle.runs.proofs.Reflect.{clash, decided, force, r-T}
 use Rattle.runs.proofs.Plan.{under-node, child-parent, under-root}
@@ -108,18 +108,21 @@ module _ (whole p : Plan) (part : LeftOf whole p) (w : WellFormed p) (a : World)
   may-begin u m (inl n) = n (under-node p (w .root-node) u)
   may-begin u m (inr x) = ready-choice m x
 
-  finish-is : (t : ℕ) → None (Applies whole p a (one (finish t))) (enabledChecks (one (finish t))) ↔ Enabled p 0 (a .status)
+  finish-is : (t : ℕ) → None (Applies whole p a (one (finish t))) (enabledChecks (one (finish t)))
+      ↔ Enabled p 0 (a .status)
       (finish t)
   finish-is t = (to, from)
     where
-      to : None (Applies whole p a (one (finish t))) (enabledChecks (one (finish t))) → Enabled p 0 (a .status) (finish t)
+      to : None (Applies whole p a (one (finish t))) (enabledChecks (one (finish t)))
+          → Enabled p 0 (a .status) (finish t)
       to (k₁, (k₂, u)) = let l = present t (λ n. k₂ (inl n)) in can-finish record {
         is-task = task-left l k₁;
         beneath = under-root p w t l;
         runs = force (decided (r-status (a .status t) running)) (λ n. k₂ (inr n));
       }
 
-      from : Enabled p 0 (a .status) (finish t) → None (Applies whole p a (one (finish t))) (enabledChecks (one (finish t)))
+      from : Enabled p 0 (a .status) (finish t)
+          → None (Applies whole p a (one (finish t))) (enabledChecks (one (finish t)))
       from (can-finish m) = (λ k. k (task-of (m .beneath) (m .is-task)), (runs, tt))
         where
           runs : ¬ WrongStatus p (a .status) (finish t)
@@ -137,7 +140,8 @@ module _ (whole p : Plan) (part : LeftOf whole p) (w : WellFormed p) (a : World)
         ready = is-ready t (λ x. k₃ (inr x)) k₄;
       }
 
-      from : Enabled p 0 (a .status) (start t) → None (Applies whole p a (one (start t))) (enabledChecks (one (start t)))
+      from : Enabled p 0 (a .status) (start t)
+          → None (Applies whole p a (one (start t))) (enabledChecks (one (start t)))
       from (can-start m) = (
         λ k. k (task-of (m .beneath) (m .is-task)),
         (λ k. k (m .waits), (may-begin (m .beneath) (m .ready), (ready-order (m .ready), tt))),
@@ -178,12 +182,14 @@ module _ (whole p : Plan) (part : LeftOf whole p) (w : WellFormed p) (a : World)
   violates-not : (c : Call) → None (Applies whole p a c) (violationChecks c) ↔ (¬ ViolatesCall p a c)
   violates-not (one (start t)) = (to, λ k. (λ x. k (inl x), (λ x. k (inr x), tt)))
     where
-      to : None (Applies whole p a (one (start t))) (violationChecks (one (start t))) → ¬ ViolatesCall p a (one (start t))
+      to : None (Applies whole p a (one (start t))) (violationChecks (one (start t)))
+          → ¬ ViolatesCall p a (one (start t))
       to (k₁, (k₂, u)) (inl x) = k₁ x
       to (k₁, (k₂, u)) (inr x) = k₂ x
   violates-not (one (finish t)) = (to, λ k. (λ x. k (inr x), tt))
     where
-      to : None (Applies whole p a (one (finish t))) (violationChecks (one (finish t))) → ¬ ViolatesCall p a (one (finish t))
+      to : None (Applies whole p a (one (finish t))) (violationChecks (one (finish t)))
+          → ¬ ViolatesCall p a (one (finish t))
       to (k, u) (inl x) = no-sign (x .needs)
       to (k, u) (inr x) = k x
   violates-not (one (skip g)) = (λ u. harmless, λ k. tt)
@@ -208,7 +214,8 @@ module _ (whole p : Plan) (part : LeftOf whole p) (w : WellFormed p) (a : World)
   -- a call is accepted exactly if it is enabled and none of 21, 22 and 26 applies
   pub accepted-is : (c : Call) → (refusalOf whole p a c ≡ none) ↔ (EnabledCall p (a .status) c × (¬ ViolatesCall p a c))
   accepted-is c = Iff·trans (refused-none whole p w a c) (
-    λ n. let (x, y) = (none-append (Applies whole p a c) (enabledChecks c) (violationChecks c)) .0 (rw (two-parts c) at n) in
+    λ n. let (x, y) =
+        (none-append (Applies whole p a c) (enabledChecks c) (violationChecks c)) .0 (rw (two-parts c) at n) in
         ((enabled-is c) .0 x, (violates-not c) .0 y),
     λ x. rw (two-parts c) ((none-append (Applies whole p a c) (enabledChecks c) (violationChecks c)) .1
         ((enabled-is c) .1 (x .0), (violates-not c) .1 (x .1))),
@@ -226,7 +233,8 @@ module _ (whole p : Plan) (part : LeftOf whole p) (w : WellFormed p) (a : World)
     where
       at : First (Applies whole p a c) r (enabledChecks c)
           ⊎ (None (Applies whole p a c) (enabledChecks c) × First (Applies whole p a c) r (violationChecks c))
-          → First (Applies whole p a c) r (enabledChecks c) ⊎ (EnabledCall p (a .status) c × (Violating r × Applies whole p a c r))
+          → First (Applies whole p a c) r (enabledChecks c)
+          ⊎ (EnabledCall p (a .status) c × (Violating r × Applies whole p a c r))
       at (inl x) = inl x
       at (inr (n, x)) = inr ((enabled-is c) .0 n, first-violating (Applies whole p a c) c r x)
 
@@ -250,6 +258,7 @@ module _ (whole p : Plan) (part : LeftOf whole p) (w : WellFormed p) (a : World)
       found r q (inl x) = absurd (first-not-none (Applies whole p a c) r (enabledChecks c) x ((enabled-is c) .1 m))
       found r q (inr (n, (v, x))) = (r, v, q)
 
-      at : (o : Option Refusal) → refusalOf whole p a c ≡ o → (r : Refusal) × Violating r × (refusalOf whole p a c ≡ some r)
+      at : (o : Option Refusal) → refusalOf whole p a c ≡ o
+          → (r : Refusal) × Violating r × (refusalOf whole p a c ≡ some r)
       at none q = absurd (((accepted-is c) .0 q) .1 b)
       at (some r) q = found r q (refused-is c r q)

@@ -19,11 +19,13 @@ use Rattle.runs.specs.Model.Trees.{underB, someUnderB, someTaskB, before
 use Rattle.runs.specs.Model.Verdicts.{failsB, someLiteralB, mayFailB, mustFailB, judge, verdict}
 
 unfoldable pub computing : Unit {0}
-unfolding decide both either implies negate anyBelow allBelow anyIn listed sameB sameList isNone isSome kindB picksB movesB
+unfolding decide both either implies negate anyBelow allBelow anyIn listed sameB sameList isNone isSome kindB picksB
+    movesB
     byKind childB someChildB everyChildB underIn underB someUnderB someTaskB beforeIn beforeB unorderedB quietIn meetIn
     lastIn quietB meetB lastB unassertedB preB assertsB beginsIncB neutralB coversB avoidB mayPreB mustPreB mayPostB
     mustPostB mayIncB mustIncB conditionB silentB avoidedB pairB mayClobberIn mayClobberB aloneB undisturbedB
     mustClobberIn mustClobberB markedB failsB someLiteralB mayFailB mustFailB judge verdict statusB oppositeB risingB
-    notRisingB taskB optionalB absentB completeIn completeB begunB rivalB wrongStatusB branchBegunB orderOpenB incBrokenB
+    notRisingB taskB optionalB absentB completeIn completeB begunB rivalB wrongStatusB branchBegunB orderOpenB
+    incBrokenB
     preUnmetB postOpposedB appliesB firstOf refusalOf returned step returns states
 computing = tt

@@ -14,7 +14,8 @@ returns c =
     let t = c .fill-children .ensures in
     record {
       children = t;
-      represents = λ S k h. left-represented _ (c .before .before .before .before .before .before .before .before .before .pre .0) S k h i (t .tree);
+      represents = λ S k h. left-represented _
+          (c .before .before .before .before .before .before .before .before .before .pre .0) S k h i (t .tree);
     }
 
 pub fill-tables-spec : {M : Type 1} → statement M
