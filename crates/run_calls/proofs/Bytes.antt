@@ -13,14 +13,14 @@ use lib.Pow.{pow-lt}
 use borrow.Author.Tests.{ne-eqb, lt-ltb}
 use Rattle.base.specs.Bits.{bit}
 use Rattle.run_flags.specs.Flags.{flagIn, byteWith, withFlag}
-use Rattle.run_flags.proofs.Laws.{length-with}
+use Rattle.run_flags.proofs.EachFlag.{length-with}
 use Rattle.base.proofs.Booleans.{either}
 use Rattle.plan_codes.specs.Values.{flagOf}
 use Rattle.plan_format.specs.Format.{condValue, condCount}
 use Rattle.run_state.specs.State.{flagShown}
 use Rattle.base.specs.Count.{num}
 use Rattle.run_state.specs.Made.{isOf, setAt, literals, made}
-use Rattle.run_conditions.proofs.Laws.{flag-small}
+use Rattle.run_conditions.proofs.Literals.{flag-small}
 use Rattle.run_calls.specs.Shown.{flagByte}
 
 -- ---- a byte is the sum of its bits

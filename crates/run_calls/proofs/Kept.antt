@@ -31,7 +31,7 @@ use Rattle.run_refusals.specs.Inner.{eventPlace}
 use Rattle.run_step.specs.Steps.{afterAll}
 use Rattle.run_monitor.specs.Events.{callState}
 use Rattle.run_monitor.proofs.Events.{Going, nothing, going, goes-under, call-goes}
-use Rattle.run_monitor.proofs.Equations.{refused-22, accepted}
+use Rattle.run_monitor.proofs.Outcomes.{refused-22, accepted}
 use Rattle.run_step.proofs.Written.{byte-flags}
 use Rattle.run_step.proofs.After.{Fit, after, inside, after-length, after-past, after-flags, event-written}
 use Rattle.run_calls.specs.Shown.{numberByte, shownByte}

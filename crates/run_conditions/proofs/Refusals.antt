@@ -12,7 +12,7 @@ use borrow.Author.Tests.{eqb-true, eqb-false, eq-eqb, ne-eqb, lt-ltb, not-true}
 use Rattle.plan_codes.specs.Values.{flagOf, placeOf}
 use Rattle.run_flags.specs.Flags.{flagIn}
 use Rattle.run_flags.specs.Inner.{allByte}
-use Rattle.run_flags.proofs.Laws.{in-first, all-flags}
+use Rattle.run_flags.proofs.EachFlag.{in-first, all-flags}
 use Rattle.plan_format.specs.Format.{condCount, condNode, condValue}
 use Rattle.plan_rules.specs.Rules.{refusal}
 use Rattle.base.proofs.Booleans.{and-both, and-of, not-passed}
@@ -34,8 +34,10 @@ use Rattle.run_state.proofs.Passed.{has-room, well-formed, byte-is}
 use Rattle.run_state.specs.Made.{isOf, setAt, made}
 use Rattle.node_sets.specs.One.{only}
 use Rattle.run_conditions.specs.Conditions.{unmetAt, brokenAt}
-use Rattle.run_conditions.proofs.Laws.{flag-small, of-set, set-of, of-is, is-of, sign-at, found, made-flag}
-use Rattle.run_conditions.proofs.Laws.{left-flag, on-task}
+use Rattle.run_conditions.proofs.Literals.{flag-small}
+use Rattle.run_conditions.proofs.Signs.{of-set, set-of, of-is, is-of, sign-at, found, made-flag}
+use Rattle.run_conditions.proofs.OneByOne.{left-flag}
+use Rattle.run_conditions.proofs.Conditions.{on-task}
 use Rattle.node_sets.proofs.Sets.{listed-among, among-listed}
 
 differ : (v x : Bool) → not (sameB v x) ≡ true → x ≡ not v

@@ -19,7 +19,7 @@ use Rattle.plan_blocked.proofs.Refused.{under-well-formed}
 use Rattle.run_refusals.specs.Events.{callRefusal}
 use Rattle.run_step.specs.Steps.{afterAll}
 use Rattle.run_monitor.specs.Events.{callReturn, callState, Called}
-use Rattle.run_monitor.proofs.Equations.{refused-16, refused-22, accepted}
+use Rattle.run_monitor.proofs.Outcomes.{refused-16, refused-22, accepted}
 use Rattle.run_monitor.proofs.Events.{call-steps}
 
 pub called : (b xs s : List ℕ) (c : Call) {r : ℕ} {s′ : List ℕ} → r ≡ callReturn b xs s c → s′ ≡ callState b xs s c

@@ -25,13 +25,14 @@ use Rattle.runs.specs.Model.Blocked.{stands}
 use Rattle.run_starts.proofs.Numbering.{Numbering}
 use Rattle.node_sets.specs.Sets.{Each}
 use Rattle.run_refusals.specs.Events.{callRefusal}
-use Rattle.run_refusals.proofs.Chain.{accepted-kind, accepted-byte, accepted-stands, running-stands, event-does}
+use Rattle.run_refusals.proofs.OfKind.{event-does}
+use Rattle.run_refusals.proofs.Answers.{accepted-kind, accepted-byte, accepted-stands, running-stands}
 use Rattle.run_refusals.proofs.Together.{accepted-rises, accepted-tasks, accepted-running}
 use Rattle.run_step.specs.Steps.{afterEvent, afterAll}
 use Rattle.run_monitor.specs.Events.{callState}
-use Rattle.run_monitor.proofs.Equations.{refused-22, accepted}
-use Rattle.run_step.proofs.After.{Fit, after, shows-status, shows-flag, shows-ordinal, still-well, numbers}
-use Rattle.run_step.proofs.After.{after-other, event-written}
+use Rattle.run_monitor.proofs.Outcomes.{refused-22, accepted}
+use Rattle.run_step.proofs.After.{Fit, after, shows-status, shows-flag, shows-ordinal, still-well, numbers, after-other}
+use Rattle.run_step.proofs.After.{event-written}
 
 -- the bytes z pass all checks, and show the states a
 pub record Showing (b z : List ℕ) (a : World) : Type 0 where

@@ -30,7 +30,8 @@ use Rattle.node_sets.specs.Sets.{Each}
 use Rattle.run_conditions.specs.Conditions.{unmetAt, brokenAt}
 use Rattle.run_conditions.proofs.Refusals.{opposed-is, broken-unless}
 use Rattle.run_refusals.specs.Events.{callRefusal}
-use Rattle.run_refusals.proofs.Chain.{task-is, status-is, by-table}
+use Rattle.run_refusals.proofs.OfKind.{task-is, status-is}
+use Rattle.run_refusals.proofs.Answers.{by-table}
 
 together-chain : (a b c d e : Bool) → refusalNumber
     (orElse a not-rising (λ u. orElse b no-task (λ u. orElse c wrong-status

@@ -9,7 +9,7 @@ use lib.Dec.{eqb, ltb, leb}
 use borrow.Author.Tests.{lt-ltb, le-ltb, ltb-false, ne-eqb}
 use Rattle.base.proofs.First.{first-some, both-none, check-passed}
 use Rattle.run_flags.specs.Flags.{flagIn}
-use Rattle.run_flags.proofs.Laws.{in-first}
+use Rattle.run_flags.proofs.EachFlag.{in-first}
 use Rattle.plan_format.specs.Format.{nodeCount, flagCount, isKind}
 use Rattle.plan_rules.specs.Rules.{refusal}
 use Rattle.runs.specs.Searches.{anyBelow, listed}

@@ -11,7 +11,7 @@ use lib.ListN.{length, getD}
 use lib.Dec.{eqb, leb}
 use borrow.Author.Tests.{eq-eqb, ne-eqb, lt-ltb, le-ltb, leb-true}
 use Rattle.run_flags.specs.Flags.{flagIn}
-use Rattle.run_flags.proofs.Laws.{same-byte}
+use Rattle.run_flags.proofs.EachFlag.{same-byte}
 use Rattle.plan_format.specs.Format.{u16At, nodeCount, flagCount, kindOf, isKind}
 use Rattle.base.proofs.Booleans.{and-both, and-of, not-passed, either}
 use Rattle.plan_check.specs.Meaning.{signIn}
@@ -26,7 +26,7 @@ use Rattle.run_state.proofs.Passed.{well-passed, has-room, is-well, status-of, 
 use Rattle.run_starts.proofs.Ordinals.{ordinal-length, ordinal-before, ordinal-past, ordinal-other, ordinal-own}
 use Rattle.run_starts.proofs.Numbering.{Numbering, start-numbering, same-numbering}
 use Rattle.run_refusals.specs.Inner.{eventPlace}
-use Rattle.run_refusals.proofs.Chain.{eventKind}
+use Rattle.run_refusals.proofs.Moves.{eventKind}
 use Rattle.run_step.specs.Steps.{withEvent, afterEvent}
 use Rattle.run_step.proofs.Written.{next-length, byte-own, byte-other, byte-past, flag-next, no-sign, only-byte}
 

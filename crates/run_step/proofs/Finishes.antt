@@ -12,7 +12,8 @@ use Rattle.runs.proofs.Calls.Listed.{rising-tail}
 use Rattle.run_state.specs.Made.{made}
 use Rattle.runs.specs.Searches.{listed}
 use Rattle.node_sets.specs.One.{only}
-use Rattle.run_conditions.proofs.Laws.{made-nil, made-cons, made-length}
+use Rattle.run_conditions.proofs.Literals.{made-length}
+use Rattle.run_conditions.proofs.OneByOne.{made-nil, made-cons}
 use Rattle.run_step.specs.Steps.{withEvent, afterAll}
 
 -- z with a 2 at each number of a list

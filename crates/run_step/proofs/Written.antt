@@ -11,7 +11,7 @@ use lib.ListN.{length, getD, take, drop, set, length-set, length-append, length-
 use lib.ListN.{take-append-drop}
 use lib.Seq.{getD-set-same, getD-set-other, getD-append-add, getD-drop, length-take-le}
 use Rattle.run_flags.specs.Flags.{flagIn}
-use Rattle.run_flags.proofs.Laws.{same-byte, in-first}
+use Rattle.run_flags.proofs.EachFlag.{same-byte, in-first}
 use Rattle.plan_format.specs.Format.{nodeCount, condCount, flagCount, kindOf}
 use Rattle.base.proofs.Booleans.{not-passed}
 use Rattle.plan_check.specs.Meaning.{planOf, signIn}
@@ -22,7 +22,9 @@ use Rattle.run_state.specs.Inner.{stateRefusal}
 use Rattle.run_state.proofs.Passed.{has-room}
 use Rattle.run_state.specs.Made.{made}
 use Rattle.node_sets.specs.One.{only}
-use Rattle.run_conditions.proofs.Laws.{literals-idle, made-length, made-flag, of-is, on-task}
+use Rattle.run_conditions.proofs.Literals.{literals-idle, made-length}
+use Rattle.run_conditions.proofs.Signs.{made-flag, of-is}
+use Rattle.run_conditions.proofs.Conditions.{on-task}
 use Rattle.run_step.specs.Steps.{withEvent}
 
 module _ (b s : List ℕ) (ok : stateRefusal b s ≡ 0) (k : Place) (t x : ℕ) (inside : t < nodeCount b) where

@@ -18,7 +18,7 @@ use Rattle.verdict.specs.Verdict.{answerOf}
 use Rattle.summary.specs.Summary.{summaryRefusal, summaryLeft}
 use Rattle.run_state.proofs.Left.{fresh-refused}
 use Rattle.run_monitor.specs.Status.{Word, COMPLETE, UNFINISHED, wordFor, statusAnswer}
-use Rattle.run_monitor.proofs.Equations.{refused-16}
+use Rattle.run_monitor.proofs.Outcomes.{refused-16}
 use Rattle.run_trials.specs.Written.{bytesOf}
 use Rattle.run_trials.specs.Checked.{StateRow, AllRefuse, AllPass, CheckOf, AllChecked, Worded, AllWorded}
 use Rattle.run_trials.specs.Checked.{Listing, RefusesAll, AllRefused}

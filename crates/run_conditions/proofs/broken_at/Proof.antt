@@ -9,7 +9,7 @@ use Rattle.plan_format.specs.Format.{nodeCount}
 use Rattle.run_state.proofs.Refused.{Roomy}
 use Rattle.run_state.proofs.Passed.{has-room}
 use Rattle.node_sets.specs.Sets.{marked}
-use Rattle.run_conditions.proofs.Laws.{on-task, broken-turn, kept-set, kept-clear}
+use Rattle.run_conditions.proofs.Conditions.{on-task, broken-turn, kept-set, kept-clear}
 use borrow.Author.Needs.{needs}
 use native.Mathlib.Omega.{arith}
 use Rattle.run_conditions.proofs.broken_at.Statement.{statement}

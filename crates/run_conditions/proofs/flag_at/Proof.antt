@@ -2,7 +2,8 @@
 use mathlib.Core.Path.{ap, _∙_}
 use Rattle.plan_check.proofs.Accepted.{clean}
 use Rattle.plan_codes.specs.Values.{flagOf}
-use Rattle.run_conditions.proofs.Laws.{flag-small, values}
+use Rattle.run_conditions.proofs.Literals.{flag-small}
+use Rattle.run_conditions.proofs.Conditions.{values}
 use borrow.Author.Needs.{needs}
 use native.Mathlib.Omega.{arith}
 use Rattle.run_conditions.proofs.flag_at.Statement.{statement}

@@ -1,6 +1,6 @@
 -- `run_conditions::is_at` meets its contract. Assumes nothing.
 use Rattle.plan_check.proofs.Accepted.{clean}
-use Rattle.run_conditions.proofs.Laws.{values}
+use Rattle.run_conditions.proofs.Conditions.{values}
 use native.Mathlib.Omega.{arith}
 use Rattle.run_conditions.proofs.is_at.Statement.{statement}
 use Rattle.run_conditions.proofs.is_at.Tie as tie

@@ -6,7 +6,7 @@ use Rattle.plan_format.specs.Format.{condNode}
 use Rattle.plan_check.proofs.Accepted.{clean}
 use Rattle.run_state.specs.Made.{isOf}
 use Rattle.node_sets.specs.Sets.{marked}
-use Rattle.run_conditions.proofs.Laws.{on-task}
+use Rattle.run_conditions.proofs.Conditions.{on-task}
 use borrow.Author.Needs.{needs}
 use native.Mathlib.Omega.{arith}
 use Rattle.run_conditions.proofs.is_of.Statement.{statement}

@@ -1,7 +1,7 @@
 -- `run_conditions::set_at` meets its contract. Assumes nothing.
 use Rattle.plan_check.proofs.Accepted.{clean}
 use Rattle.run_state.specs.Made.{setAt}
-use Rattle.run_conditions.proofs.Laws.{values}
+use Rattle.run_conditions.proofs.Conditions.{values}
 use native.Mathlib.Omega.{arith}
 use Rattle.run_conditions.proofs.set_at.Statement.{statement}
 use Rattle.run_conditions.proofs.set_at.Tie as tie

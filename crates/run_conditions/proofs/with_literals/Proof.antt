@@ -7,7 +7,7 @@ use Rattle.plan_format.specs.Format.{condCount}
 use Rattle.plan_check.proofs.Accepted.{clean}
 use Rattle.run_state.specs.Made.{literals, made}
 use Rattle.node_sets.specs.Sets.{marked}
-use Rattle.run_conditions.proofs.Laws.{literals-none, literals-turn, literals-kept}
+use Rattle.run_conditions.proofs.Literals.{literals-none, literals-turn, literals-kept}
 use native.Mathlib.Omega.{arith}
 use Rattle.run_conditions.proofs.with_literals.Statement.{statement}
 use Rattle.run_conditions.proofs.with_literals.Tie as tie

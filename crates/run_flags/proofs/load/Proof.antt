@@ -1,5 +1,5 @@
 -- `load` meets its contract. Assumes nothing.
-use Rattle.run_flags.proofs.Laws.{take-eight}
+use Rattle.run_flags.proofs.Copies.{take-eight}
 use borrow.Author.Needs.{needs}
 use Rattle.run_flags.proofs.load.Statement.{statement}
 use Rattle.run_flags.proofs.load.Tie as tie

@@ -6,7 +6,7 @@ use native.Mathlib.Omega.{arith}
 use borrow.Author.Needs.{needs}
 use lib.ListN.{length, take, drop, length-set}
 use lib.Seq.{take-all}
-use Rattle.run_flags.proofs.Laws.{copy-more}
+use Rattle.run_flags.proofs.Copies.{copy-more}
 use Rattle.run_flags.proofs.store.Statement.{statement}
 use Rattle.run_flags.proofs.store.Tie as tie
 

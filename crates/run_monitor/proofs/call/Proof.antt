@@ -5,7 +5,8 @@ use Rattle.plan_check.proofs.Meaning.{kind-is}
 use Rattle.run_state.specs.State.{stateRefusalUnder}
 use Rattle.run_state.proofs.Passed as checks
 use Rattle.run_refusals.specs.Inner.{eventOf, eventRefusal}
-use Rattle.run_refusals.proofs.Chain.{node-of, task-event, answer-task}
+use Rattle.run_refusals.proofs.Moves.{node-of, task-event}
+use Rattle.run_refusals.proofs.Answers.{answer-task}
 use Rattle.run_monitor.proofs.Called.{called-16, called-22, called-0}
 use borrow.Author.Needs.{needs}
 use Rattle.run_monitor.proofs.call.Statement.{statement}

@@ -11,7 +11,7 @@ use Rattle.run_state.specs.State.{stateRefusalUnder}
 use Rattle.run_state.proofs.Refused.{Roomy}
 use Rattle.run_state.proofs.Passed as checks
 use Rattle.run_refusals.specs.Inner.{eventRefusal}
-use Rattle.run_refusals.proofs.Chain.{skip-optional}
+use Rattle.run_refusals.proofs.Answers.{skip-optional}
 use Rattle.run_monitor.proofs.Called.{called-16, called-22, called-0}
 use Rattle.run_monitor.proofs.skip.Statement.{statement}
 use Rattle.run_monitor.proofs.skip.Tie as tie

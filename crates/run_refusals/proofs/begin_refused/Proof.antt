@@ -1,7 +1,7 @@
 -- `begin_refused` meets its contract. Assumes nothing.
 use mathlib.Core.Path.{_≡_, _∙_}
 use Rattle.run_refusals.specs.declared.Move.the-variants.{Start, Finish}
-use Rattle.run_refusals.proofs.Chain.{begin-start, begin-finish}
+use Rattle.run_refusals.proofs.Moves.{begin-start, begin-finish}
 use borrow.Author.Needs.{needs}
 use Rattle.run_refusals.proofs.begin_refused.Statement.{statement}
 use Rattle.run_refusals.proofs.begin_refused.Tie as tie

@@ -17,8 +17,9 @@ use Rattle.run_state.proofs.Passed.{has-room}
 use Rattle.run_refusals.specs.Inner.{eventOf, RefusesEvent}
 use Rattle.node_sets.specs.Sets.{marked}
 use Rattle.run_refusals.specs.Parts.{beginRefusal}
-use Rattle.run_refusals.proofs.Chain.{asks-of, place-is, node-of, task-event, answer-17, answer-18, answer-begin}
-use Rattle.run_refusals.proofs.Chain.{answer-broken, broken-by}
+use Rattle.run_refusals.proofs.Moves.{asks-of, place-is, node-of, task-event}
+use Rattle.run_refusals.proofs.OfKind.{broken-by}
+use Rattle.run_refusals.proofs.Answers.{answer-17, answer-18, answer-begin, answer-broken}
 use native.Mathlib.Omega.{arith}
 use Rattle.run_refusals.proofs.refused.Statement.{statement}
 use Rattle.run_refusals.proofs.refused.Tie as tie

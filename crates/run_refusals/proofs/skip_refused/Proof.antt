@@ -7,7 +7,7 @@ use borrow.Author.Tests.{not-true, not-false}
 use Rattle.plan_format.specs.Format.{isKind}
 use Rattle.plan_check.proofs.Meaning.{kind-is}
 use Rattle.run_state.proofs.Passed.{has-room, node-small}
-use Rattle.run_refusals.proofs.Chain.{skip-27, skip-18, skip-tree}
+use Rattle.run_refusals.proofs.Answers.{skip-27, skip-18, skip-tree}
 use Rattle.run_refusals.proofs.skip_refused.Statement.{statement}
 use Rattle.run_refusals.proofs.skip_refused.Tie as tie
 

@@ -9,7 +9,7 @@ use Rattle.run_state.proofs.Passed.{has-room}
 use Rattle.run_conditions.proofs.Refusals.{unmet-is}
 use Rattle.node_sets.specs.Sets.{marked}
 use Rattle.run_refusals.specs.Parts.{treeRefusal}
-use Rattle.run_refusals.proofs.Chain.{begin-tree, begin-unmet}
+use Rattle.run_refusals.proofs.Chains.{begin-tree, begin-unmet}
 use borrow.Author.Needs.{needs}
 use native.Mathlib.Omega.{arith}
 use Rattle.run_refusals.proofs.start_refused.Statement.{statement}

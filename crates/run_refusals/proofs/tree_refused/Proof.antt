@@ -6,7 +6,7 @@ use Rattle.runs.specs.Model.Monitor.{orderOpenB}
 use Rattle.run_state.specs.State.{statusIn}
 use Rattle.run_state.proofs.Passed.{has-room, node-small}
 use Rattle.run_enabled.proofs.Orders.{open-is}
-use Rattle.run_refusals.proofs.Chain.{tree-absent, tree-19, tree-20, tree-none}
+use Rattle.run_refusals.proofs.Chains.{tree-absent, tree-19, tree-20, tree-none}
 use borrow.Author.Needs.{needs}
 use Rattle.run_refusals.proofs.tree_refused.Statement.{statement}
 use Rattle.run_refusals.proofs.tree_refused.Tie as tie

@@ -1,14 +1,12 @@
--- What making a literal true does to each flag. Assumes nothing.
-use mathlib.Core.Path.{_≡_, refl, ap, _∙_}
+-- What making a literal true does to each flag, and the flags of eight equal bytes. Assumes nothing.
+use mathlib.Core.Path.{_≡_, refl, _∙_}
 use mathlib.Core.Logic.{by-cases}
 use mathlib.Core.Bool.{Bool, true, false, cond, or-true, or-false}
-use mathlib.Core.List.{List, [], _∷_, _++_}
-use Prim.Native.Nat.{ℕ, zero, suc, _+_, _/_, _%_, _^_, _<_, _≤_}
+use mathlib.Core.List.{List}
+use Prim.Native.Nat.{ℕ, zero, suc, _/_, _%_, _^_, _<_}
 use native.Mathlib.Decide.{ℕ-discrete}
-use native.Mathlib.Nat.{le-of-suc-le-suc, not-suc-le-zero}
-use native.Mathlib.Numerals.{add-one}
 use native.Mathlib.Omega.{arith}
-use lib.ListN.{length, getD, set, take, drop, length-set, replicate, getD-replicate}
+use lib.ListN.{length, getD, take, length-set, replicate, getD-replicate}
 use lib.Seq.{getD-set-same, getD-set-other, getD-take}
 use lib.Bits.{bitXor}
 use Rattle.base.specs.Bits.{bit}
@@ -80,30 +78,3 @@ all-bits true (suc (suc (suc (suc (suc (suc (suc (suc k)))))))) l = absurd (omeg
 pub all-flags : (s : Bool) (f : ℕ) → f < 64 → flagIn (replicate 8 (allByte s)) f ≡ s
 unfolding flagIn
 all-flags s f l = rw (getD-replicate 8 (f / 8) (allByte s) 0 (omega arith)) (all-bits s (f % 8) (omega arith))
-
--- the first eight elements of a list that has them
-pub take-eight : (xs : List ℕ) → 8 ≤ length xs
-    → getD xs 0 0 ∷ getD xs 1 0 ∷ getD xs 2 0 ∷ getD xs 3 0 ∷ getD xs 4 0 ∷ getD xs 5 0 ∷ getD xs 6 0 ∷ getD xs 7 0 ∷ []
-    ≡ take 8 xs
-take-eight (a ∷ b ∷ c ∷ d ∷ e ∷ f ∷ g ∷ h ∷ xs) l = refl
-take-eight [] l = absurd (omega arith)
-take-eight (a ∷ []) l = absurd (omega arith)
-take-eight (a ∷ b ∷ []) l = absurd (omega arith)
-take-eight (a ∷ b ∷ c ∷ []) l = absurd (omega arith)
-take-eight (a ∷ b ∷ c ∷ d ∷ []) l = absurd (omega arith)
-take-eight (a ∷ b ∷ c ∷ d ∷ e ∷ []) l = absurd (omega arith)
-take-eight (a ∷ b ∷ c ∷ d ∷ e ∷ f ∷ []) l = absurd (omega arith)
-take-eight (a ∷ b ∷ c ∷ d ∷ e ∷ f ∷ g ∷ []) l = absurd (omega arith)
-
--- a turn of the loop that copies
-copy-suc : (src dst : List ℕ) (i : ℕ) → i < length src → i < length dst
-    → set (take i src ++ drop i dst) i (getD src i 0) ≡ take (suc i) src ++ drop (suc i) dst
-copy-suc [] dst i h k = absurd (not-suc-le-zero h)
-copy-suc (x ∷ xs) [] i h k = absurd (not-suc-le-zero k)
-copy-suc (x ∷ xs) (y ∷ ys) zero h k = refl
-copy-suc (x ∷ xs) (y ∷ ys) (suc i) h k =
-    ap (λ (l : List ℕ). x ∷ l) (copy-suc xs ys i (le-of-suc-le-suc h) (le-of-suc-le-suc k))
-
-pub copy-more : (src dst : List ℕ) (i : ℕ) → i < length src → i < length dst
-    → set (take i src ++ drop i dst) i (getD src i 0) ≡ take (i + 1) src ++ drop (i + 1) dst
-copy-more src dst i h k = rw (add-one i) (copy-suc src dst i h k)

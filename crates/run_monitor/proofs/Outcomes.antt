@@ -1,4 +1,4 @@
--- The two equations of a call, by its answer. Assumes nothing.
+-- What a call returns and leaves, by its answer. Assumes nothing.
 use mathlib.Core.Path.{_≡_, _∙_}
 use mathlib.Core.List.{List}
 use Prim.Native.Nat.{ℕ}
