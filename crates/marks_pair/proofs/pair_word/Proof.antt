@@ -1,4 +1,5 @@
 -- `pair_word` meets its contract: a case for each place where it returns. Assumes nothing.
+use Prim.Native.Nat.{_<_}
 use Rattle.tables.proofs.Turns.{position-small, pair-small}
 use Rattle.marks_between.proofs.Passed.{passing-kid}
 use Rattle.marks_between.proofs.Pair.{pair-kid}
@@ -7,6 +8,11 @@ use native.Mathlib.Omega.{arith}
 use borrow.Author.Needs.{needs}
 use Rattle.marks_pair.proofs.pair_word.Statement.{statement}
 use Rattle.marks_pair.proofs.pair_word.Tie as tie
+
+-- both children are nodes, and the sign is one of two
+small : (w : tie.After-wide) → let a = w .before .before .args in
+    ((a .c < 128) × (w .wide .result < 128)) × (a .sign < 2)
+small w = let s = w .before .before in (pair-small (s .pre .0) (w .wide .ensures .0), s .pre .1)
 
 returns : tie.Need-returns
 returns c = pair-kid (c .before .before .before .before .before .wide .ensures .0)
@@ -31,63 +37,33 @@ returns-4 : tie.Need-returns-4
 returns-4 c = pair-kid (c .before .before .before .before .wide .ensures .0)
     (neither-rule _ (c .before .before .if1 .left) (λ u. rw (c .if3 .left) at ((c .before .apart .ensures) .1 u)))
 
-element-copy-out-wide : tie.Need-element-copy-out-wide
-element-copy-out-wide c = position-small (c .pre .0 .segment) (c .pre .0 .other)
-
-mul-if1 : tie.Need-mul-if1
-mul-if1 c = let s = c .before .before in omega (arith, s .pre .1, pair-small (s .pre .0) (c .wide .ensures .0))
-
-add-if1 : tie.Need-add-if1
-add-if1 c = let s = c .before .before in omega (arith, s .pre .1, pair-small (s .pre .0) (c .wide .ensures .0))
-
-element-copy-out-if1 : tie.Need-element-copy-out-if1
-element-copy-out-if1 c = let s = c .before .before in
-    omega (arith, s .pre .1, pair-small (s .pre .0) (c .wide .ensures .0))
-
-word-at-requires : tie.Need-word-at-requires
-word-at-requires c κs = let s = c .before .before .before .before in
-    omega (arith, s .pre .1, pair-small (s .pre .0) (c .before .before .wide .ensures .0))
-
-apart-requires : tie.Need-apart-requires
-apart-requires c κs = let s = c .before .before .before .before in
-    omega (arith, s .pre .1, pair-small (s .pre .0) (c .before .before .wide .ensures .0))
-
-word-at-requires-4 : tie.Need-word-at-requires-4
-word-at-requires-4 c κs = let s = c .before .before .before .before .before .before .before in
-    omega (arith, s .pre .1, pair-small (s .pre .0) (c .before .before .before .before .before .wide .ensures .0))
-
-word-at-requires-6 : tie.Need-word-at-requires-6
-word-at-requires-6 c κs = let d = c .before .before .before .before .before .before .before in
-    let s = d .before .before in
-    omega (arith, s .pre .1, pair-small (s .pre .0) (d .wide .ensures .0))
-
 pub pair-word-spec : {M : Type 1} → statement M
 pair-word-spec =
     tie.close
     (tie.spec
-    element-copy-out-wide
+    (λ c. position-small (c .pre .0 .segment) (c .pre .0 .other))
     (λ c κs. search needs)
-    mul-if1
-    add-if1
-    element-copy-out-if1
+    (λ c. omega (arith, small c))
+    (λ c. omega (arith, small c))
+    (λ c. omega (arith, small c))
     (λ c. search needs)
     (λ c. search needs)
-    word-at-requires
+    (λ c κs. omega (arith, small (c .before .before)))
     (λ c. search needs)
     (λ c κs. search needs)
     returns
     (λ c κs. search needs)
     returns-2
-    apart-requires
+    (λ c κs. omega (arith, small (c .before .before)))
     (λ c. search needs)
     (λ c κs. search needs)
     (λ c. search needs)
     (λ c. search needs)
-    word-at-requires-4
+    (λ c κs. omega (arith, small (c .before .before .before .before .before)))
     (λ c. search needs)
     (λ c κs. search needs)
     (λ c. search needs)
     (λ c. search needs)
-    word-at-requires-6
+    (λ c κs. omega (arith, small (c .before .before .before .before .before .before .before)))
     returns-3
     returns-4)

@@ -21,11 +21,7 @@ branchless-spec =
     (λ c. read-starts)
     (λ c. omega arith)
     (λ c. omega arith)
-    (λ c κs. (
-      c .before .before .before .before .before .pre .0,
-      c .before .before .before .before .before .pre .1 _
-          (among-at _ _ (omega arith)),
-    ))
+    (λ c κs. let s = c .before .before .before .before .before in (s .pre .0, s .pre .1 _ (among-at _ _ (omega arith))))
     (λ c. read-finds (c .before .before .before .before .loop .inv) (omega arith) (c .before .emptied .ensures)
     (c .if1 .taken))
     (λ c. omega arith)

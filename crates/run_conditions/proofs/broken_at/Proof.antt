@@ -24,7 +24,7 @@ entry c = c .before .before .before .before
 
 node-below : (c : tie.After-wide) → c .wide .result < nodeCount (now (entry c .args .plan))
 node-below c =
-    let s = c .before .before .before .before in
+    let s = entry c in
     omega (
       arith,
       c .wide .ensures .0,
@@ -45,22 +45,18 @@ condition-node-requires : tie.Need-condition-node-requires
 condition-node-requires c κs = (c .before .before .pre .0, room (c .before .before) .plan .fits)
 
 flag-at-requires : tie.Need-flag-at-requires
-flag-at-requires c κs = let s = c .before .before .before .before in (s .pre .0, room s .accepted)
+flag-at-requires c κs = let s = entry c in (s .pre .0, room s .accepted)
 
 set-at-requires : tie.Need-set-at-requires
-set-at-requires c κs = let s = c .before .before .before .before .before in (s .pre .0, room s .accepted)
+set-at-requires c κs = let s = entry (c .before) in (s .pre .0, room s .accepted)
 
 is-at-requires : tie.Need-is-at-requires
-is-at-requires c κs = let s = c .before .before .before .before .before .before .before in (s .pre .0, room s .accepted)
+is-at-requires c κs = let s = entry (c .before .before .before) in (s .pre .0, room s .accepted)
 
 element-copy-out-result : tie.Need-element-copy-out-result
 element-copy-out-result c =
     let w = c .before .before .before .before in
-    omega (
-      arith,
-      node-below w,
-      room (w .before .before .before .before) .plan .fits .limits .nodes,
-    )
+    omega (arith, node-below w, room (entry w) .plan .fits .limits .nodes)
 
 add-result : tie.Need-add-result
 add-result c = omega (arith, c .before .before .before .before .before .wide .ensures .1)
@@ -68,7 +64,7 @@ add-result c = omega (arith, c .before .before .before .before .before .wide .en
 shared-slice-read-result : tie.Need-shared-slice-read-result
 shared-slice-read-result c =
     let w = c .before .before .before .before .before .before in
-    omega (arith, node-below w, room (w .before .before .before .before) .room)
+    omega (arith, node-below w, room (entry w) .room)
 
 returns : tie.Need-returns
 unfolding marked

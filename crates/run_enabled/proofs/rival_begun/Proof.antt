@@ -41,29 +41,31 @@ returns : tie.Need-returns
 returns c = no-choice _ _ _ _ (sym (c .before .is-kind .ensures) ∙ c .if1 .taken)
 
 add-skipped : tie.Need-add-skipped
-add-skipped c = omega (arith, parent-small (c .before .before .before .before))
+add-skipped c = omega (arith, parent-small (entry c))
 
 shared-slice-read-skipped : tie.Need-shared-slice-read-skipped
 shared-slice-read-skipped c =
-    let s = c .before .before .before .before .before in
+    let s = entry (c .before) in
     byte-inside _ _ (s .pre .0 .1 .1 .1) _ (parent-below s)
 
 is-begun-requires : tie.Need-is-begun-requires
-is-begun-requires c κs = let s = c .before .before .before .before .before in
+is-begun-requires c κs = let s = entry (c .before) in
     (s .pre .0 .1 .0, (s .pre .0 .1 .1 .1, s .pre .1 (s .args .n) (node-small s)))
 
 returns-2 : tie.Need-returns-2
 unfolding nodeByte
 returns-2 c =
-    let s = c .before .before .before .before .before .before .before .before in
-    own-begun _ _ _ _ _ (no-all (c .before .before .before .before))
+    let e = c .before .before .before .before in
+    let s = entry e in
+    own-begun _ _ _ _ _ (no-all e)
     (sym (c .before .before .is-begun .ensures) ∙ c .if2 .taken) (s .pre .1 (s .args .g) (parent-small s))
 
 returns-3 : tie.Need-returns-3
 unfolding nodeByte
 returns-3 c =
-    let s = c .before .before .before .before .before .before .before .before in
-    own-waits _ _ _ _ _ (no-all (c .before .before .before .before))
+    let e = c .before .before .before .before in
+    let s = entry e in
+    own-waits _ _ _ _ _ (no-all e)
     (sym (c .before .before .is-begun .ensures) ∙ c .if2 .left) (s .pre .1 (s .args .g) (parent-small s))
 
 pub rival-begun-spec : {M : Type 1} → statement M
@@ -75,6 +77,6 @@ rival-begun-spec =
     add-skipped
     shared-slice-read-skipped
     is-begun-requires
-    (λ c. parent-small (c .before .before .before .before .before .before))
+    (λ c. parent-small (entry (c .before .before)))
     returns-2
     returns-3)

@@ -38,10 +38,9 @@ returns-2 c = called-22 _ _ _ _ (passed (c .before .before .before .before)) _ (
 
 write-move-requires : tie.Need-write-move-requires
 write-move-requires c κs =
-    let a =
-    c .before .before .before .before .before .before .before .before .before .before .before .before .before .args
-    in
-    let ok = passed (c .before .before .before .before .before) in
+    let e = back (c .before) in
+    let a = entry e .args in
+    let ok = passed e in
     record {
       node = kind-is _ _ 0 (answer-task _ _ _ ok (a .task) _ (node-of (a .m) (a .task)) (task-event (a .m) (a .task))
           (none (c .before))) .0;
@@ -49,7 +48,7 @@ write-move-requires c κs =
     }
 
 returns-3 : tie.Need-returns-3
-returns-3 c = called-0 _ _ _ _ (passed (c .before .before .before .before .before .before .before .before))
+returns-3 c = called-0 _ _ _ _ (passed (back (c .before .before .before .before)))
     (none (c .before .before .before .before)) (c .before .before .write-move .ensures)
 
 pub call-spec : {M : Type 1} → statement M

@@ -43,16 +43,16 @@ none c = sym (refusal-is (c .before)) ∙ c .if2 .left
 
 group-below : (c : tie.Else2) → let a = entry (back c) .args in
     a .group < nodeCount (now (a .plan))
-group-below c = kind-is _ _ 3 (skip-optional _ _ _ (passed (c .before .before .before .before)) _ (none c)) .0
+group-below c = kind-is _ _ 3 (skip-optional _ _ _ (passed (back c)) _ (none c)) .0
 
 returns-2 : tie.Need-returns-2
 returns-2 c = called-22 _ _ _ _ (passed (c .before .before .before .before)) _ (refusal-is (c .before)) (c .if2 .taken)
 
 add-state : tie.Need-add-state
-add-state c = omega (arith, group-below c, room (c .before .before .before .before) .plan .fits .limits .nodes)
+add-state c = omega (arith, group-below c, room (back c) .plan .fits .limits .nodes)
 
 slice-write-state : tie.Need-slice-write-state
-slice-write-state c = omega (arith, group-below c, room (c .before .before .before .before) .room)
+slice-write-state c = omega (arith, group-below c, room (back c) .room)
 
 pub skip-spec : {M : Type 1} → statement M
 skip-spec =
@@ -68,4 +68,4 @@ skip-spec =
     add-state
     slice-write-state
     (λ c. search needs)
-    (λ c. called-0 _ _ _ _ (passed (c .before .before .before .before)) (none c) refl))
+    (λ c. called-0 _ _ _ _ (passed (back c)) (none c) refl))

@@ -40,9 +40,8 @@ task-below c = kind-is _ _ 0 (is-task c) .0
 
 asked-is : (c : tie.After-asked) → let a = entry (c .before .before) .args in
     c .asked .result ≡ statusByte (asks (eventOf (a .m) (a .task)))
-asked-is c = c .asked .ensures ∙ ap (λ (a : Status). statusByte a)
-    (asks-of (c .before .before .before .before .before .before .args .m)
-    (c .before .before .before .before .before .before .args .task))
+asked-is c = let a = entry (c .before .before) .args in
+    c .asked .ensures ∙ ap (λ (q : Status). statusByte q) (asks-of (a .m) (a .task))
 
 as-asked : (c : tie.Else2) → let a = entry (c .before .before .before) .args in
     nodeByte (now (a .state)) (a .task) ≡ statusByte (asks (eventOf (a .m) (a .task)))
@@ -54,8 +53,11 @@ begun : (c : tie.Else3) → let a = entry (back c) .args in
     ≡ 0
 begun c = sym (c .before .begin-refused .ensures) ∙ c .if3 .left
 
+abbrev begins : tie.After-inc-broken → tie.Else3
+begins c = c .before .before .before .before
+
 abbrev start : tie.After-inc-broken → tie.Start
-start c = c .before .before .before .before .before .before .before .before .before .before .before .before .before
+start c = entry (back (begins c))
 
 broken : (c : tie.After-inc-broken)
     → incBrokenB (planOf (now (start c .args .plan)))
@@ -71,25 +73,24 @@ broken c =
     _ (c .before .before .before .mark-one .ensures) _ (c .inc-broken .ensures))
 
 returns : tie.Need-returns
-returns c xs u h = answer-17 _ xs _ u (c .before .before .before .before .args .task) _
-    (node-of (c .before .before .before .before .args .m) (c .before .before .before .before .args .task))
-    (task-event (c .before .before .before .before .args .m) (c .before .before .before .before .args .task))
+returns c xs u h = let a = c .before .before .before .before .args in
+    answer-17 _ xs _ u (a .task) _ (node-of (a .m) (a .task)) (task-event (a .m) (a .task))
     (sym (c .before .is-kind .ensures) ∙ not-true _ (c .if1 .taken))
 
 add-if2 : tie.Need-add-if2
 add-if2 c = omega (
   arith,
   task-below c,
-  has-room _ _ (c .before .before .before .before .pre) .plan .fits .limits .nodes,
+  has-room _ _ (entry c .pre) .plan .fits .limits .nodes,
 )
 
 shared-slice-read-if2 : tie.Need-shared-slice-read-if2
 shared-slice-read-if2 c = omega
-    (arith, task-below (c .before), has-room _ _ (c .before .before .before .before .before .pre) .room)
+    (arith, task-below (c .before), has-room _ _ (entry (c .before) .pre) .room)
 
 returns-2 : tie.Need-returns-2
 unfolding nodeByte
-returns-2 c xs u h = let s = c .before .before .before .before .before .before .before in
+returns-2 c xs u h = let s = entry (c .before .before .before) in
     answer-18 _ xs _ u (s .args .task) _ (node-of (s .args .m) (s .args .task))
     (task-event (s .args .m) (s .args .task))
     (is-task (c .before .before .before)) (λ z. c .if2 .taken (z ∙ sym (asked-is (c .before))))
@@ -97,23 +98,21 @@ returns-2 c xs u h = let s = c .before .before .before .before .before .before .
 begin-refused-requires : tie.Need-begin-refused-requires
 begin-refused-requires c κs = record {
   node = task-below (c .before .before .before);
-  passed = c .before .before .before .before .before .before .before .pre;
+  passed = entry (c .before .before .before) .pre;
 }
 
 returns-3 : tie.Need-returns-3
-returns-3 c xs u h = let s = c .before .before .before .before .before .before .before .before .before in
+returns-3 c xs u h =
+    let e = c .before .before .before .before .before in
+    let s = entry e in
     answer-begin _ xs _ u (s .args .task) _ (node-of (s .args .m) (s .args .task))
     (task-event (s .args .m) (s .args .task))
-    (is-task (c .before .before .before .before .before)) (as-asked (c .before .before)) h _
+    (is-task e) (as-asked (c .before .before)) h _
     (c .before .begin-refused .ensures) (c .if3 .taken)
 
 mark-one-requires : tie.Need-mark-one-requires
-mark-one-requires c κs = omega (
-  arith,
-  task-below (c .before .before .before .before .before),
-  has-room _ _ (c .before .before .before .before .before .before .before .before .before .pre) .plan .fits .limits
-      .nodes,
-)
+mark-one-requires c κs = let e = back c in
+    omega (arith, task-below e, has-room _ _ (entry e .pre) .plan .fits .limits .nodes)
 
 -- 22, the last
 last : (c : tie.After-inc-broken) (v : Bool) → c .inc-broken .result ≡ v → RefusesEvent (now (start c .args .plan))
@@ -121,8 +120,7 @@ last : (c : tie.After-inc-broken) (v : Bool) → c .inc-broken .result ≡ v →
     (cond v 22 0)
 last c v q xs u h = let s = start c in answer-broken _ xs _ u (s .args .task) _ (node-of (s .args .m) (s .args .task))
     (task-event (s .args .m) (s .args .task))
-    (is-task (c .before .before .before .before .before .before .before .before .before))
-    (as-asked (c .before .before .before .before .before .before)) h (begun (c .before .before .before .before)) v
+    (is-task (back (begins c))) (as-asked (begins c .before .before)) h (begun (begins c)) v
     (broken c ∙ q)
 
 returns-4 : tie.Need-returns-4
@@ -145,6 +143,6 @@ refused-spec =
     returns-3
     mark-one-requires
     (λ c κs. tt)
-    (λ c κs. c .before .before .before .before .before .before .before .before .before .before .before .before .pre)
+    (λ c κs. entry (back (c .before .before .before)) .pre)
     returns-4
     returns-5)

@@ -24,8 +24,9 @@ returns c xs u h = skip-27 _ xs _ u _
 
 is-begun-requires : tie.Need-is-begun-requires
 is-begun-requires c κs =
-    let s = c .before .before .before .before .before .before in
-    let l = kind-is _ _ 3 (is-optional (c .before .before)) .0 in
+    let e = c .before .before in
+    let s = entry e in
+    let l = kind-is _ _ 3 (is-optional e) .0 in
     (l, (s .pre, c .before .children .ensures .1 _ (node-small _ _ (s .pre) _ l)))
 
 returns-2 : tie.Need-returns-2
@@ -35,8 +36,8 @@ returns-2 c xs u h = skip-18 _ xs _ u _
 
 tree-refused-requires : tie.Need-tree-refused-requires
 tree-refused-requires c κs =
-    let s = c .before .before .before .before .before .before .before .before .before in (
-      record { node = kind-is _ _ 3 (is-optional (c .before .before .before .before .before)) .0; passed = s .pre },
+    let e = c .before .before .before .before .before in (
+      record { node = kind-is _ _ 3 (is-optional e) .0; passed = entry e .pre },
       c .before .before .before .before .children .ensures .1,
     )
 

@@ -15,6 +15,7 @@ use native.Mathlib.Omega.{arith}
 use Rattle.run_refusals.proofs.start_refused.Statement.{statement}
 use Rattle.run_refusals.proofs.start_refused.Tie as tie
 
+-- what the call was given
 abbrev start-of : tie.After-unmet → tie.Start
 start-of c = c .before .before .before .before .before .before .before .before .before .before
 
@@ -25,8 +26,7 @@ unmet c = sym (rw (c .before .load .ensures, c .before .before .before .mark-one
 
 none-yet : (c : tie.After-unmet) → treeRefusal (now (start-of c .args .plan)) (now (start-of c .args .state))
     (start-of c .args .task) (marked (now (start-of c .args .standing)) (start-of c .args .task)) ≡ 0
-none-yet c = sym (c .before .before .before .before .before .tree-refused .ensures)
-    ∙ c .before .before .before .before .if1 .left
+none-yet c = let e = c .before .before .before .before in sym (e .before .tree-refused .ensures) ∙ e .if1 .left
 
 returns : tie.Need-returns
 returns c = begin-tree _ _ _ _ _ (c .before .tree-refused .ensures) (c .if1 .taken)

@@ -17,9 +17,8 @@ entry c = c .before .before .before .before .before .before .before .before .bef
 
 opens : (c : tie.After-order-open) → let a = entry c .args in
     c .order-open .result ≡ orderOpenB (planOf (now (a .plan))) (statusIn (now (a .plan)) (now (a .state))) (a .node)
-opens c = c .order-open .ensures ∙ open-is _ _
-    (c .before .before .before .before .before .before .before .before .before .before .before .pre .0 .passed) _
-    _ (c .before .before .before .path .ensures .1)
+opens c = c .order-open .ensures ∙ open-is _ _ (entry c .pre .0 .passed) _ _
+    (c .before .before .before .path .ensures .1)
 
 returns-2 : tie.Need-returns-2
 returns-2 c = tree-19 _ _ _ _ (c .before .before .if1 .left) (sym (c .before .branch-begun .ensures) ∙ c .if2 .taken)

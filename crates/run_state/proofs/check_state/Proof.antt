@@ -28,17 +28,17 @@ tested : (c : tie.After-ordinals-bad) → let a = entry (back c) .args in
     (c .before .before .before .flags-bad .result || c .before .nodes-bad .result || c .ordinals-bad .result) ≡
     malformedUnder (now (a .plan)) (now (a .blocked)) (now (a .state))
 tested c =
-    let e = c .before .before .before .before in
+    let e = back c in
     bad-parts _ _ _ (e .before .check-room .ensures .standing (e .if1 .left)) _ _ _
     (c .before .before .before .flags-bad .ensures) (c .before .nodes-bad .ensures) (c .ordinals-bad .ensures)
 
 returns-2 : tie.Need-returns-2
-returns-2 c = state-bad-under _ _ _ (passed (c .before .before .before .before .before))
+returns-2 c = state-bad-under _ _ _ (passed (back (c .before)))
     (sym (tested (c .before)) ∙ c .if2 .taken)
 
 returns-3 : tie.Need-returns-3
 returns-3 c =
-    let e = c .before .before .before .before .before in
+    let e = back (c .before) in
     state-good-under _ _ _ (e .before .check-room .ensures) (e .if1 .left) (sym (tested (c .before)) ∙ c .if2 .left)
 
 pub check-state-spec : {M : Type 1} → statement M

@@ -16,10 +16,14 @@ use Rattle.run_step.proofs.write_move.Tie as tie
 started-requires : tie.Need-started-requires
 started-requires c κs = fits _ _ (has-room _ _ (c .before .before .before .before .before .pre .passed))
 
+-- what the call was given
+abbrev entry : tie.After-started → tie.Start
+entry c = c .before .before .before .before .before .before
+
 -- the ordinal is one of a node's
 small : (c : tie.After-started) → c .started .result ≤ 128
 small c =
-    let s = c .before .before .before .before .before .before in
+    let s = entry c in
     omega (
       arith,
       c .started .ensures,
@@ -32,13 +36,14 @@ add-k c = omega (arith, small c)
 
 write-ordinal-requires : tie.Need-write-ordinal-requires
 write-ordinal-requires c κs =
-    let s = c .before .before .before .before .before .before .before .before .before .before .before .before in
+    let k = c .before .before .before .before .before .before in
+    let s = entry k in
     let r = has-room _ _ (s .pre .passed) in
     let w = c .before .before .before .write-event in
     let z : length (w .last .1 .0) ≡ length (now (s .args .state)) = search needs in (
       s .pre .node,
       (
-        omega (arith, small (c .before .before .before .before .before .before)),
+        omega (arith, small k),
         record { plan = r .plan .fits; room = omega (arith, z, r .room) },
       ),
     )
@@ -47,7 +52,7 @@ returns : tie.Need-returns
 returns c =
     let p = c .before .before .before .before .before .before .before in
     let k = p .before .before .started .ensures in
-    let s = p .before .before .before .before .before .before .before .before in
+    let s = entry (p .before .before) in
     let e : s .args .m ≡ Start = cc in
     start-written _ _ _ _ _ (p .asserted-place .ensures) e _ _ _
     (c .before .before .before .before .before .before .write-event .ensures) (omega (arith, k))

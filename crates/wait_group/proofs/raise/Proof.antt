@@ -1,6 +1,6 @@
 -- `raise` meets its contract: the orders of c below j are done. Assumes nothing.
 use mathlib.Core.Path.{_≡_, _∙_}
-use Prim.Native.Nat.{_-_}
+use Prim.Native.Nat.{_-_, _<_}
 use Rattle.plan_format.specs.Format.{orderCount}
 use Rattle.plan_check.proofs.Accepted.{clean}
 use Rattle.table_orders.proofs.Chains.{sorted}
@@ -38,8 +38,9 @@ later-requires c κs = (
   clean _ (c .before .before .before .before .before .before .before .before .pre .0) .fits,
 )
 
-element-copy-out-w : tie.Need-element-copy-out-w Inv-loop μ-loop
-element-copy-out-w c =
+-- the later task is a node's number
+later-small : (c : tie.After-wide2 Inv-loop μ-loop) → c .wide2 .result < 128
+later-small c =
     let l = c .before .before .before .before .before .before in
     let s = l .before .before .before .before in
     omega (
@@ -49,41 +50,16 @@ element-copy-out-w c =
       c .before .later .ensures,
     )
 
-mul-waits : tie.Need-mul-waits Inv-loop μ-loop
-mul-waits c =
-    let l = c .before .before .before .before .before .before .before .before in
-    let s = l .before .before .before .before in
-    omega (
-      arith,
-      sorted _ (clean _ (s .pre .0)) .small (l .loop .j) (omega arith),
-      c .before .before .wide2 .ensures,
-      c .before .before .before .later .ensures,
-    )
-
-element-write-waits : tie.Need-element-write-waits Inv-loop μ-loop
-element-write-waits c =
-    let l = c .before .before .before .before .before .before .before .before in
-    let s = l .before .before .before .before in
-    omega (
-      arith,
-      sorted _ (clean _ (s .pre .0)) .small (l .loop .j) (omega arith),
-      c .before .before .wide2 .ensures,
-      c .before .before .before .later .ensures,
-    )
-
 loop-again : tie.Need-loop-again Inv-loop μ-loop
 loop-again c =
-    let l = c .before .before .before .before .before .before .before .before in
+    let w = c .before .before in
+    let i = w .before .before in
+    let l = i .before .before .before .before in
     let s = l .before .before .before .before in (
       l .loop .inv .0,
       raised-more (sorted _ (clean _ (s .pre .0))) (omega arith)
-          (omega (
-            arith,
-            c .before .before .before .before .if1 .left,
-            c .before .before .before .before .before .wide .ensures,
-            c .before .before .before .before .before .before .earlier .ensures,
-          ))
-          (c .before .before .wide2 .ensures .0 ∙ c .before .before .before .later .ensures) (c .greater .ensures)
+          (omega (arith, i .if1 .left, i .before .wide .ensures, i .before .before .earlier .ensures))
+          (w .wide2 .ensures .0 ∙ w .before .later .ensures) (c .greater .ensures)
           (l .loop .inv .1),
     )
 
@@ -105,10 +81,10 @@ raise-spec =
     later-requires
     (λ c κs. search needs)
     (λ c. omega arith)
-    element-copy-out-w
+    later-small
     (λ c κs. search needs)
-    mul-waits
-    element-write-waits
+    (λ c. omega (arith, later-small (c .before .before)))
+    (λ c. later-small (c .before .before))
     (λ c. omega arith)
     (λ c. omega arith)
     loop-again

@@ -1,5 +1,5 @@
 -- `spread` meets its contract: the children before i are done, and the orders of each are met. Assumes nothing.
-use Prim.Native.Nat.{_-_}
+use Prim.Native.Nat.{_-_, _<_}
 use Rattle.tables.specs.Segments.{Reached}
 use Rattle.tables.proofs.Turns.{at-segment, first-turn, position-small, kid-small, position, next-turn, last-turn}
 use Rattle.wait_group.proofs.Children.{at-group, SpreadTo, spread-none, spread-end, spread-more, spread-all}
@@ -31,40 +31,20 @@ element-copy-out-wide c =
     let a = at-segment (at-group (l .before .before .before .pre .0)) (l .before .children .ensures) in
     position-small a (position (l .loop .inv .0) (c .if1 .taken))
 
-mul-child-end : tie.Need-mul-child-end Inv-loop μ-loop
-mul-child-end c =
-    let l = c .before .before .before .before in
-    let a = at-segment (at-group (l .before .before .before .pre .0)) (l .before .children .ensures) in
-    omega (arith, kid-small a (position (l .loop .inv .0) (c .before .before .if1 .taken)) (c .wide .ensures .0))
-
-element-copy-out-child-end : tie.Need-element-copy-out-child-end Inv-loop μ-loop
-element-copy-out-child-end c =
+-- the child of this turn is a node's number
+child-small : (c : tie.After-wide Inv-loop μ-loop) → c .wide .result < 128
+child-small c =
     let l = c .before .before .before .before in
     let a = at-segment (at-group (l .before .before .before .pre .0)) (l .before .children .ensures) in
     kid-small a (position (l .loop .inv .0) (c .before .before .if1 .taken)) (c .wide .ensures .0)
 
-mul-child-end-2 : tie.Need-mul-child-end-2 Inv-loop μ-loop
-mul-child-end-2 c =
-    let l = c .before .before .before .before .before in
-    let a = at-segment (at-group (l .before .before .before .pre .0)) (l .before .children .ensures) in
-    omega (
-      arith,
-      kid-small a (position (l .loop .inv .0) (c .before .before .before .if1 .taken))
-          (c .before .wide .ensures .0),
-    )
-
-element-copy-out-child-end-2 : tie.Need-element-copy-out-child-end-2 Inv-loop μ-loop
-element-copy-out-child-end-2 c =
-    let l = c .before .before .before .before .before in
-    let a = at-segment (at-group (l .before .before .before .pre .0)) (l .before .children .ensures) in
-    kid-small a (position (l .loop .inv .0) (c .before .before .before .if1 .taken)) (c .before .wide .ensures .0)
-
 add-child-end : tie.Need-add-child-end Inv-loop μ-loop
 add-child-end c =
-    let l = c .before .before .before .before .before .before in
+    let w = c .before .before in
+    let l = w .before .before .before .before in
     let s = l .before .before .before in
-    let at = position (l .loop .inv .0) (c .before .before .before .before .if1 .taken) in
-    let e = spread-end (s .pre .0) (l .before .children .ensures) (c .before .before .wide .ensures .0) at
+    let at = position (l .loop .inv .0) (w .before .before .if1 .taken) in
+    let e = spread-end (s .pre .0) (l .before .children .ensures) (w .wide .ensures .0) at
     (l .loop .inv .1) (s .pre .2) in
     omega (arith, e .0, e .1)
 
@@ -75,12 +55,13 @@ raise-requires c κs =
 
 loop-again : tie.Need-loop-again Inv-loop μ-loop
 loop-again c =
-    let l = c .before .before .before .before .before .before .before .before .before in
+    let w = c .before .before .before .before .before in
+    let l = w .before .before .before .before in
     let s = l .before .before .before in
     let here = l .before .children .ensures in
     let turn = l .loop .inv .0 in
-    let test = c .before .before .before .before .before .before .before .if1 .taken in
-    let e = c .before .before .before .before .before .wide .ensures .0 in
+    let test = w .before .before .if1 .taken in
+    let e = w .wide .ensures .0 in
     let at = position turn test in
     let x = spread-end (s .pre .0) here e at (l .loop .inv .1) (s .pre .2) in (
       next-turn turn test,
@@ -104,10 +85,10 @@ spread-spec =
     loop-holds
     element-copy-out-wide
     (λ c κs. search needs)
-    mul-child-end
-    element-copy-out-child-end
-    mul-child-end-2
-    element-copy-out-child-end-2
+    (λ c. omega (arith, child-small c))
+    child-small
+    (λ c. omega (arith, child-small (c .before)))
+    (λ c. child-small (c .before))
     add-child-end
     raise-requires
     (λ c κs. search needs)

@@ -101,7 +101,11 @@ module _ (t : ℕ) where
     any-length.Post,
   )
 
-  -- ---- an all-of group
+  -- ---- an all-of group: what the call was given
+  abbrev all-entry : all-length-lts.After-groups-under all-claims (all-length-at t) all-length.Post
+      → all-length-lts.Start all-claims (all-length-at t) all-length.Post
+  all-entry u = u .before .before .before .before
+
   all-under-requires : all-length-lts.Need-groups-under-requires all-claims (all-length-at t) all-length.Post
   all-under-requires c κs = let s = c .before .before .before in
       (omega (arith, s .pre .0), (group (s .pre .1 .0), s .pre .1 .1))
@@ -109,21 +113,25 @@ module _ (t : ℕ) where
   spread-requires : all-length-lts.Need-spread-requires all-claims (all-length-at t) all-length.Post
   spread-requires c κs =
       let u = c .before .before in
-      let o = u .before .before .before .before .pre .1 .0 in
+      let o = all-entry u .pre .1 .0 in
       (o, u .groups-under .ensures .tables, child-lengths o refl (u .groups-under .ensures))
 
   all-index : all-length-lts.Need-mul-lengths all-claims (all-length-at t) all-length.Post
-  all-index c = let u = c .before .before .before in omega (arith, small (u .before .before .before .before .pre .1 .0))
+  all-index c = let u = c .before .before .before in omega (arith, small (all-entry u .pre .1 .0))
 
   all-write : all-length-lts.Need-element-write-lengths all-claims (all-length-at t) all-length.Post
-  all-write c = let u = c .before .before .before in small (u .before .before .before .before .pre .1 .0)
+  all-write c = let u = c .before .before .before in small (all-entry u .pre .1 .0)
 
   all-returns : all-length-lts.Need-returns all-claims (all-length-at t) all-length.Post
   all-returns c =
       let u = c .before .before .before in
-      all-worked (u .before .before .before .before .pre .1 .0) refl (u .groups-under .ensures) (c .spread .ensures)
+      all-worked (all-entry u .pre .1 .0) refl (u .groups-under .ensures) (c .spread .ensures)
 
-  -- ---- an any-of or optional group
+  -- ---- an any-of or optional group: what the call was given
+  abbrev any-entry : any-length-lts.After-groups-under any-claims (any-length-at t) any-length.Post
+      → any-length-lts.Start any-claims (any-length-at t) any-length.Post
+  any-entry u = u .before .before .before .before
+
   any-under-requires : any-length-lts.Need-groups-under-requires any-claims (any-length-at t) any-length.Post
   any-under-requires c κs = let s = c .before .before .before in
       (omega (arith, s .pre .0), (group (s .pre .1 .0), s .pre .1 .1))
@@ -131,18 +139,18 @@ module _ (t : ℕ) where
   longest-requires : any-length-lts.Need-longest-child-requires any-claims (any-length-at t) any-length.Post
   longest-requires c κs =
       let u = c .before in
-      let o = u .before .before .before .before .pre .1 .0 in (o, child-lengths o refl (u .groups-under .ensures))
+      let o = any-entry u .pre .1 .0 in (o, child-lengths o refl (u .groups-under .ensures))
 
   any-index : any-length-lts.Need-mul-lengths any-claims (any-length-at t) any-length.Post
-  any-index c = let u = c .before .before in omega (arith, small (u .before .before .before .before .pre .1 .0))
+  any-index c = let u = c .before .before in omega (arith, small (any-entry u .pre .1 .0))
 
   any-write : any-length-lts.Need-element-write-lengths any-claims (any-length-at t) any-length.Post
-  any-write c = let u = c .before .before in small (u .before .before .before .before .pre .1 .0)
+  any-write c = let u = c .before .before in small (any-entry u .pre .1 .0)
 
   any-returns : any-length-lts.Need-returns any-claims (any-length-at t) any-length.Post
   any-returns c =
       let u = c .before .before in
-      let o = u .before .before .before .before .pre .1 .0 in
+      let o = any-entry u .pre .1 .0 in
       any-worked o refl (u .groups-under .ensures) (o .kind) (c .longest-child .ensures)
 
   -- ---- what is under a group
@@ -179,11 +187,11 @@ module _ (t : ℕ) where
 
   all-requires : groups-under-lts.Need-all-length-requires under-claims (groups-under-at t) groups-under.Post Inv μ
   all-requires c κs =
-      let l = c .before .before .before .before .before .before .before .before in
+      let w = c .before .before .before .before in
+      let l = w .before .before .before .before in
       let s = l .before .before .before in
-      let at = position (l .loop .inv .0) (c .before .before .before .before .before .before .if1 .taken) in
-      let later = kid-later (at-group (s .pre .1 .0)) (l .before .children .ensures) at
-      (c .before .before .before .before .wide .ensures .0) in (
+      let at = position (l .loop .inv .0) (w .before .before .if1 .taken) in
+      let later = kid-later (at-group (s .pre .1 .0)) (l .before .children .ensures) at (w .wide .ensures .0) in (
         omega (arith, s .pre .0, nearer refl later),
         (
           all-group (s .pre .1 .0 .accepted) (s .pre .1 .0 .tree) (later .1) (c .before .before .before .kind .ensures)
@@ -194,11 +202,11 @@ module _ (t : ℕ) where
 
   any-requires : groups-under-lts.Need-any-length-requires under-claims (groups-under-at t) groups-under.Post Inv μ
   any-requires c κs =
-      let l = c .before .before .before .before .before .before .before .before .before in
+      let w = c .before .before .before .before .before in
+      let l = w .before .before .before .before in
       let s = l .before .before .before in
-      let at = position (l .loop .inv .0) (c .before .before .before .before .before .before .before .if1 .taken) in
-      let later = kid-later (at-group (s .pre .1 .0)) (l .before .children .ensures) at
-      (c .before .before .before .before .before .wide .ensures .0) in (
+      let at = position (l .loop .inv .0) (w .before .before .if1 .taken) in
+      let later = kid-later (at-group (s .pre .1 .0)) (l .before .children .ensures) at (w .wide .ensures .0) in (
         omega (arith, s .pre .0, nearer refl later),
         (
           any-group (s .pre .1 .0 .accepted) (s .pre .1 .0 .tree) (later .1)

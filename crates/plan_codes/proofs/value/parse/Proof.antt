@@ -9,37 +9,28 @@ use Rattle.plan_codes.proofs.value.parse.Statement.{statement}
 use Rattle.plan_codes.proofs.value.parse.Tie as tie
 
 returns : tie.Need-returns
-returns c = c .accepted .ensures
-    ∙ parse-at (c .before .before .args .v) (c .before .before .args .v) 0 0 (omega arith) (omega arith) (omega arith)
-    (omega arith)
+returns c = let v = c .before .before .args .v in
+    c .accepted .ensures ∙ parse-at v v 0 0 (omega arith) (omega arith) (omega arith) (omega arith)
 
 returns-2 : tie.Need-returns-2
-returns-2 c = c .accepted2 .ensures
-    ∙ parse-at (c .before .before .before .args .v) (c .before .before .before .args .v - 64) 1 0 (omega arith)
-    (omega arith) (omega arith) (omega arith)
+returns-2 c = let v = c .before .before .before .args .v in
+    c .accepted2 .ensures ∙ parse-at v (v - 64) 1 0 (omega arith) (omega arith) (omega arith) (omega arith)
 
 returns-3 : tie.Need-returns-3
-returns-3 c = c .accepted3 .ensures
-    ∙ parse-at (c .before .before .before .before .args .v) (c .before .before .before .before .args .v - 128) 0 1
-    (omega arith) (omega arith) (omega arith) (omega arith)
+returns-3 c = let v = c .before .before .before .before .args .v in
+    c .accepted3 .ensures ∙ parse-at v (v - 128) 0 1 (omega arith) (omega arith) (omega arith) (omega arith)
 
 returns-4 : tie.Need-returns-4
-returns-4 c = c .accepted4 .ensures
-    ∙ parse-at (c .before .before .before .before .before .args .v)
-    (c .before .before .before .before .before .args .v - 192) 1 1 (omega arith) (omega arith) (omega arith)
-    (omega arith)
+returns-4 c = let v = c .before .before .before .before .before .args .v in
+    c .accepted4 .ensures ∙ parse-at v (v - 192) 1 1 (omega arith) (omega arith) (omega arith) (omega arith)
 
 returns-5 : tie.Need-returns-5
-returns-5 c = c .accepted5 .ensures
-    ∙ parse-at (c .before .before .before .before .before .before .args .v)
-    (c .before .before .before .before .before .before .args .v - 256) 0 2 (omega arith) (omega arith) (omega arith)
-    (omega arith)
+returns-5 c = let v = c .before .before .before .before .before .before .args .v in
+    c .accepted5 .ensures ∙ parse-at v (v - 256) 0 2 (omega arith) (omega arith) (omega arith) (omega arith)
 
 returns-6 : tie.Need-returns-6
-returns-6 c = c .accepted6 .ensures
-    ∙ parse-at (c .before .before .before .before .before .before .before .args .v)
-    (c .before .before .before .before .before .before .before .args .v - 320) 1 2 (omega arith) (omega arith)
-    (omega arith) (omega arith)
+returns-6 c = let v = c .before .before .before .before .before .before .before .args .v in
+    c .accepted6 .ensures ∙ parse-at v (v - 320) 1 2 (omega arith) (omega arith) (omega arith) (omega arith)
 
 returns-7 : tie.Need-returns-7
 unfolding parsedOf
