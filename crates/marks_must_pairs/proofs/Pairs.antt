@@ -20,13 +20,13 @@ use Rattle.marks_row.specs.Musts.{SaysOf, MustPreWord, MustPostWord}
 use Rattle.runs.proofs.Plan.Numbers.{opposite}
 use Rattle.tables.proofs.Segments.{some-next, some-child}
 use Rattle.marks_between.specs.Passing.{OfGroups, PassingWord, Pairing, PairWord}
-use Rattle.marks_between.proofs.Pair.{no-pair, pass-none, pass-some}
+use Rattle.marks_between.proofs.Pair.{no-pair, by-after, pass-none, pass-some}
 use Rattle.marks_must_pairs.specs.MustPairs.{MustPair}
 
 -- a word for each place where `must_pair_word` returns
 module _ {kids : List ℕ} {segment : Segment} {order rows : List ℕ} {s c d : ℕ} (w : ℕ) where
   -- d stands before c: what d must leave, and c must require
-  module _ (x y : ℕ) (q : code order d c ≡ 1) (ex : MustPostWord rows d (1 - s) x) (ey : MustPreWord rows c s y) where
+  module _ (x y : ℕ) (q : code order c d ≡ 2) (ex : MustPostWord rows d (1 - s) x) (ey : MustPreWord rows c s y) where
     shared : OfGroups kids segment order rows (λ p n. Child p n c → Child p n d
         → SaysOf s (bitAnd x y) (λ f v. Must p d (ExternalPost p f (not v)) × Must p c (ExternalPre p f v)))
     shared p n g hc hd v e f l = let formed = g .group .well-formed in says-and {x = x} {y = y} refl
@@ -34,14 +34,14 @@ module _ {kids : List ℕ} {segment : Segment} {order rows : List ℕ} {s c d : 
         (ey _ formed (hc .node) (g .group .children c hc) v e f l)
 
     pub none-shared : bitAnd w (bitAnd x y) ≡ 0 → PairWord MustPair kids segment order rows s w c d 0
-    none-shared = pass-none w (bitAnd x y) true q (λ p n b f v. (λ u. (b, u), λ u. u .1)) shared
+    none-shared = pass-none w (bitAnd x y) true (by-after q) (λ p n b f v. (λ u. (b, u), λ u. u .1)) shared
 
     pub shared-passes : {r : ℕ} → PassingWord kids segment order rows true (bitAnd w (bitAnd x y)) c d r
         → PairWord MustPair kids segment order rows s w c d r
-    shared-passes = pass-some w (bitAnd x y) true q (λ p n b f v. (λ u. (b, u), λ u. u .1)) shared
+    shared-passes = pass-some w (bitAnd x y) true (by-after q) (λ p n b f v. (λ u. (b, u), λ u. u .1)) shared
 
-  pub not-before : ¬ (code order d c ≡ 1) → PairWord MustPair kids segment order rows s w c d 0
-  not-before k = no-pair w (λ p n g hc hd f v u. k ((g .orders .before _ _ (hd .node) (hc .node)) .1 (u .0)))
+  pub not-before : ¬ (code order c d ≡ 2) → PairWord MustPair kids segment order rows s w c d 0
+  not-before k = no-pair w (λ p n g hc hd f v u. k ((g .orders .after _ _ (hc .node) (hd .node)) .1 (u .0)))
 
 module _ {p : Plan} {n c f : ℕ} {v : Bool} where
   -- no pair with c adds a flag, if c must not require one that is not yet known

@@ -16,7 +16,7 @@ use tables::NODES;
 use tables::Nodes;
 use tables::Orders;
 use tables::Segment;
-use tables::codes::BEFORE;
+use tables::codes::AFTER;
 
 // The wanted flags of one sign that the child c and the child at j must clobber.
 fn must_pair_word(
@@ -34,7 +34,7 @@ fn must_pair_word(
         (now (rows .entry)) sign wanted c (getD (now (kids .entry)) j 0) r ⌝ }
 {
     let d = wide(kids[j]);
-    if order[d * NODES + c] == BEFORE {
+    if order[c * NODES + d] == AFTER {
         let shared = wanted & (must_post(rows, d, 1 - sign) & must_pre(rows, c, sign));
         if shared == 0 {
             return 0;

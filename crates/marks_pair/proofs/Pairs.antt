@@ -25,7 +25,7 @@ use Rattle.marks_siblings.specs.Siblings.{Apart}
 use Rattle.marks_siblings.proofs.Sibling.{apart-is}
 use Rattle.marks_row.specs.Musts.{SaysOf}
 use Rattle.marks_between.specs.Passing.{Between, OfGroups, PassingWord, Pairing, PairWord, SomePair}
-use Rattle.marks_between.proofs.Pair.{no-pair, pair-of, pass-none, pass-some}
+use Rattle.marks_between.proofs.Pair.{no-pair, pair-of, by-before, pass-none, pass-some}
 use Rattle.marks_pair.specs.declared.Literals.{Literals}
 use Rattle.marks_pair.specs.Pairs.{Opposite, Pair, signWord, PairWords, Unconcerned}
 
@@ -68,11 +68,11 @@ module _ {kids : List ℕ} {segment : Segment} {order rows : List ℕ} {s c d : 
         (read (g .group .children c hc) (may-pre v) (firstWord may-pre + s) y f (omega (arith, e)) ey l)
 
     pub none-shared : bitAnd w (bitAnd x y) ≡ 0 → PairWord Pair kids segment order rows s w c d 0
-    none-shared = pass-none w (bitAnd x y) false q (λ p n b f v. passed-pair b) shared
+    none-shared = pass-none w (bitAnd x y) false (by-before q) (λ p n b f v. passed-pair b) shared
 
     pub shared-passes : {r : ℕ} → PassingWord kids segment order rows false (bitAnd w (bitAnd x y)) c d r
         → PairWord Pair kids segment order rows s w c d r
-    shared-passes = pass-some w (bitAnd x y) false q (λ p n b f v. passed-pair b) shared
+    shared-passes = pass-some w (bitAnd x y) false (by-before q) (λ p n b f v. passed-pair b) shared
 
   -- c and d are unordered: what c requires and d asserts, what both leave
   pub apart-both : (a b : ℕ) → Apart order c d → x ≡ wordAt rows c (firstWord requires + s)

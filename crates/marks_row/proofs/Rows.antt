@@ -15,7 +15,7 @@ use Rattle.base.proofs.Says.{says-eq}
 use Rattle.runs.specs.Plan.{Plan}
 use Rattle.marks_row.specs.Columns.{Column, avoid, quiet, covered, may-pre, may-post, may-inc, requires, asserts}
 use Rattle.marks_row.specs.Columns.{posts, may-clobber, must-inc, must-clobber}
-use Rattle.marks_row.specs.Columns.{indexOf, Fact, wordAt, Right, Row, RowIs, Written}
+use Rattle.marks_row.specs.Columns.{indexOf, Fact, wordAt, Right, Row, RowIs, RowWritten}
 use Rattle.runs.proofs.Plan.Numbers.{sign-small}
 
 -- an array filled from the front: what holds of each word written holds of one more
@@ -101,7 +101,7 @@ module _ {p : Plan} {rows : List ℕ} {n : ℕ} (r : Right p rows n) where
   pub cell : {f : ℕ} → f < 64 → (k : Column) → T (bit (wordAt rows n (indexOf k)) f) ↔ Fact p n f k
   cell {f} l k = (r .says k f l .to, r .says k f l .from)
 
-module _ {p : Plan} {rows rows′ : List ℕ} {n : ℕ} {w : List ℕ} (h : Written rows rows′ n w) (r : Row p n w) where
+module _ {p : Plan} {rows rows′ : List ℕ} {n : ℕ} {w : List ℕ} (h : RowWritten rows rows′ n w) (r : Row p n w) where
   pub written-right : Right p rows′ n
   written-right = record { says = λ k f l. says-eq (h .here (indexOf k) (index-small k)) (r .says k f l) }
 

@@ -81,7 +81,7 @@ pub record RowIs (w : Column → ℕ) (r : List ℕ) : Type 0 where
   pub is : (k : Column) → getD r (indexOf k) 0 ≡ w k
 
 -- rows' is rows with the words w in the row of n
-pub record Written (rows rows′ : List ℕ) (n : ℕ) (w : List ℕ) : Type 0 where
+pub record RowWritten (rows rows′ : List ℕ) (n : ℕ) (w : List ℕ) : Type 0 where
   pub long : length rows′ ≡ ROWS
   pub here : (k : ℕ) → k < COLUMNS → wordAt rows′ n k ≡ getD w k 0
   pub there : (c k : ℕ) → k < COLUMNS → (c ≡ n → ⊥) → wordAt rows′ c k ≡ wordAt rows c k

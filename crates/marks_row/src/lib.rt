@@ -10,7 +10,7 @@ ghost use lib.ListN.{length, getD};
 ghost use Rattle.base.specs.Words.{ones};
 ghost use Rattle.runs.specs.Plan.{Plan, signNumber};
 ghost use Rattle.tables.specs.Sizes.{NODES, WORDS};
-ghost use Rattle.marks_row.specs.Columns.{COLUMNS, ROWS, wordAt, Row, Written};
+ghost use Rattle.marks_row.specs.Columns.{COLUMNS, ROWS, wordAt, Row, RowWritten};
 ghost use Rattle.marks_row.specs.Tasks.{AtTask, WordsOfSign};
 ghost use Rattle.marks_row.specs.Musts.{MustPreWord, MustPostWord};
 use base::ALL;
@@ -109,7 +109,7 @@ pub fn task_words(conds: &Conditions, node: usize) -> Words
 
 pub fn write_row(rows: &mut Rows, node: usize, words: Words)
     requires { ⌜ (node < NODES) × (length (now rows) ≡ ROWS) ⌝ }
-    ensures { λ r. ⌜ Written (now (rows .entry)) (now (rows .exit)) node words ⌝ }
+    ensures { λ r. ⌜ RowWritten (now (rows .entry)) (now (rows .exit)) node words ⌝ }
 {
     let mut k = 0;
     while k < COLUMNS {

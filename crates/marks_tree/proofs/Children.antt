@@ -15,7 +15,7 @@ use Rattle.runs.proofs.Execution.Final.{under-task}
 use Rattle.tables.specs.declared.Segment.{Segment}
 use Rattle.tables.specs.Segments.{segmentOf, Position}
 use Rattle.tables.specs.Represents.{RepresentsKinds, RepresentsConditions, Represents}
-use Rattle.marks_row.specs.Columns.{indexOf, Right, Row, Written}
+use Rattle.marks_row.specs.Columns.{indexOf, Right, Row, RowWritten}
 use Rattle.marks_row.specs.Tasks.{AtTask}
 use Rattle.marks_siblings.specs.Group.{Group}
 use Rattle.marks_row.proofs.Rows.{index-small, written-right, written-keeps}
@@ -89,7 +89,7 @@ module _ (kind from kids order : List ℕ) (n node : ℕ) (segment : Segment) wh
 
   module _ {rows₀ rows rows′ words : List ℕ} (z : segment ≡ segmentOf from node)
       (h : ChildrenTo kind from kids order n node segment rows₀ rows (segment .end))
-      (x : Written rows rows′ node words) where
+      (x : RowWritten rows rows′ node words) where
     -- all children are right
     group : (p : Plan) → Given kind from kids order rows₀ n node p → Group kids segment rows p node
     group p g = record {
@@ -123,7 +123,7 @@ module _ {kind conds rows : List ℕ} where
   tasks-none e = record { long = e; right = λ p w k c t l. absurd (omega arith) }
 
   pub task-more : {i : ℕ} {rows′ rows″ words : List ℕ} → rows″ ≡ rows′ → TasksFilled kind conds rows i
-      → Written rows rows′ i words
+      → RowWritten rows rows′ i words
       → ((p : Plan) → AtTask conds i p → Row p i words) → TasksFilled kind conds rows″ (i + 1)
   task-more {i} {rows′} e h x r =
       rw e (record { long = x .long; right = λ p w k c t l n q. at p w k c t l n q (ℕ-discrete t i) })

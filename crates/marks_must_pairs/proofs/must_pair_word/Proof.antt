@@ -26,14 +26,15 @@ element-copy-out-wide : tie.Need-element-copy-out-wide
 element-copy-out-wide c = position-small (c .pre .0 .segment) (c .pre .0 .other)
 
 mul-if1 : tie.Need-mul-if1
-mul-if1 c = let s = c .before .before in omega (arith, s .pre .1, pair-small (s .pre .0) (c .wide .ensures .0))
+mul-if1 c = let s = c .before .before in omega (arith, s .pre .0 .child)
 
 add-if1 : tie.Need-add-if1
-add-if1 c = let s = c .before .before in omega (arith, s .pre .1, pair-small (s .pre .0) (c .wide .ensures .0))
+add-if1 c = let s = c .before .before in
+    omega (arith, s .pre .0 .child, pair-small (s .pre .0) (c .wide .ensures .0))
 
 element-copy-out-if1 : tie.Need-element-copy-out-if1
 element-copy-out-if1 c = let s = c .before .before in
-    omega (arith, s .pre .1, pair-small (s .pre .0) (c .wide .ensures .0))
+    omega (arith, s .pre .0 .child, pair-small (s .pre .0) (c .wide .ensures .0))
 
 must-post-requires : tie.Need-must-post-requires
 must-post-requires c κs = let s = c .before .before .before .before in
