@@ -10,12 +10,10 @@ use Rattle.base.specs.Answers.{first}
 use Rattle.run_flags.specs.Flags.{flagIn}
 use Rattle.run_starts.specs.Starts.{nodeByte, ordinalIn, startedCount, strayOrdinal, misnumbered}
 use Rattle.plan_format.specs.Format.{nodeCount, flagCount, isKind}
-use Rattle.plan_check.specs.Meaning.{planOf}
-use Rattle.plan_blocked.specs.Blocked.{refusalUnder}
-use Rattle.runs.specs.Searches.{anyBelow, listed}
+use Rattle.plan_blocked.specs.Blocked.{planUnder, refusalUnder}
+use Rattle.runs.specs.Searches.{anyBelow}
 use Rattle.runs.specs.Execution.{Status, waiting, running, done}
 use Rattle.runs.specs.Calls.{World}
-use Rattle.runs.specs.Model.Blocked.{stands}
 
 -- 15: under 8 + 3N bytes
 unfoldable pub tooShort : List ℕ → List ℕ → Bool
@@ -35,7 +33,7 @@ unfoldable pub badNode : List ℕ → List ℕ → ℕ → Bool
 badNode b s n = badByte b s n || strayOrdinal b s n
 
 unfoldable pub badAbsent : List ℕ → List ℕ → List ℕ → ℕ → Bool
-badAbsent b xs s n = not (stands (planOf b) (listed xs) n) && not (eqb (nodeByte s n) 0)
+badAbsent b xs s n = not (planUnder b xs .tree .here n) && not (eqb (nodeByte s n) 0)
 
 unfoldable pub malformedUnder : List ℕ → List ℕ → List ℕ → Bool
 malformedUnder b xs s =
