@@ -1,5 +1,5 @@
 -- `longest_child` meets its contract: the greatest length of the children before i. Assumes nothing.
-use Prim.Native.Nat.{_-_}
+use Prim.Native.Nat.{_-_, _<_}
 use Rattle.tables.specs.Segments.{Reached}
 use Rattle.tables.proofs.Turns.{at-segment, first-turn, position-small, kid-small, position, next-turn, last-turn}
 use Rattle.wait_lengths.specs.Waits.{lengthOf}
@@ -32,25 +32,21 @@ element-copy-out-wide c =
     let a = at-segment (at-group (l .before .before .before .pre .0)) (l .before .children .ensures) in
     position-small a (position (l .loop .inv .0) (c .if1 .taken))
 
-mul-greater : tie.Need-mul-greater Inv-loop μ-loop
-mul-greater c =
-    let l = c .before .before .before .before in
-    let a = at-segment (at-group (l .before .before .before .pre .0)) (l .before .children .ensures) in
-    omega (arith, kid-small a (position (l .loop .inv .0) (c .before .before .if1 .taken)) (c .wide .ensures .0))
-
-element-copy-out-greater : tie.Need-element-copy-out-greater Inv-loop μ-loop
-element-copy-out-greater c =
+-- the child of this turn is a node's number
+child-small : (c : tie.After-wide Inv-loop μ-loop) → c .wide .result < 128
+child-small c =
     let l = c .before .before .before .before in
     let a = at-segment (at-group (l .before .before .before .pre .0)) (l .before .children .ensures) in
     kid-small a (position (l .loop .inv .0) (c .before .before .if1 .taken)) (c .wide .ensures .0)
 
 loop-again : tie.Need-loop-again Inv-loop μ-loop
 loop-again c =
-    let l = c .before .before .before .before .before .before in
+    let w = c .before .before in
+    let l = w .before .before .before .before in
     let s = l .before .before .before in
     let turn = l .loop .inv .0 in
-    let test = c .before .before .before .before .if1 .taken in
-    let e = c .before .before .wide .ensures .0 in
+    let test = w .before .before .if1 .taken in
+    let e = w .wide .ensures .0 in
     let x = s .pre .1 .is _ (child-at (s .pre .0) (l .before .children .ensures) e (position turn test)) in
     (next-turn turn test, greatest-turn (turn .low) e x (c .greater .ensures) (l .loop .inv .1))
 
@@ -70,8 +66,8 @@ longest-child-spec =
     loop-holds
     element-copy-out-wide
     (λ c κs. search needs)
-    mul-greater
-    element-copy-out-greater
+    (λ c. omega (arith, child-small c))
+    child-small
     (λ c κs. search needs)
     (λ c. omega arith)
     (λ c. omega arith)
