@@ -1,2 +1,4 @@
+-- A listing's answer is small enough to have a number (`short`), and the numbers of answers tell what the answers do
+-- (`verdict-told`, `status-told`, `listing-told`).
 pub mod Listing
 pub mod Told
