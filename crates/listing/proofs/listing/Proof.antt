@@ -8,7 +8,11 @@ use borrow.Author.Needs.{needs}
 use Rattle.listing.proofs.listing.Statement.{statement}
 use Rattle.listing.proofs.listing.Tie as tie
 
-passed : (c : tie.Else1) → refusal (now (c .before .before .before .before .args .plan)) ≡ 0
+-- what the call was given
+abbrev entry : tie.Else1 → tie.Start
+entry c = c .before .before .before .before
+
+passed : (c : tie.Else1) → refusal (now (entry c .args .plan)) ≡ 0
 passed c = sym (c .before .check .ensures) ∙ c .if1 .left
 
 returns : tie.Need-returns
