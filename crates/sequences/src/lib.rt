@@ -1,0 +1,1 @@
+// Definitions and laws only: sequences of the root's children.
