@@ -56,43 +56,49 @@ fn mask_words(s: Siblings) -> Words
     ]
 }
 
-// The words before the first child: ones in the columns from first to last.
-fn start_words(first: usize, last: usize) -> Words
-    requires { ⌜ (first ≤ last) × (last ≤ COLUMNS) ⌝ }
-    ensures { λ r. ⌜ Unmerged first last r ⌝ }
+// The columns from `first` to `last`.
+struct Span {
+    first: usize,
+    last: usize,
+}
+
+// The words before the first child: ones in the columns of the span.
+fn start_words(every: Span) -> Words
+    requires { ⌜ (every .first ≤ every .last) × (every .last ≤ COLUMNS) ⌝ }
+    ensures { λ r. ⌜ Unmerged (every .first) (every .last) r ⌝ }
 {
     let mut out = [0u64; COLUMNS];
-    let mut k = first;
-    while k < last {
+    let mut k = every.first;
+    while k < every.last {
         out[k] = ALL;
         k += 1;
     }
     out
 }
 
-// The word of one child more in column k: from first to last, both have it; in the others, one of them does, the child
+// The word of one child more in column k: in the span both have it; in the other columns one of them does, the child
 // under the mask.
-fn joined(first: usize, last: usize, k: usize, word: u64, child: u64, mask: u64) -> u64
-    ensures { λ r. ⌜ JoinedWord first last k word child mask r ⌝ }
+fn joined(every: Span, k: usize, word: u64, child: u64, mask: u64) -> u64
+    ensures { λ r. ⌜ JoinedWord (every .first) (every .last) k word child mask r ⌝ }
 {
-    if k < first {
+    if k < every.first {
         return word | (child & mask);
     }
-    if last <= k {
+    if every.last <= k {
         return word | (child & mask);
     }
     word & child
 }
 
 // The words of one child more.
-fn merged(first: usize, last: usize, words: Words, rows: &Rows, child: usize, mask: Words) -> Words
+fn merged(every: Span, words: Words, rows: &Rows, child: usize, mask: Words) -> Words
     requires { ⌜ child < NODES ⌝ }
-    ensures { λ r. ⌜ Merged first last words (now (rows .entry)) child mask r ⌝ }
+    ensures { λ r. ⌜ Merged (every .first) (every .last) words (now (rows .entry)) child mask r ⌝ }
 {
     let mut out = words;
     let mut k = 0;
     while k < COLUMNS {
-        out[k] = joined(first, last, k, words[k], word_at(rows, child, k), mask[k]);
+        out[k] = joined(every, k, words[k], word_at(rows, child, k), mask[k]);
         k += 1;
     }
     out
@@ -134,11 +140,19 @@ pub fn any_words(kind: u8, kids: &Nodes, segment: Segment, rows: &Rows) -> Words
     requires { ⌜ AtSegment (now kids) segment ⌝ }
     ensures { λ r. ⌜ AnyRow kind (now (kids .entry)) segment (now (rows .entry)) r ⌝ }
 {
-    let mask = start_words(AVOID, END);
-    let mut words = start_words(MUST_INC, END);
+    let all = Span {
+        first: 0,
+        last: COLUMNS,
+    };
+    let every = Span {
+        first: MUST_INC,
+        last: END,
+    };
+    let mask = start_words(all);
+    let mut words = start_words(every);
     let mut i = segment.start;
     while i < segment.end {
-        let next = merged(MUST_INC, END, words, rows, wide(kids[i]), mask);
+        let next = merged(every, words, rows, wide(kids[i]), mask);
         words = next;
         i += 1;
     }
@@ -153,12 +167,16 @@ pub fn all_words(kids: &Nodes, segment: Segment, order: &Orders, rows: &Rows) ->
     requires { ⌜ AtSegment (now kids) segment ⌝ }
     ensures { λ r. ⌜ AllRow (now (kids .entry)) segment (now (order .entry)) (now (rows .entry)) r ⌝ }
 {
-    let mut words = start_words(AVOID, COVERED);
+    let every = Span {
+        first: AVOID,
+        last: COVERED,
+    };
+    let mut words = start_words(every);
     let mut i = segment.start;
     while i < segment.end {
         let child = wide(kids[i]);
         let mask = mask_words(all_siblings(kids, segment, order, rows, child));
-        let next = merged(AVOID, COVERED, words, rows, child, mask);
+        let next = merged(every, words, rows, child, mask);
         words = next;
         i += 1;
     }

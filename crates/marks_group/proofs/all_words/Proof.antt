@@ -14,12 +14,12 @@ use Rattle.marks_group.proofs.all_words.Statement.{statement}
 use Rattle.marks_group.proofs.all_words.Tie as tie
 
 abbrev Inv-loop : tie.InvT-loop
-Inv-loop kids segment order rows words₀ i₀ words i =
+Inv-loop kids segment order rows every words₀ i₀ words i =
     Reached segment i × ((p : Plan) (n : ℕ) (g : Group kids segment rows p n) → RepresentsOrder order p
     → AllWords g i words)
 
 abbrev μ-loop : tie.MeasureT-loop
-μ-loop kids segment order rows words₀ i₀ words i = segment .end - i
+μ-loop kids segment order rows every words₀ i₀ words i = segment .end - i
 
 loop-holds : tie.Need-loop-holds Inv-loop μ-loop
 loop-holds c = (first-turn (c .before .pre), λ p n g o. joined-none (c .start-words .ensures))

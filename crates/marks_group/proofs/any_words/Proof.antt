@@ -14,11 +14,11 @@ use Rattle.marks_group.proofs.any_words.Statement.{statement}
 use Rattle.marks_group.proofs.any_words.Tie as tie
 
 abbrev Inv-loop : tie.InvT-loop
-Inv-loop kind kids segment rows mask words₀ i₀ words i = Reached segment i
+Inv-loop kind kids segment rows every mask words₀ i₀ words i = Reached segment i
     × ((p : Plan) (n : ℕ) (g : Group kids segment rows p n) → AnyWords g i words)
 
 abbrev μ-loop : tie.MeasureT-loop
-μ-loop kind kids segment rows mask words₀ i₀ words i = segment .end - i
+μ-loop kind kids segment rows every mask words₀ i₀ words i = segment .end - i
 
 loop-holds : tie.Need-loop-holds Inv-loop μ-loop
 loop-holds c = (first-turn (c .before .before .pre), λ p n g. joined-none (c .start-words2 .ensures))

@@ -11,12 +11,13 @@ use Rattle.marks_group.proofs.merged.Statement.{statement}
 use Rattle.marks_group.proofs.merged.Tie as tie
 
 abbrev Inv-loop : tie.InvT-loop
-Inv-loop first last rows child words mask out₀ k₀ out k =
+Inv-loop every rows child words mask out₀ k₀ out k =
     (k ≤ 23) × ((length out ≡ 23)
-    × ((j : ℕ) → j < k → JoinedWord first last j (getD words j 0) (wordAt rows child j) (getD mask j 0) (getD out j 0)))
+    × ((j : ℕ) → j < k → JoinedWord (every .first) (every .last) j (getD words j 0) (wordAt rows child j)
+    (getD mask j 0) (getD out j 0)))
 
 abbrev μ-loop : tie.MeasureT-loop
-μ-loop first last rows child words mask out₀ k₀ out k = 23 - k
+μ-loop every rows child words mask out₀ k₀ out k = 23 - k
 
 loop-holds : tie.Need-loop-holds Inv-loop μ-loop
 loop-holds c = (omega arith, (search needs, λ j l. absurd (omega arith)))
@@ -28,8 +29,8 @@ loop-again c =
       omega arith,
       (
         length-set (l .loop .out) _ _ ∙ l .loop .inv .1 .0,
-        filled (λ j x. JoinedWord (a .first) (a .last) j (getD (a .t3) j 0) (wordAt (a .rows .now) (a .child) j)
-            (getD (a .t6) j 0) x) (l .loop .out) (l .loop .k)
+        filled (λ j x. JoinedWord (a .every .first) (a .every .last) j (getD (a .t2) j 0)
+            (wordAt (a .rows .now) (a .child) j) (getD (a .t5) j 0) x) (l .loop .out) (l .loop .k)
             (c .joined .result) (omega (arith, l .loop .inv .1 .0))
             (rw (c .before .word-at .ensures) at (c .joined .ensures)) (l .loop .inv .1 .1),
       ),
