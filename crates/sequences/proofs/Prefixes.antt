@@ -4,13 +4,13 @@ use Rattle.runs.proofs.Base.{_≡_, _⊎_, inl, inr, _↔_, refl, Bool, List, [
 use Rattle.runs.proofs.Base.{among-cases, ℕ, T}
 use Rattle.runs.specs.Plan.{Plan, Child, Before, direct}
 use Rattle.sequences.specs.Sequences.{Ahead, at-front, further-on, Sequence}
-use Rattle.sequences.specs.Model.{Passes, end, step, Rest, all-seen, then}
+use Rattle.sequences.specs.Model.{SafeAlong, end, step, Rest, all-seen, then}
 use Rattle.sequences.proofs.Serial.{ahead-of}
 use Rattle.sequences.proofs.Lists.{ahead-inv, once-tail, nothing-ahead}
 use Rattle.sequences.specs.Sequences.{Once}
 
 module _ (p : Plan) (F : ℕ → Bool) where
-  rest-passes : {seen xs : List ℕ} → Rest p F seen xs → Passes p F seen xs
+  rest-passes : {seen xs : List ℕ} → Rest p F seen xs → SafeAlong p F seen xs
   rest-passes (all-seen g) = end
   rest-passes (then m r) = step (m .safe) (rest-passes r)
 
@@ -83,7 +83,7 @@ module _ (p : Plan) (F : ℕ → Bool) where
     once : Once xs
     agrees : (a b : ℕ) → Among b xs → Before p a b → Among a seen ⊎ Ahead a b xs
 
-  onward-rest : {seen xs : List ℕ} → Onward seen xs → Passes p F seen xs → Rest p F seen xs
+  onward-rest : {seen xs : List ℕ} → Onward seen xs → SafeAlong p F seen xs → Rest p F seen xs
   onward-rest {seen} s end = all-seen (λ c hc. at (s .every c hc))
     where
       at : {c : ℕ} → Among c seen ⊎ Among c [] → Among c seen
@@ -128,7 +128,7 @@ module _ (p : Plan) (F : ℕ → Bool) where
           at (inl (e, i)) = inl (here e)
           at (inr z) = inr z
 
-  pub sequence-rest : (xs : List ℕ) → Rest p F [] xs ↔ (Sequence p xs × Passes p F [] xs)
+  pub sequence-rest : (xs : List ℕ) → Rest p F [] xs ↔ (Sequence p xs × SafeAlong p F [] xs)
   sequence-rest xs = (
     λ r. (rest-sequence r, rest-passes r),
     λ x. onward-rest (record {

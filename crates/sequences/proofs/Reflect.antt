@@ -9,7 +9,7 @@ use Rattle.runs.specs.Summary.{May, ExternalPre, ExternalPost, MayClobber}
 use Rattle.runs.specs.Pairs.{in-child}
 use Rattle.runs.specs.Verdict.{Clear}
 use Rattle.sequences.specs.Sequences.{Sequence, serial}
-use Rattle.sequences.specs.Model.{Calm, MayBeTrue, at-start, left, stays, Safe, Passes, end, step}
+use Rattle.sequences.specs.Model.{Calm, MayBeTrue, at-start, left, stays, Safe, SafeAlong, end, step}
 use Rattle.sequences.specs.Model.{startB, nextB, everyLiteralB, safeB, passesB, calmB, serialClearB}
 use Rattle.runs.proofs.Reflect.{Reflects, r-map, r-both, r-either, r-implies, r-negate, r-all, r-same}
 use Rattle.runs.proofs.Plan.Reflect.{r-every-child}
@@ -44,7 +44,7 @@ module _ (p : Plan) (w : WellFormed p) (F : ℕ → Bool) where
   true-now (inl l) = left l
   true-now (inr (a, m)) = stays a m
 
-  passes-inv : {c : ℕ} {seen xs : List ℕ} → Passes p F seen (c ∷ xs) → Safe p F seen c × Passes p F (c ∷ seen) xs
+  passes-inv : {c : ℕ} {seen xs : List ℕ} → SafeAlong p F seen (c ∷ xs) → Safe p F seen c × SafeAlong p F (c ∷ seen) xs
   passes-inv (step s ps) = (s, ps)
 
   start-inv : {f : ℕ} {v : Bool} → MayBeTrue p F f v [] → F f ≡ v
@@ -83,7 +83,7 @@ module _ (p : Plan) (w : WellFormed p) (F : ℕ → Bool) where
 
   pub r-passes : (m : ℕ → Bool → Bool) {seen : List ℕ}
       → ((f : ℕ) (v : Bool) → Reflects (m f v) (MayBeTrue p F f v seen)) → (xs : List ℕ)
-      → ((c : ℕ) → Among c xs → Node p c) → Reflects (passesB p m xs) (Passes p F seen xs)
+      → ((c : ℕ) → Among c xs → Node p c) → Reflects (passesB p m xs) (SafeAlong p F seen xs)
   unfolding passesB
   r-passes m r [] l = record { to = λ t. end; from = λ x. tt }
   r-passes m r (c ∷ xs) l = r-map (λ x. step (x .0) (x .1), passes-inv)

@@ -8,7 +8,7 @@ use Rattle.runs.specs.Summary.{May, ExternalPre, ExternalPost, Mark, may-pre, m
 use Rattle.runs.specs.Pairs.{ClobberByPairs, in-child, unordered-pair, opposed-pair, passed-on}
 use Rattle.runs.specs.Verdict.{Clear, Doomed}
 use Rattle.sequences.specs.Sequences.{Ahead, at-front, further-on, Sequence, serialOrder, serial}
-use Rattle.sequences.specs.Model.{Calm, MayBeTrue, at-start, left, stays, Passes, end, step}
+use Rattle.sequences.specs.Model.{Calm, MayBeTrue, at-start, left, stays, SafeAlong, end, step}
 use Rattle.runs.proofs.Summary.ByChildren.{Avoids, may-pre-all}
 use Rattle.runs.proofs.Summary.Clobber.{clobber-all}
 use Rattle.runs.proofs.Verdict.Exact.{clear-not-doomed}
@@ -66,7 +66,7 @@ module _ (p : Plan) (w : WellFormed p) (F : ℕ → Bool) where
   abbrev Unharmed : List ℕ → List ℕ → Type 0
   Unharmed seen xs = (c f : ℕ) (v : Bool) → Among c xs → May p c (ExternalPre p f v) → ¬ Reaches seen xs c f (not v)
 
-  passes-unharmed : {seen xs : List ℕ} → Once xs → Passes p F seen xs → Unharmed seen xs
+  passes-unharmed : {seen xs : List ℕ} → Once xs → SafeAlong p F seen xs → Unharmed seen xs
   passes-unharmed k end c f v i m r = among-none i
   passes-unharmed {seen} k (step {c = x} {xs = xs} s ps) c f v i m r =
       at (among-cases i) r (λ j z. passes-unharmed (once-tail k) ps c f v j m z)
@@ -80,13 +80,13 @@ module _ (p : Plan) (w : WellFormed p) (F : ℕ → Bool) where
       at (inl e) z ih = now e z
       at (inr j) z ih = ih j (reaches-in j z)
 
-  unharmed-passes : {seen : List ℕ} (xs : List ℕ) → Once xs → Unharmed seen xs → Passes p F seen xs
+  unharmed-passes : {seen : List ℕ} (xs : List ℕ) → Once xs → Unharmed seen xs → SafeAlong p F seen xs
   unharmed-passes [] k u = end
   unharmed-passes (x ∷ xs) k u = step (λ f v m t. u x f v (here refl) m (passed t (λ a y. absurd (nothing-ahead k y))))
       (unharmed-passes xs (once-tail k) (λ c f v i m r. u c f v (there i) m (reaches-out k i r)))
 
   -- what fails early fails whatever follows
-  pub passes-prefix : {seen : List ℕ} (ys zs : List ℕ) → Passes p F seen (ys ++ zs) → Passes p F seen ys
+  pub passes-prefix : {seen : List ℕ} (ys zs : List ℕ) → SafeAlong p F seen (ys ++ zs) → SafeAlong p F seen ys
   passes-prefix [] zs ps = end
   passes-prefix (y ∷ ys) zs (step s ps) = step s (passes-prefix ys zs ps)
 
@@ -108,7 +108,7 @@ module _ (p : Plan) (w : WellFormed p) (F : ℕ → Bool) where
     avoids-out : {c : ℕ} (f : ℕ) → Child p 0 c → Avoids q wq f c → Avoids p w f c
     avoids-out {c} f hc m = may-in p w (p .tree) (serialOrder p xs) wq (serial-thinner p w kr xs sq (hc .node)) m
 
-    serial-clear-to : Clear q F → Calm p × Passes p F [] xs
+    serial-clear-to : Clear q F → Calm p × SafeAlong p F [] xs
     serial-clear-to cl = (
       λ c hc f v x. cl .no-clobber f v ((clobber-all q wq kr f v) .1 (in-child c hc ((marks hc f v may-clobber) .0 x))),
       unharmed-passes xs (sq .once) (λ c f v i m r. at c f v (sq .child c i) m r),
@@ -129,7 +129,7 @@ module _ (p : Plan) (w : WellFormed p) (F : ℕ → Bool) where
             (λ b hb y₁ y₂. avoids-in f hb
             (bt b ((before-ahead p w kr xs sq hb) .0 y₁) ((before-ahead p w kr xs sq hc) .0 y₂)))))
 
-    serial-clear-from : Calm p → Passes p F [] xs → Clear q F
+    serial-clear-from : Calm p → SafeAlong p F [] xs → Clear q F
     serial-clear-from calm ps = record {
       no-clobber = λ f v x. clobbers f v ((clobber-all q wq kr f v) .0 x);
       no-pre = λ f v e x. let (c, hc, m, av) = (may-pre-all q wq f v (wq .root-node) kr) .0 x in
@@ -167,5 +167,5 @@ module _ (p : Plan) (w : WellFormed p) (F : ℕ → Bool) where
     doomed-serial d c = clear-not-doomed q wq F c (serial-keeps p w kr xs sq .doomed F d)
 
     -- the scan theorem
-    pub serial-clear : Clear q F ↔ (Calm p × Passes p F [] xs)
+    pub serial-clear : Clear q F ↔ (Calm p × SafeAlong p F [] xs)
     serial-clear = (serial-clear-to, λ x. serial-clear-from (x .0) (x .1))

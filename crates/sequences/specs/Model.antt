@@ -36,9 +36,9 @@ module _ (p : Plan) (F : ℕ → Bool) where
   Safe seen c = (f : ℕ) (v : Bool) → May p c (ExternalPre p f v) → ¬ MayBeTrue f (not v) seen
 
   -- and so all along the rest of a sequence
-  pub data Passes : List ℕ → List ℕ → Type 0 where
-    end : {seen : List ℕ} → Passes seen []
-    step : {c : ℕ} {seen xs : List ℕ} → Safe seen c → Passes (c ∷ seen) xs → Passes seen (c ∷ xs)
+  pub data SafeAlong : List ℕ → List ℕ → Type 0 where
+    end : {seen : List ℕ} → SafeAlong seen []
+    step : {c : ℕ} {seen xs : List ℕ} → Safe seen c → SafeAlong (c ∷ seen) xs → SafeAlong seen (c ∷ xs)
 
   -- ---- what a search is about
   -- all children of the root are seen
