@@ -115,17 +115,26 @@ pub fn unmet(plan: &[u8], place: u16, tasks: &Nodes, flags: Flags) -> bool
     false
 }
 
-// Condition i is an incondition of a running task that is not marked, and its flag is turned: `clear` and `set` are all
-// clear and all set flags after the event.
-fn broken_at(plan: &[u8], state: &[u8], clear: Flags, set: Flags, tasks: &Nodes, i: usize) -> bool
+// What an event makes of flags that are all clear, and of flags that are all set.
+struct Images {
+    clear: Flags,
+    set: Flags,
+}
+
+// Condition i is an incondition of a running task that is not marked, and the event turns its flag.
+fn broken_at(plan: &[u8], state: &[u8], after: Images, tasks: &Nodes, i: usize) -> bool
     requires { ⌜ (i < condCount (now plan)) × (stateRefusal (now plan) (now state) ≡ 0) ⌝ }
-    ensures { λ r. ⌜ r ≡ brokenAt (now (plan .entry)) (now (state .entry)) (clear .bytes) (set .bytes)
+    ensures { λ r. ⌜ r ≡ brokenAt (now (plan .entry)) (now (state .entry)) (after .clear .bytes) (after .set .bytes)
         (marked (now (tasks .entry))) i ⌝ }
 {
     let node = wide(condition_node(plan, i));
     let f = flag_at(plan, i);
     let sign = set_at(plan, i);
-    let kept = if sign { set.has(f) } else { clear.has(f) };
+    let kept = if sign {
+        after.set.has(f)
+    } else {
+        after.clear.has(f)
+    };
     is_at(plan, INC, i) & (tasks[node] != 1) & (state[8 + node] == RUNNING) & differs(sign, kept)
 }
 
@@ -140,10 +149,14 @@ pub fn inc_broken(plan: &[u8], state: &[u8], place: u16, tasks: &Nodes) -> bool
 {
     let clear = with_literals(plan, place, tasks, Flags::all(false));
     let set = with_literals(plan, place, tasks, Flags::all(true));
+    let after = Images {
+        clear: clear,
+        set: set,
+    };
     let n = conditions(plan);
     let mut i = 0;
     while i < n {
-        if broken_at(plan, state, clear, set, tasks, i) {
+        if broken_at(plan, state, after, tasks, i) {
             return true;
         }
         i += 1;

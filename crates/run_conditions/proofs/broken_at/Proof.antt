@@ -33,7 +33,7 @@ node-below c =
     )
 
 kept : (c : tie.Joined1) → let a = entry (c .before .before .before) .args in
-    c .if1 .kept ≡ flagIn (cond (c .before .set-at .result) (a .set .bytes) (a .clear .bytes))
+    c .if1 .kept ≡ flagIn (cond (c .before .set-at .result) (a .after .set .bytes) (a .after .clear .bytes))
     (c .before .before .flag-at .result)
 kept c =
     ⊎-elim

@@ -18,11 +18,11 @@ use Rattle.run_conditions.proofs.inc_broken.Statement.{statement}
 use Rattle.run_conditions.proofs.inc_broken.Tie as tie
 
 abbrev Inv-loop : tie.InvT-loop
-Inv-loop plan state place tasks clear set n i₀ i = Unfound (condCount plan)
-    (brokenAt plan state (clear .bytes) (set .bytes) (marked tasks)) i
+Inv-loop plan state place tasks after n i₀ i = Unfound (condCount plan)
+    (brokenAt plan state (after .clear .bytes) (after .set .bytes) (marked tasks)) i
 
 abbrev μ-loop : tie.MeasureT-loop
-μ-loop plan state place tasks clear set n i₀ i = n - i
+μ-loop plan state place tasks after n i₀ i = n - i
 
 -- what the call was given
 abbrev entry : tie.After-all2 Inv-loop μ-loop → tie.Start Inv-loop μ-loop
