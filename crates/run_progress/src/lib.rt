@@ -50,18 +50,24 @@ pub fn is_begun(plan: &[u8], state: &[u8], begun: &Nodes, n: usize) -> bool
     (state[8 + n] != WAITING) | (begun[n] != 0)
 }
 
-// Node n is counted at its parent g.
-fn is_counted(plan: &[u8], state: &[u8], tally: Tally, table: &Nodes, g: usize, n: usize) -> bool
-    requires { ⌜ (n < nodeCount (now plan))
+// A node and its parent.
+struct Link {
+    parent: usize,
+    node: usize,
+}
+
+// The node is counted at its parent.
+fn is_counted(plan: &[u8], state: &[u8], tally: Tally, table: &Nodes, link: Link) -> bool
+    requires { ⌜ (link .node < nodeCount (now plan))
         × ((stateRefusal (now plan) (now state) ≡ 0)
-        × (getD (now table) n 0 ≡ childrenCounted tally (now plan) (now state) n)) ⌝ }
-    ensures { λ r. ⌜ r ≡ countedAt tally (now (plan .entry)) (now (state .entry)) g n ⌝ }
+        × (getD (now table) (link .node) 0 ≡ childrenCounted tally (now plan) (now state) (link .node))) ⌝ }
+    ensures { λ r. ⌜ r ≡ countedAt tally (now (plan .entry)) (now (state .entry)) (link .parent) (link .node) ⌝ }
 {
     match tally {
-        Tally::Begun => is_begun(plan, state, table, n),
+        Tally::Begun => is_begun(plan, state, table, link.node),
         Tally::Ends => {
-            let complete = is_complete(plan, state, table, n);
-            if is_kind(plan, g, ALL_OF) {
+            let complete = is_complete(plan, state, table, link.node);
+            if is_kind(plan, link.parent, ALL_OF) {
                 !complete
             } else {
                 complete
@@ -81,7 +87,8 @@ pub fn children(plan: &[u8], state: &[u8], tally: Tally) -> Nodes
     while m + 1 < n {
         let c = n - 1 - m;
         let g = wide(parent(plan, c));
-        if is_counted(plan, state, tally, &table, g, c) {
+        let link = Link { parent: g, node: c };
+        if is_counted(plan, state, tally, &table, link) {
             table[g] += 1;
         }
         m += 1;

@@ -1,6 +1,7 @@
 -- `run_progress::is_counted` meets its contract. Assumes nothing.
 use mathlib.Core.Path.{_≡_, sym, ap, _∙_}
 use denote.Ref.{now}
+use lib.ListN.{getD}
 use Rattle.run_progress.specs.Progress.{childrenCounted}
 use Rattle.run_progress.specs.declared.Tally.{Tally}
 use Rattle.run_progress.specs.declared.Tally.the-variants.{Begun, Ends}
@@ -11,29 +12,22 @@ use borrow.Author.Needs.{needs}
 use Rattle.run_progress.proofs.is_counted.Statement.{statement}
 use Rattle.run_progress.proofs.is_counted.Tie as tie
 
+-- what the table has for the node, once it is known what is counted
+counted : (s : tie.Start) {k : Tally} → s .args .tally ≡ k → let a = s .args in
+    getD (now (a .table)) (a .link .node) 0 ≡ childrenCounted k (now (a .plan)) (now (a .state)) (a .link .node)
+counted s e =
+    let a = s .args in
+    s .pre .1 .1 ∙ ap (λ (k : Tally). childrenCounted k (now (a .plan)) (now (a .state)) (a .link .node)) e
+
 is-begun-requires : tie.Need-is-begun-requires
 is-begun-requires c κs =
     let s = c .before .before .before .before in
-    let e : s .args .tally ≡ Begun = cc in (
-      s .pre .0,
-      (
-        s .pre .1 .0,
-        s .pre .1 .1
-            ∙ ap (λ (k : Tally). childrenCounted k (now (s .args .plan)) (now (s .args .state)) (s .args .n)) e,
-      ),
-    )
+    let e : s .args .tally ≡ Begun = cc in (s .pre .0, (s .pre .1 .0, counted s e))
 
 is-complete-requires : tie.Need-is-complete-requires
 is-complete-requires c κs =
     let s = c .before .before .before .before in
-    let e : s .args .tally ≡ Ends = cc in (
-      s .pre .0,
-      (
-        s .pre .1 .0,
-        s .pre .1 .1
-            ∙ ap (λ (k : Tally). childrenCounted k (now (s .args .plan)) (now (s .args .state)) (s .args .n)) e,
-      ),
-    )
+    let e : s .args .tally ≡ Ends = cc in (s .pre .0, (s .pre .1 .0, counted s e))
 
 is-kind-requires : tie.Need-is-kind-requires
 is-kind-requires c κs = has-room _ _ (c .before .before .before .before .before .pre .1 .0) .plan .fits
