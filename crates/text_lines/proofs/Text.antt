@@ -6,7 +6,7 @@ use Prim.Native.Nat.{ℕ, suc, _+_, _*_, _<_, _≤_}
 use native.Mathlib.Numerals.{add-one}
 use native.Mathlib.Omega.{arith}
 use lib.ListN.{length, getD, take, drop, length-append}
-use lib.Seq.{take-suc, take-all, getD-take, drop-cons}
+use lib.Seq.{take-suc, take-all, drop-cons}
 use Rattle.plan_format.specs.Format.{nodeCount, nameChar, nameOf}
 use Rattle.plan_check.proofs.Accepted.{Clean}
 use Rattle.text_decimals.specs.Decimals.{Wrote}
@@ -16,7 +16,6 @@ use Rattle.text_decimals.proofs.Written.{written-none, wrote-then, wrote-same}
 use Rattle.wait_lengths.specs.Waits.{longestWait}
 use Rattle.wait_lengths.proofs.Bounds.{end-limit}
 use Rattle.text_order.specs.Model.{rankedTo, ranking}
-use Rattle.text_order.specs.Places.{Ranking}
 use Rattle.text_order.proofs.Order.{among-at, ranked-task, ranking-length}
 use Rattle.text_lines.specs.Lines.{TaskLines, no-lines, line}
 use Rattle.text_lines.specs.Model.{ending, lineOf, linesOf}
@@ -151,14 +150,13 @@ module _ {b : List ℕ} (ok : Clean b) where
   }
 
   -- the task of line i
-  pub line-task : {ranked : List ℕ} {k i t : ℕ} → Ranking b ranked k → i < k → t ≡ getD ranked i 0
+  pub line-task : {tasks : List ℕ} {i t : ℕ} → tasks ≡ ranking b → i < length tasks → t ≡ getD tasks i 0
       → (t < nodeCount b) × (t ≡ getD (ranking b) i 0)
   unfolding ranking
-  line-task {ranked} {k} {i} {t} r l e =
-      let q : t ≡ getD (rankedTo b (nodeCount b)) i 0 = e ∙ sym (getD-take k ranked i 0 l)
-      ∙ ap (λ (xs : List ℕ). getD xs i 0) (r .is) in (
+  line-task {i = i} {t} r l e =
+      let q : t ≡ getD (rankedTo b (nodeCount b)) i 0 = e ∙ ap (λ (xs : List ℕ). getD xs i 0) r in (
         rw (← q) at (ranked-task b (getD (rankedTo b (nodeCount b)) i 0) (nodeCount b)
-            (among-at (rankedTo b (nodeCount b)) i (omega (arith, r .count))) .0),
+            (among-at (rankedTo b (nodeCount b)) i (rw r at l)) .0),
         q,
       )
 

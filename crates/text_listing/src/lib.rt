@@ -50,7 +50,7 @@ fn write_text(plan: &[u8], from: &Starts, kids: &Nodes, verdict: Verdict, out: &
     let k = rank(plan, &waits, &mut ranked);
     let a = write_word(out, 0, verdict);
     let b = end_line(out, a, root);
-    write_lines(plan, &waits, &ranked, k, out, b)
+    write_lines(plan, &waits, &ranked[..k], out, b)
 }
 
 // Writes the listing of an accepted plan: the tables are filled once, and that of the children is lent for the waits.
