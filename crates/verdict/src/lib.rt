@@ -60,7 +60,7 @@ pub fn of_words(words: &Marks, start: u64) -> Verdict
 }
 
 // The verdict on an accepted plan of which the marked nodes stand.
-pub fn judge(plan: &[u8], standing: &Nodes) -> Verdict
+fn judge(plan: &[u8], standing: &Nodes) -> Verdict
     requires { ⌜ refusal (now plan) ≡ 0 ⌝ }
     ensures { λ r. ⌜ OfStanding (now (plan .entry)) (now (standing .entry)) r ⌝ }
 {
