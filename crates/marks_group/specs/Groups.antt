@@ -6,7 +6,8 @@ use Prim.Native.Nat.{ℕ, _≤_, _<_}
 use lib.Bits.{bitAnd, bitOr}
 use lib.ListN.{getD}
 use Rattle.base.specs.Words.{ones, Says}
-use Rattle.runs.specs.Plan.{all-of, Picks, Plan, Child, Before, Unordered, kindNumber}
+use Rattle.runs.specs.Plan.{all-of, Picks, Plan, Child, Before, Unordered}
+use Rattle.runs.specs.Numbers.{kindNumber}
 use Rattle.runs.specs.Summary.{MayClobber, Silent, MustClobber}
 use Rattle.tables.specs.declared.Segment.{Segment}
 use Rattle.tables.specs.Represents.{RepresentsOrder}

@@ -7,7 +7,8 @@ use native.Mathlib.Decide.{ℕ-discrete}
 use native.Mathlib.Omega.{arith}
 use lib.ListN.{length, getD}
 use Rattle.base.proofs.Says.{says-eq}
-use Rattle.runs.specs.Plan.{Kind, task, all-of, any-of, optional, Picks, Plan, Node, itself, kindNumber}
+use Rattle.runs.specs.Plan.{Kind, task, all-of, any-of, optional, Picks, Plan, Node, itself}
+use Rattle.runs.specs.Numbers.{kindNumber}
 use Rattle.runs.specs.WellFormed.{WellFormed}
 use Rattle.runs.proofs.Plan.Trees.{under-root}
 use Rattle.runs.proofs.Plan.Numbers.{kind-inj}

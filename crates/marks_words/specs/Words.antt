@@ -9,7 +9,7 @@ use Rattle.base.specs.Words.{Says}
 use Rattle.runs.specs.Plan.{Plan, Node, signNumber}
 use Rattle.runs.specs.WellFormed.{WellFormed}
 use Rattle.runs.specs.Summary.{Mark, byteOf, Marked}
-use Rattle.runs.specs.Verdict.{Fails}
+use Rattle.runs.specs.Model.Verdicts.{Fails}
 use Rattle.marks_row.specs.Columns as columns
 use Rattle.marks_row.specs.Columns.{firstWord, Right}
 

@@ -11,7 +11,8 @@ use native.Mathlib.Omega.{arith}
 use lib.Dec.{T, eqb, ltb, leb, ltb→lt, lt→ltb}
 use borrow.Author.Tests.{lt-ltb, eq-eqb, ne-eqb, eqb-true, ltb-true, ltb-false, leb-false, not-false}
 use Rattle.plan_codes.proofs.Values.{value-parts}
-use Rattle.plan_codes.specs.Values.{valueOf, flagOf, signOf, placeOf, valueBad}
+use Rattle.plan_codes.specs.Values.{flagOf, signOf, placeOf, valueBad}
+use Rattle.plan_codes.specs.Cases.{valueOf}
 use Rattle.plan_format.specs.Format.{nodeCount, condCount, orderCount, flagCount, parentOf, kindOf, minutesOf, condNode}
 use Rattle.plan_format.specs.Format.{condValue, earlierOf, laterOf, isKind, isGroup}
 use Rattle.plan_rules.specs.Rules.{refusal, badEntry, cause6, childless, cause8, bothSigns, cause11, noPost, postOf}
@@ -19,7 +20,8 @@ use Rattle.plan_rules.specs.Rules.{cause12, isChild, badPair, badOrder, cause13
 use Rattle.runs.specs.Searches.{anyBelow}
 use Rattle.base.proofs.Booleans.{or-none, or-split, and-both, and-three, and-of, not-passed}
 use Rattle.runs.proofs.Searches.{none-at, found-at, some-yes}
-use Rattle.runs.specs.Plan.{task, all-of, any-of, optional, Place, inc, post, kindNumber, placeNumber, signNumber}
+use Rattle.runs.specs.Plan.{task, all-of, any-of, optional, Place, inc, post, placeNumber, signNumber}
+use Rattle.runs.specs.Numbers.{kindNumber}
 use Rattle.runs.specs.WellFormed.{Accepted, WellFormed}
 use Rattle.runs.proofs.Reflect.{clash, true-T, T-true}
 use Rattle.runs.proofs.Plan.Accepted.{accepted-well-formed, accepted-rank}

@@ -6,9 +6,10 @@ use mathlib.Core.Bool.{Bool}
 use mathlib.Core.List.{List}
 use mathlib.Core.Option.{some}
 use lib.Dec.{T}
-use Rattle.plan_codes.specs.Values.{valueOf}
+use Rattle.plan_codes.specs.Cases.{valueOf}
 use Rattle.plan_format.specs.Format.{nodeCount, condCount, flagCount, parentOf, kindOf, condNode, condValue}
-use Rattle.runs.specs.Plan.{Place, Plan, kindNumber, placeNumber, signNumber}
+use Rattle.runs.specs.Plan.{Place, Plan, placeNumber, signNumber}
+use Rattle.runs.specs.Numbers.{kindNumber}
 use Rattle.runs.specs.WellFormed.{Accepted}
 use Rattle.plan_check.specs.Meaning.{OrderPair}
 

@@ -14,7 +14,7 @@ use Rattle.plan_rules.specs.Rules.{badEntry}
 use Rattle.plan_check.specs.Meaning.{planOf}
 use Rattle.plan_check.proofs.Meaning.{kind-number}
 use Rattle.plan_check.proofs.Nodes.{node-is, plan-kind, other-kind}
-use Rattle.runs.specs.Plan.{kindNumber}
+use Rattle.runs.specs.Numbers.{kindNumber}
 use Rattle.runs.specs.Execution.{waiting}
 use Rattle.runs.proofs.Plain.{Plain}
 use Rattle.run_starts.specs.Starts.{nodeByte}

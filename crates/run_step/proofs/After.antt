@@ -16,7 +16,8 @@ use Rattle.plan_format.specs.Format.{u16At, nodeCount, flagCount, kindOf, isKin
 use Rattle.base.proofs.Booleans.{and-both, and-of, not-passed, either}
 use Rattle.plan_check.specs.Meaning.{signIn}
 use Rattle.plan_check.proofs.Meaning.{kind-is}
-use Rattle.runs.specs.Plan.{post, kindNumber, placeNumber}
+use Rattle.runs.specs.Plan.{post, placeNumber}
+use Rattle.runs.specs.Numbers.{kindNumber}
 use Rattle.runs.specs.Execution.{Event, start, finish, skip, nodeOf, statusOf, moved}
 use Rattle.runs.specs.Calls.{statusByte, asks, counted, numbered}
 use Rattle.run_starts.specs.Starts.{nodeByte, ordinalAt, ordinalIn, withOrdinal, startedIn, startedCount}

@@ -3,7 +3,8 @@ use Prim.Native.Nat.{ℕ, suc, _/_, _%_}
 use mathlib.Core.Bool.{Bool}
 use mathlib.Core.List.{List, [], _∷_, _++_}
 use lib.ListN.{length, replicate}
-use Rattle.runs.specs.Plan.{Kind, kindNumber}
+use Rattle.runs.specs.Plan.{Kind}
+use Rattle.runs.specs.Numbers.{kindNumber}
 use Rattle.run_calls.specs.Shown.{flagByte}
 
 -- a node: four characters, kind, parent, minutes, and the values of its conditions, rising

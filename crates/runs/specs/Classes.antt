@@ -19,6 +19,12 @@ pub data LastIs (Q H : Event → Type 0) : History → Type 0 where
   here : {e : Event} {r : History} → H e → LastIs Q H (e ∷ r)
   past : {e : Event} {r : History} → Q e → LastIs Q H r → LastIs Q H (e ∷ r)
 
+-- the events of which refusals 19 and 20 are asked
+abbrev pub Begins : Event → Type 0
+Begins (start t) = Unit {0}
+Begins (finish t) = ⊥
+Begins (skip g) = Unit {0}
+
 -- ---- what an event does to a flag f or a literal (f, v)
 -- no condition on the events
 abbrev pub Anything : Event → Type 0

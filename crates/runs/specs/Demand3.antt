@@ -10,7 +10,7 @@ use Rattle.runs.specs.Plan.{Plan}
 use Rattle.runs.specs.Execution.{waiting, done, State}
 use Rattle.runs.specs.Verdict.{Verdict, Clear, Doomed, Judged}
 use Rattle.runs.specs.Calls.{Call, World, Task, Optional, acceptedStarts}
-use Rattle.runs.specs.Violations.{CallsOn, NeverViolates, Violated, NeverCompletes}
+use Rattle.runs.specs.Violations.{Violation, CallsOn, NeverViolates, NeverCompletes}
 use Rattle.runs.specs.Model.Blocked.{without}
 
 -- Starts in the order of the list l: the ordinal of x is k + 1 exactly if x stands in l after k others, and 0 exactly
@@ -23,6 +23,14 @@ pub record Numbered (p : Plan) (l : List ℕ) (a : World) : Type 0 where
 -- x waits, or is an optional group and skipped
 abbrev pub WaitsOrSkipped : Plan → ℕ → State → Type 0
 WaitsOrSkipped p x s = (s x ≡ waiting) ⊎ (Optional p x × (s x ≡ done))
+
+-- 02's "a book that is not CLEAR has one": a list of calls in which one returns 21, 22 or 26
+pub record Violated (p : Plan) (S : ℕ → Bool) (F : ℕ → Bool) : Type 0 where
+  pub calls : List Call
+  pub returns : List ℕ
+  pub after : World
+  pub worked : CallsOn p S F calls returns after
+  pub violation : Violation returns
 
 pub record Demand3On (p : Plan) (S : ℕ → Bool) (F : ℕ → Bool) : Type 0 where
   -- every list of calls has its returns and the states after it, and no others

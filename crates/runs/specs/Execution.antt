@@ -37,12 +37,6 @@ statusOf (start t) = running
 statusOf (finish t) = done
 statusOf (skip g) = done
 
--- the events of which refusals 19 and 20 are asked
-abbrev pub Begins : Event → Type 0
-Begins (start t) = Unit {0}
-Begins (finish t) = ⊥
-Begins (skip g) = Unit {0}
-
 -- the state after one event more
 abbrev pub moved : State → Event → State
 moved s e x = cond (eqb x (nodeOf e)) (statusOf e) (s x)

@@ -10,12 +10,13 @@ pub mod Blocked
 pub mod Violations
 pub mod Searches
 -- What the theorems ask of a plan and say of it: demand 3 on plans, what blocking and orders keep, 01's rule by pairs;
--- what the rules by children are about.
+-- what the rules by children are about; numbers that inner contracts cite.
 pub mod WellFormed
 pub mod Demand3
 pub mod Branches
 pub mod Pairs
 pub mod Classes
+pub mod Numbers
 -- What computes, proved to be the same.
 pub mod Tests
 pub mod Model

@@ -31,13 +31,7 @@ pub data Place : Type 0 where
   pre inc post : Place
   deriving Discrete as Place-discrete
 
--- 01's and 02's numbers of kinds, places and signs (0 clear, 1 set)
-abbrev pub kindNumber : Kind → ℕ
-kindNumber task = 0
-kindNumber all-of = 1
-kindNumber any-of = 2
-kindNumber optional = 3
-
+-- 01's numbers of places and signs (0 clear, 1 set)
 abbrev pub placeNumber : Place → ℕ
 placeNumber pre = 0
 placeNumber inc = 1

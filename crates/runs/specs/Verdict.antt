@@ -1,20 +1,15 @@
 -- The verdict on a plan whose flags are F at the start: 01's answer for a book. Definitions only.
 use mathlib.Core.Path.{_≡_}
-use mathlib.Core.Logic.{_⊎_}
 use mathlib.Core.Bool.{Bool, not}
 use Prim.Native.Nat.{ℕ}
 use Rattle.runs.specs.Plan.{Plan}
-use Rattle.runs.specs.Summary.{May, Must, ExternalPre, MayClobber, MustClobber, Mark, Marked}
+use Rattle.runs.specs.Summary.{May, Must, ExternalPre, MayClobber, MustClobber}
 
 pub data Verdict : Type 0 where
   CLEAR DOOMED OPEN : Verdict
   deriving Discrete as Verdict-discrete
 
 module _ (p : Plan) (F : ℕ → Bool) where
-  -- at the root the literal has the mark m, or is false at the start and has the mark k
-  abbrev pub Fails : Mark → Mark → ℕ → Bool → Type 0
-  Fails m k f v = Marked p 0 f v m ⊎ ((F f ≡ not v) × Marked p 0 f v k)
-
   -- at the root no literal may clash, and no literal false at the start may be needed
   pub record Clear : Type 0 where
     pub no-clobber : (f : ℕ) (v : Bool) → ¬ MayClobber p f v 0

@@ -31,14 +31,6 @@ module _ (p : Plan) (S : ℕ → Bool) (F : ℕ → Bool) where
   abbrev pub NeverViolates : Type 0
   NeverViolates = (cs : List Call) (ns : List ℕ) (a : World) → CallsOn cs ns a → NoViolation ns
 
-  -- 02's "a book that is not CLEAR has one": a list of calls in which one returns 21, 22 or 26
-  pub record Violated : Type 0 where
-    pub calls : List Call
-    pub returns : List ℕ
-    pub after : World
-    pub worked : CallsOn calls returns after
-    pub violation : Violation returns
-
   -- the root is complete after no list
   abbrev pub NeverCompletes : Type 0
   NeverCompletes = (cs : List Call) (ns : List ℕ) (a : World) → CallsOn cs ns a

@@ -7,7 +7,8 @@ use mathlib.Core.List.{List}
 use Prim.Native.Nat.{ℕ, _+_, _*_, _≤_, _<_}
 use lib.ListN.{getD}
 use Rattle.base.specs.Words.{Says}
-use Rattle.runs.specs.Plan.{task, Place, Plan, Node, Before, kindNumber, placeNumber, signNumber}
+use Rattle.runs.specs.Plan.{task, Place, Plan, Node, Before, placeNumber, signNumber}
+use Rattle.runs.specs.Numbers.{kindNumber}
 use Rattle.tables.specs.Sizes.{NODES, WORDS}
 use Rattle.tables.specs.Segments.{segmentOf, Position, ChildrenOf}
 

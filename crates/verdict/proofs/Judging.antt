@@ -25,7 +25,8 @@ use Rattle.runs.specs.Model.Blocked.{without, blockedRefusal}
 use Rattle.runs.proofs.Blocked.Branches.{refusal-28, refusal-29, blocks-nothing, blocked-well-formed}
 use Rattle.runs.specs.Summary.{Mark, may-pre, must-pre, may-clobber, must-clobber}
 use Rattle.runs.specs.Verdict as verdicts
-use Rattle.runs.specs.Verdict.{CLEAR, DOOMED, OPEN, Fails, Judged}
+use Rattle.runs.specs.Verdict.{CLEAR, DOOMED, OPEN, Judged}
+use Rattle.runs.specs.Model.Verdicts.{Fails}
 use Rattle.runs.specs.Demand3.{Demand3On}
 use Rattle.runs.specs.Model.Verdicts.{verdict}
 use Rattle.runs.proofs.Reflect.{decided}

@@ -1,7 +1,8 @@
 -- `any_words` meets its contract. Assumes nothing.
 use mathlib.Core.Path.{sym, ap, _∙_}
 use Prim.Native.Nat.{ℕ, _-_}
-use Rattle.runs.specs.Plan.{optional, Plan, kindNumber}
+use Rattle.runs.specs.Plan.{optional, Plan}
+use Rattle.runs.specs.Numbers.{kindNumber}
 use Rattle.runs.proofs.Plan.Numbers.{kind-inj}
 use Rattle.runs.proofs.Execution.Completeness.{picks-other}
 use Rattle.tables.specs.Segments.{Reached}

@@ -3,7 +3,8 @@
 use Rattle.runs.proofs.Base.{_≡_, _↔_, [], _∷_, ℕ, T}
 use Rattle.runs.specs.Plan.{all-of, Plan, Child, Under}
 use Rattle.runs.specs.WellFormed.{WellFormed}
-use Rattle.runs.specs.Execution.{State, Event, History, nodeOf, Begins, statusAfter, all-done, Complete, Enabled}
+use Rattle.runs.specs.Execution.{State, Event, History, nodeOf, statusAfter, all-done, Complete, Enabled}
+use Rattle.runs.specs.Classes.{Begins}
 use Rattle.runs.specs.Execution.{Execution, none-yet, one-more}
 use Rattle.runs.specs.Execution.{Completed, Earlier, none-later, one-later}
 use Rattle.runs.proofs.Plan.{child-under, Branch}

@@ -4,7 +4,8 @@ use Rattle.runs.proofs.Base.{_≡_, refl, sym, ap, _∙_, _≢_, _⊎_,
 use Rattle.runs.specs.Plan.{any-of, optional, Picks, Plan, itself, Child, Under}
 use Rattle.runs.specs.WellFormed.{WellFormed}
 use Rattle.runs.specs.Execution.{waiting, running, done, State, Event, start, finish, skip, History, nodeOf}
-use Rattle.runs.specs.Execution.{statusOf, Begins, statusAfter, any-done, skip-done, Complete, Begun, Rival}
+use Rattle.runs.specs.Execution.{statusOf, statusAfter, any-done, skip-done, Complete, Begun, Rival}
+use Rattle.runs.specs.Classes.{Begins}
 use Rattle.runs.specs.Execution.{by-branch, by-skip, Enabled, can-start, can-finish, can-skip, Execution}
 use Rattle.runs.specs.Execution.{none-yet, one-more, Completed}
 use Rattle.runs.proofs.Reflect.{clash}

@@ -3,7 +3,8 @@ use Rattle.runs.proofs.Base.{_≡_, refl, ap, _∙_, _≢_, _⊎_, inl,
 use Rattle.runs.specs.Plan.{Kind, task, all-of, any-of, optional, Picks, Plan, itself, Node, Child, Under, Before}
 use Rattle.runs.specs.Plan.{direct, chain}
 use Rattle.runs.specs.WellFormed.{WellFormed}
-use Rattle.runs.specs.Execution.{waiting, running, done, Event, History, nodeOf, Begins, statusAfter, Complete}
+use Rattle.runs.specs.Execution.{waiting, running, done, Event, History, nodeOf, statusAfter, Complete}
+use Rattle.runs.specs.Classes.{Begins}
 use Rattle.runs.specs.Execution.{Begun, by-skip, Enabled}
 use Rattle.runs.specs.Execution.{can-start, can-finish, can-skip, Execution, none-yet, one-more, Completed}
 use Rattle.runs.proofs.Reflect.{clash}

@@ -3,7 +3,8 @@
 use Rattle.runs.proofs.Base.{_≡_, sym, ap, _∙_, _↔_, _⊎_, inl, inr, ℕ, arith, T}
 use Rattle.runs.specs.Plan.{task, all-of, optional, Picks, Moves, Plan, itself, Child, Under}
 use Rattle.runs.specs.WellFormed.{WellFormed}
-use Rattle.runs.specs.Execution.{State, Event, start, finish, skip, nodeOf, Begins, task-done, all-done}
+use Rattle.runs.specs.Execution.{State, Event, start, finish, skip, nodeOf, task-done, all-done}
+use Rattle.runs.specs.Classes.{Begins}
 use Rattle.runs.specs.Execution.{any-done, skip-done, Complete, Begun}
 use Rattle.runs.specs.Execution.{Rival, by-branch, by-skip, Ready, Enabled, can-start, can-finish, can-skip}
 use Rattle.runs.proofs.Reflect.{clash}

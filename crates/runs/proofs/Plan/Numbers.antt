@@ -1,6 +1,7 @@
 -- The numbers of kinds, places and signs. Assumes nothing.
 use Rattle.runs.proofs.Base.{_≡_, refl, sym, ap, _∙_, Bool, true, false, not, ℕ, zero, suc, _<_, arith}
-use Rattle.runs.specs.Plan.{Kind, task, all-of, any-of, optional, Place, pre, inc, post, kindNumber, placeNumber}
+use Rattle.runs.specs.Plan.{Kind, task, all-of, any-of, optional, Place, pre, inc, post, placeNumber}
+use Rattle.runs.specs.Numbers.{kindNumber}
 use Rattle.runs.specs.Plan.{signNumber}
 use Prim.Native.Nat.{_-_}
 

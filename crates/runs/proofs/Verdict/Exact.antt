@@ -5,7 +5,8 @@ use Rattle.runs.specs.WellFormed.{WellFormed}
 use Rattle.runs.specs.Execution.{Event, History}
 use Rattle.runs.specs.Summary.{Clobbers, precondition, incondition, MayClobber, Mark, may-pre, must-pre}
 use Rattle.runs.specs.Summary.{may-clobber, must-clobber}
-use Rattle.runs.specs.Verdict.{Fails, Verdict, CLEAR, DOOMED, OPEN, Clear, Doomed, by-clobber, by-start, Judged}
+use Rattle.runs.specs.Verdict.{Verdict, CLEAR, DOOMED, OPEN, Clear, Doomed, by-clobber, by-start, Judged}
+use Rattle.runs.specs.Model.Verdicts.{Fails}
 use Rattle.runs.specs.Model.Verdicts.{failsB, someLiteralB, mayFailB, mustFailB, judge, verdict}
 use Rattle.runs.proofs.Reflect.{clash, Reflects, r-map, decided, r-both, r-either, r-any, r-same}
 use Rattle.runs.proofs.Execution.{completed-execution}
