@@ -7,7 +7,6 @@ use Prim.Native.Nat.{ℕ, zero, suc}
 use native.Mathlib.Decide.{ℕ-discrete}
 use native.Mathlib.Omega.{arith}
 use lib.Dec.{T, eqb}
-use borrow.Author.Tests.{ne-eqb}
 use Rattle.base.proofs.First.{first-none, first-some, answer-some}
 use Rattle.runs.specs.Tests.{both, negate, sameB}
 use Rattle.runs.specs.Model.Monitor.{completeB}
@@ -15,7 +14,7 @@ use Rattle.runs.proofs.Reflect.{Reflects, r-both, r-negate, r-T, r-eq, r-same}
 use Rattle.run_state.specs.State.{statusIn, malformedUnder, roomRefusalUnder, stateRefusalUnder}
 use Rattle.plan_blocked.specs.Blocked.{planUnder, refusalUnder}
 use Rattle.verdict.specs.Verdict.{answerOf}
-use Rattle.summary.specs.Summary.{summaryRefusal, summaryLeft}
+use Rattle.summary.specs.Summary.{summaryRefusal}
 use Rattle.run_state.proofs.Left.{fresh-refused}
 use Rattle.run_monitor.specs.Status.{Word, COMPLETE, UNFINISHED, wordFor, statusAnswer}
 use Rattle.run_monitor.proofs.Outcomes.{refused-16}
@@ -128,12 +127,12 @@ module _ (b xs : List ℕ) (r : ℕ) (e : refusalUnder b xs ≡ r) (n : r ≢ 0)
   summary-is m out = sym (first-some (refusalUnder b xs) _ met) ∙ e
 
   refuses-all : RefusesAll b xs r
-  unfolding answerOf summaryLeft
+  unfolding answerOf
   refuses-all = record {
     assess = λ a x. x .returns ∙ sym (answer-some (refusalUnder b xs) _ met) ∙ ap inl e;
     summary = λ m out out′ k x. (
       x .returns ∙ summary-is m out,
-      x .leaves ∙ rw (ne-eqb (summaryRefusal b xs m out) 0 (λ z. n (sym (summary-is m out) ∙ z))),
+      x .unchanged (λ z. n (sym (x .returns ∙ summary-is m out) ∙ z)),
     );
     fresh = λ s z k x. (
       x .returns ∙ room-is s,

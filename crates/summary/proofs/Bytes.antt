@@ -13,7 +13,7 @@ use Rattle.base.specs.Words.{Says}
 use Rattle.base.specs.Answers.{overlay}
 use Rattle.base.proofs.First.{first-some, both-none, check-passed}
 use Rattle.base.proofs.Says.{says-map, says-none}
-use Rattle.base.proofs.Overlay.{at-overlay}
+use Rattle.base.proofs.Overlay.{length-overlay, at-overlay, past-overlay}
 use Rattle.plan_format.specs.Format.{nodeCount, flagCount}
 use Rattle.node_sets.specs.Sets.{marked}
 use Rattle.plan_rules.specs.Rules.{refusal}
@@ -33,7 +33,8 @@ use Rattle.runs.specs.Summary.{Mark, byteOf, markAt}
 use Rattle.runs.proofs.Reflect.{Reflects, T-true, true-T}
 use Rattle.marks_words.specs.Words.{wordIndex, MarkWords}
 use Rattle.marks_words.proofs.WordColumns.{mark-small, mark-byte, byte-mark}
-use Rattle.summary.specs.Summary.{summaryRefusal, summaryByte, summaryLeft, Tells, Summarised}
+use Rattle.summary.specs.Summary.{summaryRefusal, Tells, Summarised}
+use Rattle.summary.specs.Model.{summaryByte, summaryLeft}
 use Rattle.summary.specs.Inner.{UnderWords}
 
 -- the digit of a bit that says what a test reflects
@@ -162,8 +163,11 @@ module _ (b xs : List ℕ) (n : ℕ) (out : List ℕ) where
   unfolding summaryLeft
   summary-refused e k = record {
     returns = e;
-    leaves = rw (ne-eqb (summaryRefusal b xs n out) 0 (λ z. k (e ∙ z)));
+    leaves = rw (ne-eqb _ 0 k);
+    unchanged = λ z. refl;
     marks = λ z. absurd (k z);
+    as-long = refl;
+    later = λ i l. refl;
   }
 
   pub summary-written : summaryRefusal b xs n out ≡ 0
@@ -171,6 +175,9 @@ module _ (b xs : List ℕ) (n : ℕ) (out : List ℕ) where
   unfolding summaryLeft
   summary-written e = record {
     returns = sym e;
-    leaves = rw (eq-eqb (summaryRefusal b xs n out) 0 e);
+    leaves = refl;
+    unchanged = λ z. absurd (z refl);
     marks = λ z f k v m. byte-tells b xs (accepted e .plan) n out (accepted e .room) f k v m;
+    as-long = length-overlay (summaryByte b xs n) out (16 * flagCount b);
+    later = λ i l. past-overlay (summaryByte b xs n) out (16 * flagCount b) i l;
   }

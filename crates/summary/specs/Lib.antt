@@ -1,3 +1,4 @@
--- What the summary call answers and leaves; inner contracts.
+-- What the summary call answers and leaves; what computes; inner contracts.
 pub mod Summary
+pub mod Model
 pub mod Inner

@@ -8,7 +8,7 @@ use Rattle.base.proofs.Overlay.{overlay-none, overlay-more, length-overlay}
 use Rattle.plan_format.specs.Format.{flagCount}
 use Rattle.plan_check.proofs.Accepted.{Clean, clean}
 use Rattle.plan_blocked.proofs.Refused.{plan-accepted}
-use Rattle.summary.specs.Summary.{summaryByte}
+use Rattle.summary.specs.Model.{summaryByte}
 use Rattle.summary.proofs.Bytes.{Accepted, accepted, byte-is, summary-refused, summary-written}
 use Rattle.summary.proofs.summary.Statement.{statement}
 use Rattle.summary.proofs.summary.Tie as tie
