@@ -15,12 +15,13 @@ use Rattle.run_state.specs.Fresh.{freshState, Freshened}
 use Rattle.run_state.proofs.Refused.{room-enough}
 use Rattle.run_state.proofs.Passed.{passed}
 use Rattle.run_state.proofs.Shown.{fresh-started}
-use Rattle.run_monitor.specs.Events.{callReturn, callState, Called}
-use Rattle.run_monitor.proofs.Events.{call-steps}
+use Rattle.run_monitor.specs.Events.{Called}
+use Rattle.run_monitor.specs.Model.{callState}
+use Rattle.run_monitor.specs.Model.{callReturn}
 use Rattle.run_monitor.proofs.Called.{called}
 use Rattle.run_calls.specs.Lists.{Calls, no-calls, next-call, ListMade}
 use Rattle.run_calls.specs.Demand3.{Bytes, Shows, Follows, EachCall}
-use Rattle.run_calls.proofs.Kept.{Kept, fresh-kept, call-kept, group-none, shown-is}
+use Rattle.run_calls.proofs.Kept.{Kept, fresh-kept, called-kept, group-none, shown-is}
 
 -- one list of calls after another
 pub calls-append : {b xs s z y : List ℕ} {cs ds : List Call} {rs ns : List ℕ} → Calls b xs s cs rs z
@@ -35,11 +36,6 @@ one-answered : {p q : Plan} {a z : World} {c : Call} {n : ℕ} → Worked p q a 
 one-answered (runs.next-call x runs.no-calls) = x
 
 module _ (b xs : List ℕ) where
-  -- a call leaves a state that passes all checks as one that does
-  called-well : {s s′ : List ℕ} {c : Call} {r : ℕ} → stateRefusalUnder b xs s ≡ 0 → Called b xs s c r s′
-      → stateRefusalUnder b xs s′ ≡ 0
-  called-well {s} {c = c} ok x = ap (stateRefusalUnder b xs) (x .leaves) ∙ call-steps b xs s ok c .well-formed
-
   -- the calls of a list after a state s, which keeps what s₀ has
   record Walked (s₀ s : List ℕ) (cs : List Call) (rs z : List ℕ) : Type 0 where
     well-formed : stateRefusalUnder b xs z ≡ 0
@@ -49,8 +45,8 @@ module _ (b xs : List ℕ) where
   walked : (s₀ : List ℕ) {s z : List ℕ} {cs : List Call} {rs : List ℕ} → stateRefusalUnder b xs s ≡ 0 → Kept b s₀ s
       → Calls b xs s cs rs z → Walked s₀ s cs rs z
   walked s₀ ok k no-calls = record { well-formed = ok; worked = runs.no-calls; kept = k }
-  walked s₀ ok k (next-call {s = s} {c = c} x y) =
-      let w = walked s₀ (called-well ok x) (rw (x .leaves) (call-kept b xs s₀ s ok k c)) y in
+  walked s₀ ok k (next-call x y) =
+      let w = walked s₀ (x .well-formed ok) (called-kept ok x k) y in
       record { well-formed = w .well-formed; worked = runs.next-call (x .answered ok) (w .worked); kept = w .kept }
 
   -- the state that fresh wrote: it passes all checks, keeps what it should, and shows the states at first
@@ -76,6 +72,9 @@ module _ (b xs : List ℕ) where
     states = refl;
     bytes = shown-is b s z (passed b xs z ok) k;
     groups = group-none b s z (passed b xs z ok) k;
+    small = k .small;
+    as-long = k .as-long;
+    later = k .later;
   }
 
   pub list-follows : Bytes b → (s : List ℕ) (cs : List Call) (rs z : List ℕ) → ListMade b xs s cs rs z

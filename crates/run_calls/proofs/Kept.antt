@@ -1,5 +1,5 @@
--- What lists keep: a state's length, its bytes from 8 + 3N on, and that its flags are bytes; and the bytes of a state
--- by what it shows. Assumes nothing.
+-- What lists keep: that a state's flags are bytes, its length, its bytes from 8 + 3N on; and the bytes of a state by
+-- what it shows. Assumes nothing.
 use mathlib.Core.Path.{_≡_, sym, ap, _∙_}
 use mathlib.Core.Logic.{by-cases, inl, inr, ⊎-elim}
 use mathlib.Core.Bool.{true, false}
@@ -29,19 +29,20 @@ use Rattle.node_sets.specs.One.{only}
 use Rattle.run_refusals.specs.Events.{callRefusal}
 use Rattle.run_refusals.specs.Inner.{eventPlace}
 use Rattle.run_step.specs.Steps.{afterAll}
-use Rattle.run_monitor.specs.Events.{callState}
+use Rattle.run_monitor.specs.Events.{Called}
+use Rattle.run_monitor.specs.Model.{callState}
 use Rattle.run_monitor.proofs.Events.{Going, nothing, going, goes-under, call-goes}
 use Rattle.run_monitor.proofs.Outcomes.{refused-22, accepted}
 use Rattle.run_step.proofs.Written.{byte-flags}
-use Rattle.run_step.proofs.After.{Fit, after, inside, after-length, after-past, after-flags, event-written}
+use Rattle.run_step.proofs.After.{Fit, after, inside, after-flags, event-written}
 use Rattle.run_calls.specs.Shown.{numberByte, shownByte}
 use Rattle.run_calls.specs.Demand3.{Bytes, GroupByte}
 use Rattle.run_calls.proofs.Bytes.{flag-byte, made-small}
 
 pub record Kept (b s z : List ℕ) : Type 0 where
-  pub same-length : length z ≡ length s
-  pub later : (k : ℕ) → 8 + 3 * nodeCount b ≤ k → getD z k 0 ≡ getD s k 0
   pub small : (k : ℕ) → k < 8 → getD z k 0 < 256
+  pub as-long : length z ≡ length s
+  pub later : (k : ℕ) → 8 + 3 * nodeCount b ≤ k → getD z k 0 ≡ getD s k 0
 
 -- ---- fresh
 pub fresh-kept : (b xs s : List ℕ) → Bytes b → roomRefusalUnder b xs s ≡ 0 → Kept b s (freshState b xs s)
@@ -50,49 +51,56 @@ fresh-kept b xs s h e =
     let n = 8 + 3 * nodeCount b in
     rw (sym (fresh-accepted b xs s e))
     (record {
-      same-length = length-overlay (freshByte b) s n;
-      later = λ k l. past-overlay (freshByte b) s n k l;
       small = λ k l. rw (at-overlay (freshByte b) s n k (room-passed b xs s e .room) (omega arith), lt-ltb k 8 l)
           (h (8 + k));
+      as-long = length-overlay (freshByte b) s n;
+      later = λ k l. past-overlay (freshByte b) s n k l;
     })
 
--- ---- events
-module _ (b s z : List ℕ) (ok : stateRefusal b z ≡ 0) (h : Kept b s z) (e : Event) where
+-- ---- events leave the flags in bytes
+abbrev FlagBytes : List ℕ → Type 0
+FlagBytes z = (k : ℕ) → k < 8 → getD z k 0 < 256
+
+module _ (b z : List ℕ) (ok : stateRefusal b z ≡ 0) (h : FlagBytes z) (e : Event) where
   eight-long : length (take 8 z) ≡ 8
   eight-long = length-take-le 8 z (omega (arith, has-room b z ok .room))
 
   first-small : (i : ℕ) → getD (take 8 z) i 0 < 256
   first-small i =
       by-cases (decLt i 8)
-      (λ (l : i < 8). rw (getD-take 8 z i 0 l) (h .small i l))
+      (λ (l : i < 8). rw (getD-take 8 z i 0 l) (h i l))
       (λ l. rw (List·getD-eq-default (take 8 z) 0 {n = i} (omega (arith, eight-long))) (omega arith))
 
-  written-kept : (y : Fit b e) → Kept b s (after b z ok e y)
-  written-kept y =
+  written-small : (y : Fit b e) → FlagBytes (after b z ok e y)
+  written-small y j m =
       let k = eventPlace e in
-      record {
-        same-length = after-length b z ok e y ∙ h .same-length;
-        later = λ j m. after-past b z ok e y j m ∙ h .later j m;
-        small = λ j m. rw (
-          after-flags b z ok e y j m,
-          byte-flags b z ok k (nodeOf e) (statusByte (statusOf e)) (inside b z ok e y) j m,
-        )
-            (made-small b (placeNumber k) (only (nodeOf e)) (take 8 z) (omega (arith, eight-long)) first-small j);
-      }
+      rw (
+        after-flags b z ok e y j m,
+        byte-flags b z ok k (nodeOf e) (statusByte (statusOf e)) (inside b z ok e y) j m,
+      )
+      (made-small b (placeNumber k) (only (nodeOf e)) (take 8 z) (omega (arith, eight-long)) first-small j)
 
 -- ---- calls
-module _ (b xs s z : List ℕ) (under : stateRefusalUnder b xs z ≡ 0) (h : Kept b s z) where
-  events-kept : {es : History} → Going b xs z es → Kept b s (afterAll b z es)
-  events-kept nothing = h
-  events-kept (going {e = e} {h = es} g fit st asked) =
+module _ (b xs z : List ℕ) (under : stateRefusalUnder b xs z ≡ 0) (h : FlagBytes z) where
+  events-small : {es : History} → Going b xs z es → FlagBytes (afterAll b z es)
+  events-small nothing = h
+  events-small (going {e = e} {h = es} g fit st asked) =
       let w = passed b xs (afterAll b z es) (goes-under b xs z under g .well-formed) in
-      rw (event-written b (afterAll b z es) w e fit) (written-kept b s (afterAll b z es) w (events-kept g) e fit)
+      rw (event-written b (afterAll b z es) w e fit) (written-small b (afterAll b z es) w (events-small g) e fit)
 
-  pub call-kept : (c : Call) → Kept b s (callState b xs z c)
-  call-kept c =
+  call-small : (c : Call) → FlagBytes (callState b xs z c)
+  call-small c =
       by-cases (ℕ-discrete (callRefusal b xs z c) 0)
-      (λ w. rw (sym (accepted b xs z c under w .1)) (events-kept (call-goes b xs z under c w)))
+      (λ w. rw (sym (accepted b xs z c under w .1)) (events-small (call-goes b xs z under c w)))
       (λ n. rw (sym (refused-22 b xs z c under n .1)) h)
+
+pub called-kept : {b xs s z z′ : List ℕ} {c : Call} {r : ℕ} → stateRefusalUnder b xs z ≡ 0 → Called b xs z c r z′
+    → Kept b s z → Kept b s z′
+called-kept {b} {xs} {z = z} {c = c} under x k = record {
+  small = rw (x .leaves) (call-small b xs z under (k .small) c);
+  as-long = x .as-long ∙ k .as-long;
+  later = λ i l. x .later i l ∙ k .later i l;
+}
 
 -- ---- the bytes of a state are those of what it shows
 -- a small number in two bytes
@@ -146,9 +154,9 @@ module _ (b s z : List ℕ) (ok : stateRefusal b z ≡ 0) (h : Kept b s z) where
   shown-is =
       let f = shownByte (nodeCount b) (worldOf b z) in
       let n = 8 + 3 * nodeCount b in
-      ext-getD 0 z (overlay f n s) (h .same-length ∙ sym (length-overlay f s n))
+      ext-getD 0 z (overlay f n s) (h .as-long ∙ sym (length-overlay f s n))
       (λ k l.
       by-cases (decLt k n)
       (λ (m : k < n). sym (shown-at k m)
-      ∙ sym (at-overlay f s n k (omega (arith, h .same-length, has-room b z ok .room)) m))
+      ∙ sym (at-overlay f s n k (omega (arith, h .as-long, has-room b z ok .room)) m))
       (λ m. h .later k (omega arith) ∙ sym (past-overlay f s n k (omega arith))))

@@ -1,4 +1,4 @@
--- Making literals true leaves bytes (`made-small`); what lists of calls keep (`call-kept`); that they return what 01
+-- Making literals true leaves bytes (`made-small`); what lists of calls keep (`called-kept`); that they return what 01
 -- works out (`list-follows`); and demand 3 over bytes (`demand3`).
 pub mod Bytes
 pub mod Kept

@@ -39,12 +39,15 @@ abbrev pub GroupByte : List ℕ → List ℕ → ℕ → Type 0
 GroupByte b z g = (nodeByte z g ≡ 0) ⊎ ((isKind b g 3 ≡ true) × (nodeByte z g ≡ 2))
 
 -- the bytes z show the states a: they pass all checks, the first 8 + 3N are those of a, with 0 at each group that is
--- not skipped, and each later byte is as it was in s, before fresh
+-- not skipped, and each later byte is as it was in s, before fresh (`bytes` says all of it as one equation)
 pub record Shows (b xs s : List ℕ) (a : World) (z : List ℕ) : Type 0 where
   pub well-formed : stateRefusalUnder b xs z ≡ 0
   pub states : worldOf b z ≡ a
   pub bytes : z ≡ overlay (shownByte (nodeCount b) a) (8 + 3 * nodeCount b) s
   pub groups : (g : ℕ) → g < nodeCount b → isKind b g 0 ≡ false → GroupByte b z g × (ordinalIn b z g ≡ 0)
+  pub small : (i : ℕ) → i < 8 → getD z i 0 < 256
+  pub as-long : length z ≡ length s
+  pub later : (i : ℕ) → 8 + 3 * nodeCount b ≤ i → getD z i 0 ≡ getD s i 0
 
 -- a list of calls returned what 01 works out from the plan and the calls, and the bytes after it show the states worked
 -- out

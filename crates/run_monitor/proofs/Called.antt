@@ -5,6 +5,7 @@ use mathlib.Core.Logic.{by-cases}
 use mathlib.Core.List.{List, [], _∷_}
 use Prim.Native.Nat.{ℕ}
 use native.Mathlib.Decide.{ℕ-discrete}
+use lib.ListN.{length, getD}
 use Rattle.plan_check.specs.Meaning.{planOf}
 use Rattle.runs.specs.Execution.{finish}
 use Rattle.runs.specs.Calls.{Call, one, together, events}
@@ -18,9 +19,11 @@ use Rattle.plan_blocked.specs.Blocked.{planUnder}
 use Rattle.plan_blocked.proofs.Refused.{under-well-formed}
 use Rattle.run_refusals.specs.Events.{callRefusal}
 use Rattle.run_step.specs.Steps.{afterAll}
-use Rattle.run_monitor.specs.Events.{callReturn, callState, Called}
-use Rattle.run_monitor.proofs.Outcomes.{refused-16, refused-22, accepted}
-use Rattle.run_monitor.proofs.Events.{call-steps}
+use Rattle.run_monitor.specs.Events.{Called}
+use Rattle.run_monitor.specs.Model.{callState}
+use Rattle.run_monitor.specs.Model.{callReturn}
+use Rattle.run_monitor.proofs.Outcomes.{unchanged, refused-16, refused-22, accepted}
+use Rattle.run_monitor.proofs.Events.{call-steps, call-keeps}
 
 pub called : (b xs s : List ℕ) (c : Call) {r : ℕ} {s′ : List ℕ} → r ≡ callReturn b xs s c → s′ ≡ callState b xs s c
     → Called b xs s c r s′
@@ -28,6 +31,8 @@ unfolding callReturn
 called b xs s c q h = record {
   returns = q;
   leaves = h;
+  refused = λ n. q ∙ sym (first-some (stateRefusalUnder b xs s) (callRefusal b xs s c) n);
+  unchanged = λ n. h ∙ unchanged b xs s c (λ z. n (q ∙ z));
   answered = λ ok.
       rw (
         q ∙ sym (first-none (stateRefusalUnder b xs s) (callRefusal b xs s c) ok),
@@ -35,6 +40,9 @@ called b xs s c q h = record {
             ∙ call-steps b xs s ok c .shows,
       )
       (answered (planOf b) (planUnder b xs) (under-well-formed b xs (list-passed b xs s ok)) (worldOf b s) c);
+  well-formed = λ ok. ap (stateRefusalUnder b xs) h ∙ call-steps b xs s ok c .well-formed;
+  as-long = ap length h ∙ call-keeps b xs s c .as-long;
+  later = λ i l. ap (λ (z : List ℕ). getD z i 0) h ∙ call-keeps b xs s c .later i l;
 }
 
 pub called-16 : (b xs s : List ℕ) (c : Call) (r : ℕ) → r ≡ stateRefusalUnder b xs s → (r ≡ 0 → ⊥) → Called b xs s c r s

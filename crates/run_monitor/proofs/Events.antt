@@ -4,7 +4,8 @@ use mathlib.Core.Logic.{by-cases}
 use mathlib.Core.Bool.{Bool, true, false, true≢false}
 use mathlib.Core.List.{List, [], _∷_, List·Memᴰ as Among, List·Memᴰ·head as here, List·Memᴰ·tail as there}
 use mathlib.Core.Option.{Option, some, none, Option·getD}
-use Prim.Native.Nat.{ℕ, _<_}
+use Prim.Native.Nat.{ℕ, _+_, _*_, _≤_, _<_}
+use lib.ListN.{length, getD}
 use native.Mathlib.Decide.{ℕ-discrete}
 use Rattle.plan_format.specs.Format.{nodeCount, isKind}
 use Rattle.plan_check.specs.Meaning.{planOf}
@@ -29,10 +30,10 @@ use Rattle.run_refusals.proofs.OfKind.{event-does}
 use Rattle.run_refusals.proofs.Answers.{accepted-kind, accepted-byte, accepted-stands, running-stands}
 use Rattle.run_refusals.proofs.Together.{accepted-rises, accepted-tasks, accepted-running}
 use Rattle.run_step.specs.Steps.{afterEvent, afterAll}
-use Rattle.run_monitor.specs.Events.{callState}
-use Rattle.run_monitor.proofs.Outcomes.{refused-22, accepted}
+use Rattle.run_monitor.specs.Model.{callState}
+use Rattle.run_monitor.proofs.Outcomes.{refused-16, refused-22, accepted}
 use Rattle.run_step.proofs.After.{Fit, after, shows-status, shows-flag, shows-ordinal, still-well, numbers, after-other}
-use Rattle.run_step.proofs.After.{event-written}
+use Rattle.run_step.proofs.After.{event-written, after-length, after-past}
 
 -- the bytes z pass all checks, and show the states a
 pub record Showing (b z : List ℕ) (a : World) : Type 0 where
@@ -128,6 +129,35 @@ module _ (b xs s : List ℕ) (under : stateRefusalUnder b xs s ≡ 0) where
       (accepted-byte b xs s under e z)
   call-goes (together ts) z = finishes-go ts (accepted-rises b xs s under ts z) (accepted-tasks b xs s under ts z)
       (accepted-running b xs s under ts z) .0
+
+-- ---- nothing is written past the 8 + 3N bytes that show the states
+pub record RestKept (b s z : List ℕ) : Type 0 where
+  pub as-long : length z ≡ length s
+  pub later : (k : ℕ) → 8 + 3 * nodeCount b ≤ k → getD z k 0 ≡ getD s k 0
+
+events-keep : (b xs s : List ℕ) → stateRefusalUnder b xs s ≡ 0 → {h : History} → Going b xs s h
+    → RestKept b s (afterAll b s h)
+events-keep b xs s under nothing = record { as-long = refl; later = λ k l. refl }
+events-keep b xs s under (going {e = e} {h = h} g fit st asked) =
+    let ok = passed b xs (afterAll b s h) (goes-under b xs s under g .well-formed) in
+    let w = events-keep b xs s under g in
+    rw (event-written b (afterAll b s h) ok e fit)
+    (record {
+      as-long = after-length b (afterAll b s h) ok e fit ∙ w .as-long;
+      later = λ k l. after-past b (afterAll b s h) ok e fit k l ∙ w .later k l;
+    })
+
+pub call-keeps : (b xs s : List ℕ) (c : Call) → RestKept b s (callState b xs s c)
+call-keeps b xs s c =
+    by-cases (ℕ-discrete (stateRefusalUnder b xs s) 0)
+    (λ ok.
+    by-cases (ℕ-discrete (callRefusal b xs s c) 0)
+    (λ z. rw (sym (accepted b xs s c ok z .1)) (events-keep b xs s ok (call-goes b xs s ok c z)))
+    (λ n. same (refused-22 b xs s c ok n .1)))
+    (λ n. same (refused-16 b xs s c n .1))
+  where
+    same : {z : List ℕ} → s ≡ z → RestKept b s z
+    same e = rw (sym e) (record { as-long = refl; later = λ k l. refl })
 
 -- events leave the flags that they leave in the whole plan
 happen-left : (b xs : List ℕ) (a : World) (h : History)

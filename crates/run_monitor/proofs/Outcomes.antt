@@ -9,9 +9,14 @@ use Rattle.base.proofs.First.{first-some}
 use Rattle.run_state.specs.State.{stateRefusalUnder}
 use Rattle.run_refusals.specs.Events.{callRefusal}
 use Rattle.run_step.specs.Steps.{afterAll}
-use Rattle.run_monitor.specs.Events.{callReturn, callState}
+use Rattle.run_monitor.specs.Model.{callState}
+use Rattle.run_monitor.specs.Model.{callReturn}
 
 module _ (b xs s : List ℕ) (c : Call) where
+  pub unchanged : (callReturn b xs s c ≡ 0 → ⊥) → callState b xs s c ≡ s
+  unfolding callState
+  unchanged n = rw (ne-eqb (callReturn b xs s c) 0 n)
+
   pub refused-16 : (stateRefusalUnder b xs s ≡ 0 → ⊥)
       → (stateRefusalUnder b xs s ≡ callReturn b xs s c) × (s ≡ callState b xs s c)
   unfolding callReturn callState

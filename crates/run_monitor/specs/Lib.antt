@@ -1,2 +1,3 @@
 pub mod Status
+pub mod Model
 pub mod Events
