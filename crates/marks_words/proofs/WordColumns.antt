@@ -11,7 +11,8 @@ use Rattle.base.specs.Words.{Says}
 use Rattle.base.proofs.Says.{says-map, says-and, says-or, says-less}
 use Rattle.runs.specs.Plan.{Plan, signNumber}
 use Rattle.runs.specs.Summary.{Mark, may-pre, must-pre, may-post, must-post, may-inc, must-inc, may-clobber}
-use Rattle.runs.specs.Summary.{must-clobber, byteOf, markAt, Marked}
+use Rattle.runs.specs.Summary.{must-clobber, byteOf, Marked}
+use Rattle.runs.specs.Numbers.{markAt}
 use Rattle.runs.specs.Model.Verdicts.{Fails}
 use Rattle.marks_row.specs.Columns as columns
 use Rattle.marks_row.specs.Columns.{Right, wordAt}

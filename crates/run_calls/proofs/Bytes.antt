@@ -12,7 +12,8 @@ use lib.Bits.{or-lt, xor-lt}
 use lib.Pow.{pow-lt}
 use borrow.Author.Tests.{ne-eqb, lt-ltb}
 use Rattle.base.specs.Bits.{bit}
-use Rattle.run_flags.specs.Flags.{flagIn, byteWith, withFlag}
+use Rattle.run_flags.specs.Flags.{flagIn}
+use Rattle.run_flags.specs.Inner.{withFlag, byteWith}
 use Rattle.run_flags.proofs.EachFlag.{length-with}
 use Rattle.base.proofs.Booleans.{either}
 use Rattle.plan_codes.specs.Values.{flagOf}

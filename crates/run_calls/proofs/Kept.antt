@@ -14,7 +14,8 @@ use Rattle.plan_format.specs.Format.{u16At, nodeCount, isKind}
 use Rattle.base.proofs.Booleans.{either}
 use Rattle.runs.specs.Plan.{placeNumber}
 use Rattle.runs.specs.Execution.{Event, History, nodeOf, statusOf}
-use Rattle.runs.specs.Calls.{Call, statusByte}
+use Rattle.runs.specs.Calls.{Call}
+use Rattle.runs.specs.Numbers.{statusByte}
 use Rattle.run_starts.specs.Starts.{nodeByte, ordinalAt, ordinalIn, startedIn}
 use Rattle.run_state.specs.State.{moves, ordinalShown, worldOf, roomRefusalUnder, stateRefusalUnder}
 use Rattle.run_state.specs.Inner.{stateRefusal}

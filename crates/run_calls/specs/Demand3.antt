@@ -45,6 +45,7 @@ pub record Shows (b xs s : List ℕ) (a : World) (z : List ℕ) : Type 0 where
   pub states : worldOf b z ≡ a
   pub bytes : z ≡ overlay (shownByte (nodeCount b) a) (8 + 3 * nodeCount b) s
   pub groups : (g : ℕ) → g < nodeCount b → isKind b g 0 ≡ false → GroupByte b z g × (ordinalIn b z g ≡ 0)
+  -- the flags are in bytes; nothing is written past the states
   pub small : (i : ℕ) → i < 8 → getD z i 0 < 256
   pub as-long : length z ≡ length s
   pub later : (i : ℕ) → 8 + 3 * nodeCount b ≤ i → getD z i 0 ≡ getD s i 0

@@ -3,7 +3,8 @@
 use Prim.Native.Nat.{ℕ, _+_, _-_, _*_, _/_, _%_}
 use mathlib.Core.Bool.{Bool, cond}
 use lib.Dec.{eqb, ltb}
-use Rattle.runs.specs.Calls.{World, statusByte}
+use Rattle.runs.specs.Calls.{World}
+use Rattle.runs.specs.Numbers.{statusByte}
 use Rattle.base.specs.Count.{num}
 
 -- the byte whose bit k is flag 8 i + k

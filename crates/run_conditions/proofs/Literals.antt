@@ -10,7 +10,8 @@ use native.Mathlib.Numerals.{add-one}
 use native.Mathlib.Omega.{arith}
 use lib.ListN.{length}
 use Rattle.plan_codes.specs.Values.{flagOf}
-use Rattle.run_flags.specs.Flags.{flagIn, withFlag}
+use Rattle.run_flags.specs.Flags.{flagIn}
+use Rattle.run_flags.specs.Inner.{withFlag}
 use Rattle.run_flags.proofs.EachFlag.{length-with, with-same, with-other}
 use Rattle.plan_format.specs.Format.{condCount, condValue}
 use Rattle.base.proofs.Booleans.{either}

@@ -11,8 +11,8 @@ use lib.Seq.{getD-set-same, getD-set-other, getD-take}
 use lib.Bits.{bitXor}
 use Rattle.base.specs.Bits.{bit}
 use Rattle.base.proofs.Bits.{xor, bit-or, bit-xor, bit-none, one-same, one-other}
-use Rattle.run_flags.specs.Flags.{flagIn, byteWith, withFlag}
-use Rattle.run_flags.specs.Inner.{allByte}
+use Rattle.run_flags.specs.Flags.{flagIn}
+use Rattle.run_flags.specs.Inner.{withFlag, byteWith, allByte}
 
 xor-false : (a : Bool) → xor a false ≡ a
 xor-false true = refl

@@ -1,18 +1,9 @@
 -- Flags in bytes: flag f is bit f mod 8 (bit 0 lowest) of byte f / 8.
-use Prim.Native.Nat.{ℕ, _/_, _%_, _^_}
-use mathlib.Core.Bool.{Bool, cond}
+use Prim.Native.Nat.{ℕ, _/_, _%_}
+use mathlib.Core.Bool.{Bool}
 use mathlib.Core.List.{List}
-use lib.ListN.{getD, set}
-use lib.Bits.{bitOr, bitXor}
+use lib.ListN.{getD}
 use Rattle.base.specs.Bits.{bit}
 
 unfoldable pub flagIn : List ℕ → ℕ → Bool
 flagIn bytes f = bit (getD bytes (f / 8) 0) (f % 8)
-
--- the byte x with bit k made the sign
-unfoldable pub byteWith : ℕ → ℕ → Bool → ℕ
-byteWith x k s = cond s (bitOr x (2 ^ k)) (cond (bit x k) (bitXor x (2 ^ k)) x)
-
--- the bytes with the literal made true: flag f at the sign
-unfoldable pub withFlag : List ℕ → ℕ → Bool → List ℕ
-withFlag bytes f s = set bytes (f / 8) (byteWith (getD bytes (f / 8) 0) (f % 8) s)

@@ -3,8 +3,8 @@ ghost use mathlib.Core.Path.{_≡_};
 ghost use mathlib.Core.List.{_++_};
 ghost use Prim.Native.Nat.{_<_, _≤_};
 ghost use lib.ListN.{length, take, drop, replicate};
-ghost use Rattle.run_flags.specs.Flags.{flagIn, byteWith, withFlag};
-ghost use Rattle.run_flags.specs.Inner.{allByte};
+ghost use Rattle.run_flags.specs.Flags.{flagIn};
+ghost use Rattle.run_flags.specs.Inner.{withFlag, byteWith, allByte};
 
 pub struct Flags {
     pub bytes: [u8; 8],

@@ -20,8 +20,7 @@ use Rattle.plan_blocked.proofs.Refused.{under-well-formed}
 use Rattle.run_refusals.specs.Events.{callRefusal}
 use Rattle.run_step.specs.Steps.{afterAll}
 use Rattle.run_monitor.specs.Events.{Called}
-use Rattle.run_monitor.specs.Model.{callState}
-use Rattle.run_monitor.specs.Model.{callReturn}
+use Rattle.run_monitor.specs.Model.{callState, callReturn}
 use Rattle.run_monitor.proofs.Outcomes.{unchanged, refused-16, refused-22, accepted}
 use Rattle.run_monitor.proofs.Events.{call-steps, call-keeps}
 

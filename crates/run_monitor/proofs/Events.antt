@@ -11,7 +11,8 @@ use Rattle.plan_format.specs.Format.{nodeCount, isKind}
 use Rattle.plan_check.specs.Meaning.{planOf}
 use Rattle.plan_check.proofs.Meaning.{kind-is}
 use Rattle.runs.specs.Execution.{Event, finish, History, nodeOf, moved, asserts}
-use Rattle.runs.specs.Calls.{Call, one, together, finishes, events, Rising, asks, statusByte, counted, numbered}
+use Rattle.runs.specs.Calls.{Call, one, together, finishes, events, Rising, asks, counted, numbered}
+use Rattle.runs.specs.Numbers.{statusByte}
 use Rattle.runs.specs.Calls.{Refusal, World, happen, happenAll}
 use Rattle.runs.specs.Model.Monitor.{returned, refusalOf, step, refusalNumber, settle}
 use Rattle.runs.proofs.Calls.First.{number-inj}

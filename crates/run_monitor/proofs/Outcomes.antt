@@ -9,8 +9,7 @@ use Rattle.base.proofs.First.{first-some}
 use Rattle.run_state.specs.State.{stateRefusalUnder}
 use Rattle.run_refusals.specs.Events.{callRefusal}
 use Rattle.run_step.specs.Steps.{afterAll}
-use Rattle.run_monitor.specs.Model.{callState}
-use Rattle.run_monitor.specs.Model.{callReturn}
+use Rattle.run_monitor.specs.Model.{callState, callReturn}
 
 module _ (b xs s : List ℕ) (c : Call) where
   pub unchanged : (callReturn b xs s c ≡ 0 → ⊥) → callState b xs s c ≡ s

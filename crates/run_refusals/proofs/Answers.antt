@@ -15,9 +15,9 @@ use Rattle.plan_check.specs.Meaning.{planOf}
 use Rattle.plan_check.proofs.Meaning.{kind-is}
 use Rattle.plan_check.proofs.Nodes.{is-node}
 use Rattle.runs.specs.Plan.{optional, itself}
-use Rattle.runs.specs.Numbers.{kindNumber}
+use Rattle.runs.specs.Numbers.{kindNumber, statusByte}
 use Rattle.runs.specs.Execution.{waiting, running, Status-discrete, Event, start, finish, skip, nodeOf}
-use Rattle.runs.specs.Calls.{Call, one, checks, asks, statusByte}
+use Rattle.runs.specs.Calls.{Call, one, checks, asks}
 use Rattle.runs.specs.Model.Monitor.{returned, firstOf, refusalNumber, appliesB, taskB, optionalB, statusB, begunB}
 use Rattle.runs.specs.Model.Monitor.{wrongStatusB, branchBegunB, orderOpenB, preUnmetB, incBrokenB}
 use Rattle.plan_blocked.specs.Inner.{Standing}

@@ -12,9 +12,8 @@ use Rattle.plan_check.specs.Meaning.{planOf, kindAt, signIn}
 use Rattle.plan_check.proofs.Meaning.{kind-is, kind-of, kind-number, kind-limit, means}
 use Rattle.plan_check.proofs.Nodes.{is-node, node-is, plan-kind}
 use Rattle.runs.specs.Plan.{Kind, task, all-of, any-of, optional, post, Node, placeNumber}
-use Rattle.runs.specs.Numbers.{kindNumber}
+use Rattle.runs.specs.Numbers.{kindNumber, statusByte}
 use Rattle.runs.specs.Execution.{Status, Event, start, finish, skip, nodeOf, asserts}
-use Rattle.runs.specs.Calls.{statusByte}
 use Rattle.runs.specs.Model.Monitor.{taskB, optionalB, statusB, incBrokenB}
 use Rattle.runs.specs.Searches.{anyBelow}
 use Rattle.runs.proofs.Reflect.{Reflects, r-eq, r-map, clash, true-T, T-true, same-test}

@@ -6,7 +6,8 @@ use native.Mathlib.Omega.{arith}
 use lib.ListN.{length, getD, set, length-set}
 use lib.Seq.{getD-set-same, getD-set-other}
 use Rattle.plan_format.specs.Format.{u16At, nodeCount}
-use Rattle.run_starts.specs.Starts.{ordinalAt, ordinalIn, withOrdinal}
+use Rattle.run_starts.specs.Starts.{ordinalAt, ordinalIn}
+use Rattle.run_starts.specs.Inner.{withOrdinal}
 
 module _ (b s : List ℕ) (n k : ℕ) where
   abbrev z : List ℕ

@@ -1,9 +1,9 @@
 -- The nodes in a state's bytes: a byte for each, after the eight of the flags, then for each a number of two bytes, the
 -- ordinal of its start (02: place). Which tasks have been started, and when 16 covers their ordinals.
-use Prim.Native.Nat.{ℕ, suc, _+_, _*_, _/_, _%_}
+use Prim.Native.Nat.{ℕ, suc, _+_, _*_}
 use mathlib.Core.Bool.{Bool, not, _&&_}
 use mathlib.Core.List.{List}
-use lib.ListN.{getD, set}
+use lib.ListN.{getD}
 use lib.Dec.{eqb}
 use Rattle.base.specs.Count.{countBelow}
 use Rattle.plan_format.specs.Format.{u16At, nodeCount, isKind}
@@ -19,10 +19,6 @@ ordinalAt b n = 8 + nodeCount b + 2 * n
 
 unfoldable pub ordinalIn : List ℕ → List ℕ → ℕ → ℕ
 ordinalIn b s n = u16At s (ordinalAt b n)
-
--- the state with the ordinal k at node n
-unfoldable pub withOrdinal : List ℕ → ℕ → ℕ → List ℕ → List ℕ
-withOrdinal b n k s = set (set s (ordinalAt b n) (k % 256)) (ordinalAt b n + 1) (k / 256)
 
 -- node n is a started task; how many there are, and how many of them have the ordinal k
 unfoldable pub startedIn : List ℕ → List ℕ → ℕ → Bool

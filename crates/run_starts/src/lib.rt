@@ -13,8 +13,8 @@ ghost use lib.ListN.{length, getD};
 ghost use Rattle.plan_format.specs.Format.{nodeCount};
 ghost use Rattle.plan_format.specs.Whole.{Whole};
 ghost use Rattle.run_starts.specs.Starts.{ordinalAt, ordinalIn, startedIn, startedCount, strayOrdinal};
-ghost use Rattle.run_starts.specs.Inner.{StateFits};
-ghost use Rattle.run_starts.specs.Starts.{holders, misnumbered, withOrdinal};
+ghost use Rattle.run_starts.specs.Inner.{StateFits, withOrdinal};
+ghost use Rattle.run_starts.specs.Starts.{holders, misnumbered};
 ghost use Rattle.tables.specs.Sizes.{STARTS};
 
 // Where the ordinal of node n stands.

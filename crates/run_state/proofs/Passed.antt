@@ -17,7 +17,8 @@ use Rattle.plan_check.proofs.Nodes.{is-node, node-is, plan-kind, kind-optional}
 use Rattle.runs.specs.Plan.{Moves, Node}
 use Rattle.runs.specs.WellFormed.{WellFormed}
 use Rattle.runs.specs.Execution.{Status, waiting, running, done}
-use Rattle.runs.specs.Calls.{statusByte, empty}
+use Rattle.runs.specs.Calls.{empty}
+use Rattle.runs.specs.Numbers.{statusByte}
 use Rattle.run_starts.specs.Starts.{nodeByte}
 use Rattle.run_state.specs.State.{badByte, statusAt, moves, statusIn, badAbsent, stateRefusalUnder}
 use Rattle.run_state.specs.Inner.{stateRefusal}

@@ -5,7 +5,7 @@ use mathlib.Core.List.{List}
 use lib.Dec.{eqb}
 use Rattle.plan_codes.specs.Values.{flagOf, signOf, placeOf}
 use Rattle.plan_format.specs.Format.{condCount, condNode, condValue}
-use Rattle.run_flags.specs.Flags.{withFlag}
+use Rattle.run_flags.specs.Inner.{withFlag}
 
 -- condition i is of a task of the set M, at place q
 unfoldable pub isOf : List ℕ → ℕ → (ℕ → Bool) → ℕ → Bool

@@ -17,10 +17,11 @@ use Rattle.base.proofs.Booleans.{and-both, and-of, not-passed, either}
 use Rattle.plan_check.specs.Meaning.{signIn}
 use Rattle.plan_check.proofs.Meaning.{kind-is}
 use Rattle.runs.specs.Plan.{post, placeNumber}
-use Rattle.runs.specs.Numbers.{kindNumber}
+use Rattle.runs.specs.Numbers.{kindNumber, statusByte}
 use Rattle.runs.specs.Execution.{Event, start, finish, skip, nodeOf, statusOf, moved}
-use Rattle.runs.specs.Calls.{statusByte, asks, counted, numbered}
-use Rattle.run_starts.specs.Starts.{nodeByte, ordinalAt, ordinalIn, withOrdinal, startedIn, startedCount}
+use Rattle.runs.specs.Calls.{asks, counted, numbered}
+use Rattle.run_starts.specs.Starts.{nodeByte, ordinalAt, ordinalIn, startedIn, startedCount}
+use Rattle.run_starts.specs.Inner.{withOrdinal}
 use Rattle.run_state.specs.State.{badFlag, badByte, moves, statusIn, flagShown, ordinalShown}
 use Rattle.run_state.specs.Inner.{stateRefusal}
 use Rattle.run_state.proofs.Passed.{well-passed, has-room, is-well, status-of, task-moves, optional-moves, moves-node}

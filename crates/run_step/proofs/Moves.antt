@@ -3,7 +3,8 @@ use mathlib.Core.Path.{_≡_, _∙_}
 use mathlib.Core.List.{List}
 use Prim.Native.Nat.{ℕ, suc}
 use Rattle.runs.specs.Plan.{placeNumber}
-use Rattle.run_starts.specs.Starts.{withOrdinal, startedCount}
+use Rattle.run_starts.specs.Starts.{startedCount}
+use Rattle.run_starts.specs.Inner.{withOrdinal}
 use Rattle.run_refusals.specs.declared.Move.{Move}
 use Rattle.run_refusals.specs.declared.Move.the-variants.{Start, Finish}
 use Rattle.run_refusals.specs.Inner.{eventOf, eventPlace}

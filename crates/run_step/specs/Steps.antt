@@ -4,8 +4,9 @@ use mathlib.Core.List.{List, [], _∷_, _++_}
 use lib.ListN.{take, drop, set}
 use Rattle.runs.specs.Plan.{inc, post, placeNumber}
 use Rattle.runs.specs.Execution.{running, done, Event, start, finish, skip, History}
-use Rattle.runs.specs.Calls.{statusByte}
-use Rattle.run_starts.specs.Starts.{withOrdinal, startedCount}
+use Rattle.runs.specs.Numbers.{statusByte}
+use Rattle.run_starts.specs.Starts.{startedCount}
+use Rattle.run_starts.specs.Inner.{withOrdinal}
 use Rattle.run_state.specs.Made.{made}
 use Rattle.node_sets.specs.One.{only}
 

@@ -15,7 +15,8 @@ use Rattle.plan_check.specs.Meaning.{planOf}
 use Rattle.runs.specs.Execution.{Status}
 use Rattle.runs.specs.Summary.{Mark, byteOf}
 use Rattle.runs.specs.Verdict.{Verdict}
-use Rattle.runs.specs.Calls.{Call, statusByte}
+use Rattle.runs.specs.Calls.{Call}
+use Rattle.runs.specs.Numbers.{statusByte}
 use Rattle.run_calls.specs.Lists.{ListMade}
 use Rattle.verdict.specs.declared.Answer.{Answer}
 use Rattle.verdict.specs.Verdict.{said, Assessed}

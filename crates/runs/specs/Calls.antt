@@ -8,7 +8,7 @@ use mathlib.Core.List.{List, [], _∷_, _++_, List·Memᴰ as Among}
 use Prim.Native.Nat.{ℕ, suc, _<_}
 use lib.Dec.{T, eqb}
 use Rattle.runs.specs.Plan.{task, optional, Picks, inc, post, Plan, Node, Child, Under}
-use Rattle.runs.specs.Execution.{Status, waiting, running, done, State, Event, start, finish, skip, History}
+use Rattle.runs.specs.Execution.{Status, waiting, running, State, Event, start, finish, skip, History}
 use Rattle.runs.specs.Execution.{nodeOf, moved, Complete, Begun, Rival, preOf, asserts}
 
 -- a call asks for an event of any number, or for the finishes of a list of any numbers in one step (02's
@@ -233,9 +233,3 @@ unfoldable pub acceptedStarts : List Call → List ℕ → List ℕ
 acceptedStarts (c ∷ cs) (n ∷ ns) = cond (eqb n 0) (startedBy c) [] ++ acceptedStarts cs ns
 acceptedStarts [] ns = []
 acceptedStarts (c ∷ cs) [] = []
-
--- the state's byte for a task (01: record); 02: an optional group's is 2 once it is skipped
-abbrev pub statusByte : Status → ℕ
-statusByte waiting = 0
-statusByte running = 1
-statusByte done = 2

@@ -4,7 +4,7 @@ use mathlib.Core.Logic.{_≢_, _⊎_}
 use mathlib.Core.Bool.{Bool, not}
 use mathlib.Core.Option.{none, some}
 use mathlib.Core.List.{_∷_}
-use Prim.Native.Nat.{ℕ, zero, suc}
+use Prim.Native.Nat.{ℕ}
 use Rattle.runs.specs.Plan.{task, all-of, any-of, inc, post, Plan, Child, Under, Before, Unordered}
 use Rattle.runs.specs.Plan.{Concurrent}
 use Rattle.runs.specs.Execution.{running, Event, History, nodeOf, statusAfter, Execution, Completed, preOf}
@@ -96,17 +96,6 @@ byteOf may-inc = 4
 byteOf must-inc = 5
 byteOf may-clobber = 6
 byteOf must-clobber = 7
-
--- the mark of a number, back from its byte
-abbrev pub markAt : ℕ → Mark
-markAt zero = may-pre
-markAt (suc zero) = must-pre
-markAt (suc (suc zero)) = may-post
-markAt (suc (suc (suc zero))) = must-post
-markAt (suc (suc (suc (suc zero)))) = may-inc
-markAt (suc (suc (suc (suc (suc zero))))) = must-inc
-markAt (suc (suc (suc (suc (suc (suc zero)))))) = may-clobber
-markAt (suc (suc (suc (suc (suc (suc (suc k))))))) = must-clobber
 
 -- what each mark says
 abbrev pub Marked : Plan → ℕ → ℕ → Bool → Mark → Type 0

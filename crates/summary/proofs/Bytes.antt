@@ -29,7 +29,8 @@ use Rattle.runs.specs.Plan.{Node, signNumber}
 use Rattle.runs.proofs.Plan.Numbers.{sign-small}
 use Rattle.plan_check.specs.Meaning.{planOf}
 use Rattle.plan_check.proofs.Meaning.{means-well-formed}
-use Rattle.runs.specs.Summary.{Mark, byteOf, markAt}
+use Rattle.runs.specs.Summary.{Mark, byteOf}
+use Rattle.runs.specs.Numbers.{markAt}
 use Rattle.runs.proofs.Reflect.{Reflects, T-true, true-T}
 use Rattle.marks_words.specs.Words.{wordIndex, MarkWords}
 use Rattle.marks_words.proofs.WordColumns.{mark-small, mark-byte, byte-mark}

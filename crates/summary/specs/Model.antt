@@ -7,7 +7,7 @@ use Rattle.base.specs.Answers.{overlay}
 use Rattle.plan_format.specs.Format.{flagCount}
 use Rattle.plan_check.specs.Meaning.{planOf}
 use Rattle.runs.specs.Searches.{listed}
-use Rattle.runs.specs.Summary.{markAt}
+use Rattle.runs.specs.Numbers.{markAt}
 use Rattle.runs.specs.Model.Blocked.{markedUnderB}
 
 -- the mark of byte i: entry i / 8 is 2 f + sign, and its eight bytes are the marks

@@ -7,7 +7,7 @@ use lib.Pow.{shl-exact}
 use borrow.Author.Tests.{eq-eqb, ne-eqb}
 use borrow.Author.Needs.{needs}
 use Rattle.base.specs.Bits.{bit}
-use Rattle.run_flags.specs.Flags.{byteWith}
+use Rattle.run_flags.specs.Inner.{byteWith}
 use Rattle.run_flags.proofs.byte_with.Statement.{statement}
 use Rattle.run_flags.proofs.byte_with.Tie as tie
 

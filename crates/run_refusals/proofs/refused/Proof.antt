@@ -7,7 +7,8 @@ use borrow.Author.Tests.{not-true, not-false}
 use Rattle.plan_format.specs.Format.{nodeCount, isKind}
 use Rattle.plan_check.specs.Meaning.{planOf}
 use Rattle.plan_check.proofs.Meaning.{kind-is}
-use Rattle.runs.specs.Calls.{asks, statusByte}
+use Rattle.runs.specs.Calls.{asks}
+use Rattle.runs.specs.Numbers.{statusByte}
 use Rattle.runs.specs.Plan.{Place, placeNumber}
 use Rattle.runs.specs.Execution.{Status}
 use Rattle.runs.specs.Model.Monitor.{incBrokenB}

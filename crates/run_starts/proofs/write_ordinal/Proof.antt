@@ -2,7 +2,8 @@
 use native.Mathlib.Omega.{arith}
 use borrow.Author.Needs.{needs}
 use lib.ListN.{length-set}
-use Rattle.run_starts.specs.Starts.{ordinalAt, withOrdinal}
+use Rattle.run_starts.specs.Starts.{ordinalAt}
+use Rattle.run_starts.specs.Inner.{withOrdinal}
 use Rattle.run_starts.proofs.write_ordinal.Statement.{statement}
 use Rattle.run_starts.proofs.write_ordinal.Tie as tie
 

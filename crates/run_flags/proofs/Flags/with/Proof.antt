@@ -1,5 +1,5 @@
 -- `run_flags::Flags::with` meets its contract. Assumes nothing.
-use Rattle.run_flags.specs.Flags.{withFlag}
+use Rattle.run_flags.specs.Inner.{withFlag}
 use borrow.Author.Needs.{needs}
 use Rattle.run_flags.proofs.Flags.with.Statement.{statement}
 use Rattle.run_flags.proofs.Flags.with.Tie as tie
