@@ -18,24 +18,30 @@ use tables::Orders;
 use tables::Segment;
 use tables::codes::AFTER;
 
+// Flags of one sign: 0 clear, 1 set.
+pub struct OfSign {
+    pub sign: usize,
+    pub flags: u64,
+}
+
 // The wanted flags of one sign that the child c and the child at j must clobber.
 fn must_pair_word(
     kids: &Nodes,
     segment: Segment,
     order: &Orders,
     rows: &Rows,
-    sign: usize,
-    wanted: u64,
+    wanted: OfSign,
     c: usize,
     j: usize,
 ) -> u64
-    requires { ⌜ AtPair (now kids) segment c j × (sign < 2) ⌝ }
+    requires { ⌜ AtPair (now kids) segment c j × (wanted .sign < 2) ⌝ }
     ensures { λ r. ⌜ PairWord MustPair (now (kids .entry)) segment (now (order .entry))
-        (now (rows .entry)) sign wanted c (getD (now (kids .entry)) j 0) r ⌝ }
+        (now (rows .entry)) (wanted .sign) (wanted .flags) c (getD (now (kids .entry)) j 0) r ⌝ }
 {
     let d = wide(kids[j]);
+    let sign = wanted.sign;
     if order[c * NODES + d] == AFTER {
-        let shared = wanted & (must_post(rows, d, 1 - sign) & must_pre(rows, c, sign));
+        let shared = wanted.flags & (must_post(rows, d, 1 - sign) & must_pre(rows, c, sign));
         if shared == 0 {
             return 0;
         }
@@ -51,42 +57,45 @@ fn must_pairs_of(
     segment: Segment,
     order: &Orders,
     rows: &Rows,
-    sign: usize,
-    known: u64,
+    known: OfSign,
     c: usize,
 ) -> u64
-    requires { ⌜ AtSegment (now kids) segment × ((sign < 2) × (c < NODES)) ⌝ }
+    requires { ⌜ AtSegment (now kids) segment × ((known .sign < 2) × (c < NODES)) ⌝ }
     ensures { λ r. ⌜ WithChildWord (now (kids .entry)) segment (now (order .entry))
-        (now (rows .entry)) sign known c r ⌝ }
+        (now (rows .entry)) (known .sign) (known .flags) c r ⌝ }
 {
-    if (known ^ ALL) & must_pre(rows, c, sign) == 0 {
-        return known;
+    let sign = known.sign;
+    let mut flags = known.flags;
+    if (flags ^ ALL) & must_pre(rows, c, sign) == 0 {
+        return flags;
     }
-    let mut flags = known;
     let mut j = segment.start;
     while j < segment.end {
-        flags = flags | must_pair_word(kids, segment, order, rows, sign, flags ^ ALL, c, j);
+        let wanted = OfSign {
+            sign: sign,
+            flags: flags ^ ALL,
+        };
+        flags = flags | must_pair_word(kids, segment, order, rows, wanted, c, j);
         j += 1;
     }
     flags
 }
 
 // The flags already known, and those that some pair of children must clobber.
-pub fn must_pairs(
-    kids: &Nodes,
-    segment: Segment,
-    order: &Orders,
-    rows: &Rows,
-    sign: usize,
-    known: u64,
-) -> u64
-    requires { ⌜ AtSegment (now kids) segment × (sign < 2) ⌝ }
-    ensures { λ r. ⌜ MustPairsWord (now (kids .entry)) segment (now (order .entry)) (now (rows .entry)) sign known r ⌝ }
+pub fn must_pairs(kids: &Nodes, segment: Segment, order: &Orders, rows: &Rows, known: OfSign) -> u64
+    requires { ⌜ AtSegment (now kids) segment × (known .sign < 2) ⌝ }
+    ensures { λ r. ⌜ MustPairsWord (now (kids .entry)) segment (now (order .entry)) (now (rows .entry))
+        (known .sign) (known .flags) r ⌝ }
 {
-    let mut flags = known;
+    let sign = known.sign;
+    let mut flags = known.flags;
     let mut i = segment.start;
     while i < segment.end {
-        flags = must_pairs_of(kids, segment, order, rows, sign, flags, wide(kids[i]));
+        let found = OfSign {
+            sign: sign,
+            flags: flags,
+        };
+        flags = must_pairs_of(kids, segment, order, rows, found, wide(kids[i]));
         i += 1;
     }
     flags

@@ -17,6 +17,7 @@ use base::wide;
 use marks_group::all_words;
 use marks_group::any_words;
 use marks_may_pairs::clobbering_pairs;
+use marks_must_pairs::OfSign;
 use marks_must_pairs::must_pairs;
 use marks_pair::Literals;
 use marks_row::COLUMNS;
@@ -101,8 +102,16 @@ fn all_row(kids: &Nodes, segment: Segment, order: &Orders, rows: &Rows) -> Words
     let words = all_words(kids, segment, order, rows);
     let wanted = open_literals(words);
     let may = clobbering_pairs(kids, segment, order, rows, wanted);
-    let clear = must_pairs(kids, segment, order, rows, 0, words[MUST_CLOBBER]);
-    let set = must_pairs(kids, segment, order, rows, 1, words[MUST_CLOBBER + 1]);
+    let known_clear = OfSign {
+        sign: 0,
+        flags: words[MUST_CLOBBER],
+    };
+    let known_set = OfSign {
+        sign: 1,
+        flags: words[MUST_CLOBBER + 1],
+    };
+    let clear = must_pairs(kids, segment, order, rows, known_clear);
+    let set = must_pairs(kids, segment, order, rows, known_set);
     let must = Literals {
         clear: clear,
         set: set,

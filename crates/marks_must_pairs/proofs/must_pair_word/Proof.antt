@@ -9,14 +9,14 @@ use Rattle.marks_must_pairs.proofs.must_pair_word.Statement.{statement}
 use Rattle.marks_must_pairs.proofs.must_pair_word.Tie as tie
 
 returns : tie.Need-returns
-returns c = pair-kid (c .before .before .before .before .before .wide .ensures .0)
-    (none-shared _ _ _ (c .before .before .before .if1 .taken) (c .before .before .must-post .ensures)
-    (c .before .must-pre .ensures) (c .if2 .taken))
+returns c = pair-kid (c .before .before .before .before .before .before .wide .ensures .0)
+    (none-shared _ _ _ (c .before .before .before .before .if1 .taken) (c .before .before .before .must-post .ensures)
+    (c .before .before .must-pre .ensures) (c .if2 .taken))
 
 returns-2 : tie.Need-returns-2
-returns-2 c = let e = c .before .before .before .before .before .before .wide .ensures .0 in
-    pair-kid e (shared-passes _ _ _ (c .before .before .before .before .if1 .taken)
-    (c .before .before .before .must-post .ensures) (c .before .before .must-pre .ensures)
+returns-2 c = let e = c .before .before .before .before .before .before .before .wide .ensures .0 in
+    pair-kid e (shared-passes _ _ _ (c .before .before .before .before .before .if1 .taken)
+    (c .before .before .before .before .must-post .ensures) (c .before .before .before .must-pre .ensures)
     (passing-kid e (c .passing .ensures)))
 
 returns-3 : tie.Need-returns-3

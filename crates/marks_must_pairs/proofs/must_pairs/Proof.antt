@@ -17,12 +17,12 @@ use Rattle.marks_must_pairs.proofs.must_pairs.Statement.{statement}
 use Rattle.marks_must_pairs.proofs.must_pairs.Tie as tie
 
 abbrev Inv-loop : tie.InvT-loop
-Inv-loop kids segment order rows sign known flags₀ i₀ flags i =
+Inv-loop kids segment order rows sign flags₀ i₀ flags i =
     Reached segment i × OfGroups kids segment order rows (λ p n. SaysOf sign flags
-    (λ f v. T (bit known f) ⊎ Some kids (segment .start) i (λ c. (d : ℕ) × Child p n d × MustPair p n f v c d)))
+    (λ f v. T (bit flags₀ f) ⊎ Some kids (segment .start) i (λ c. (d : ℕ) × Child p n d × MustPair p n f v c d)))
 
 abbrev μ-loop : tie.MeasureT-loop
-μ-loop kids segment order rows sign known flags₀ i₀ flags i = segment .end - i
+μ-loop kids segment order rows sign flags₀ i₀ flags i = segment .end - i
 
 loop-holds : tie.Need-loop-holds Inv-loop μ-loop
 loop-holds c = (first-turn (c .pre .0), λ p n g v q f m. none-more)

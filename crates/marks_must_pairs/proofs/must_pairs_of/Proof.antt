@@ -18,12 +18,12 @@ use Rattle.marks_must_pairs.proofs.must_pairs_of.Statement.{statement}
 use Rattle.marks_must_pairs.proofs.must_pairs_of.Tie as tie
 
 abbrev Inv-loop : tie.InvT-loop
-Inv-loop kids segment order rows sign known c flags₀ j₀ flags j =
+Inv-loop kids segment order rows c sign flags₀ j₀ flags j =
     Reached segment j × OfGroups kids segment order rows (λ p n. Child p n c → SaysOf sign flags
-    (λ f v. T (bit known f) ⊎ Some kids (segment .start) j (MustPair p n f v c)))
+    (λ f v. T (bit flags₀ f) ⊎ Some kids (segment .start) j (MustPair p n f v c)))
 
 abbrev μ-loop : tie.MeasureT-loop
-μ-loop kids segment order rows sign known c flags₀ j₀ flags j = segment .end - j
+μ-loop kids segment order rows c sign flags₀ j₀ flags j = segment .end - j
 
 must-pre-requires : tie.Need-must-pre-requires Inv-loop μ-loop
 must-pre-requires c κs = omega (arith, c .pre .1)
