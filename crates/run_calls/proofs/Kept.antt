@@ -14,7 +14,7 @@ use Rattle.plan_format.specs.Format.{u16At, nodeCount, isKind}
 use Rattle.base.proofs.Booleans.{either}
 use Rattle.runs.specs.Plan.{placeNumber}
 use Rattle.runs.specs.Execution.{Event, History, nodeOf, statusOf}
-use Rattle.runs.specs.Calls.{Call}
+use Rattle.runs.specs.Calls.{Call, World}
 use Rattle.runs.specs.Numbers.{statusByte}
 use Rattle.run_starts.specs.Starts.{nodeByte, ordinalAt, ordinalIn, startedIn}
 use Rattle.run_state.specs.State.{moves, ordinalShown, worldOf, roomRefusalUnder, stateRefusalUnder}
@@ -161,3 +161,11 @@ module _ (b s z : List ℕ) (ok : stateRefusal b z ≡ 0) (h : Kept b s z) where
       (λ (m : k < n). sym (shown-at k m)
       ∙ sym (at-overlay f s n k (omega (arith, h .as-long, has-room b z ok .room)) m))
       (λ m. h .later k (omega arith) ∙ sym (past-overlay f s n k (omega arith))))
+
+-- bytes that pass all checks, show the same states and keep what s has are the same
+pub one-shown : (b xs s y z : List ℕ) → stateRefusalUnder b xs y ≡ 0 → stateRefusalUnder b xs z ≡ 0 → Kept b s y
+    → Kept b s z → worldOf b y ≡ worldOf b z → y ≡ z
+one-shown b xs s y z p q h k e =
+    shown-is b s y (passed b xs y p) h
+    ∙ ap (λ (a : World). overlay (shownByte (nodeCount b) a) (8 + 3 * nodeCount b) s) e
+    ∙ sym (shown-is b s z (passed b xs z q) k)
