@@ -5,7 +5,7 @@ use Prim.Native.Nat.{ℕ, zero, suc, _+_, _^_, _/_, _%_, _<_}
 use native.Mathlib.Nat.{pow-suc}
 use native.Mathlib.Omega.{arith}
 use lib.Dec.{T, eqb}
-use lib.Pow.{shr-shr}
+use lib.Pow.{pow-pos, shr-shr}
 use lib.Bits.{bitAnd, bitOr, bitXor, and-le-l, and-le-r, or-add-and, xor-add-and}
 use borrow.Author.Tests.{eqb-true, eqb-false}
 use Rattle.base.specs.Bits.{bit}
@@ -31,9 +31,19 @@ false-of : (b : Bool) → ¬ T b → b ≡ false
 false-of true k = absurd (k tt)
 false-of false k = refl
 
--- a word with no bit is zero
+-- a word with no bit is zero, and so is any number
+no-bits-below : (k w : ℕ) → w < 2 ^ k → ((f : ℕ) → f < k → ¬ T (bit w f)) → w ≡ 0
+no-bits-below k w l h = same-bits k w 0 l (pow-pos k) (λ f m. false-of (bit w f) (h f m) ∙ sym (bit-none f))
+
 pub no-bits : (w : ℕ) → w < 2 ^ 64 → ((f : ℕ) → f < 64 → ¬ T (bit w f)) → w ≡ 0
-no-bits w l h = same-bits 64 w 0 l (omega arith) (λ f m. false-of (bit w f) (h f m) ∙ sym (bit-none f))
+no-bits = no-bits-below 64
+
+pub no-bit-at-all : (w : ℕ) → ((f : ℕ) → ¬ T (bit w f)) → w ≡ 0
+no-bit-at-all w h = no-bits-below w w (below w) (λ f m. h f)
+  where
+    below : (n : ℕ) → n < 2 ^ n
+    below zero = omega arith
+    below (suc n) = omega (arith, pow-suc 2 n, below n)
 
 pub or-zero : (x y : ℕ) → bitOr x y ≡ 0 → (x ≡ 0) × (y ≡ 0)
 or-zero x y e = omega (arith, or-add-and x y, and-le-l x y, and-le-r x y)

@@ -1,0 +1,2 @@
+-- The search for a sequence, in words.
+pub mod Search
