@@ -1,9 +1,11 @@
 -- What the C calls return whose answers are told by numbers: an equation for the number, and what it tells in 01's
 -- words. Definitions only.
 use mathlib.Core.Path.{_≡_}
-use mathlib.Core.Logic.{inr, _↔_}
+use mathlib.Core.Logic.{_⊎_, inl, inr, _↔_}
+use mathlib.Core.Bool.{cond}
 use mathlib.Core.List.{List}
-use Prim.Native.Nat.{ℕ}
+use Prim.Native.Nat.{ℕ, _^_}
+use lib.Dec.{ltb}
 use Rattle.plan_rules.specs.Rules.{refusal}
 use Rattle.plan_check.specs.Meaning.{planOf, startOf}
 use Rattle.plan_blocked.specs.Blocked.{planUnder, refusalUnder}
@@ -18,7 +20,9 @@ use Rattle.verdict.specs.Verdict.{answerOf}
 use Rattle.text_listing.specs.Model.{textOf}
 use Rattle.text_listing.specs.Sentences.{IsListing}
 use Rattle.listing.specs.Listing.{listedOf, listingLeft}
-use Rattle.capi_numbers.specs.Numbers.{verdictNumber, statusNumber, writtenNumber}
+use Rattle.sequences.specs.Word.{sequenceIn}
+use Rattle.sequence.specs.Sequence.{Sequenced}
+use Rattle.capi_numbers.specs.Numbers.{verdictNumber, statusNumber, writtenNumber, sequenceNumber}
 
 -- r is the number of the answer for the plan and the list xs of blocked nodes: 28 and 29 in 02's words; accepted, it is
 -- the number of the verdict that 01 defines, on what is left of the plan
@@ -45,3 +49,12 @@ pub record ListingNumber (b out : List ℕ) (r : ℕ) (out′ : List ℕ) : Type
   pub returns : r ≡ writtenNumber (listedOf b out)
   pub leaves : out′ ≡ listingLeft b out
   pub text : refusal b ≡ 0 → (s : List ℕ) → IsListing b s ↔ (s ≡ textOf b)
+
+-- what a number tells: below 2^56 a refusal, and otherwise a sequence
+abbrev pub toldBy : ℕ → ℕ ⊎ List ℕ
+toldBy r = cond (ltb r (2 ^ 56)) (inl r) (inr (sequenceIn r))
+
+-- what r tells is an answer, and r is its number
+pub record SequenceNumber (b : List ℕ) (r : ℕ) : Type 0 where
+  pub sequenced : Sequenced b (toldBy r)
+  pub returns : r ≡ sequenceNumber (toldBy r)

@@ -6,7 +6,8 @@ ghost use Rattle.runs.specs.Execution as execution;
 ghost use Rattle.runs.specs.Calls.{one, together};
 ghost use Rattle.run_state.specs.Fresh.{Freshened};
 ghost use Rattle.run_monitor.specs.Events.{Called};
-ghost use Rattle.capi.specs.Told.{VerdictNumber, StatusNumber, ListingNumber};
+ghost use Rattle.capi.specs.Told.{VerdictNumber, StatusNumber, ListingNumber, SequenceNumber};
+use capi_numbers::sequence_number;
 use capi_numbers::status_number;
 use capi_numbers::verdict_number;
 use capi_numbers::written_number;
@@ -113,4 +114,12 @@ pub extern "C" fn knowetop_listing(plan: &[u8], out: &mut [u8]) -> u32
 {
     let answer = listing::listing(plan, out);
     written_number(answer)
+}
+
+#[no_mangle]
+pub extern "C" fn knowetop_sequence(plan: &[u8]) -> u64
+    ensures { λ r. ⌜ SequenceNumber (now (plan .entry)) r ⌝ }
+{
+    let answer = sequence::sequence(plan);
+    sequence_number(answer)
 }

@@ -1,6 +1,7 @@
 // The numbers by which the C interface tells answers.
 use answers::Written;
 use run_monitor::Progress;
+use sequence::Finding;
 use verdict::Answer;
 use verdict::Verdict;
 ghost use mathlib.Core.Path.{_≡_};
@@ -8,7 +9,7 @@ ghost use Rattle.verdict.specs.Verdict as verdict;
 ghost use Rattle.run_monitor.specs.Status as progress;
 ghost use Rattle.answers.specs.Written.{told};
 ghost use Rattle.capi_numbers.specs.Numbers.{verdictNumber, statusNumber, writtenNumber};
-ghost use Rattle.capi_numbers.specs.Inner.{Short};
+ghost use Rattle.capi_numbers.specs.Inner.{Short, findingNumber};
 
 pub fn verdict_number(answer: Answer) -> u32
     ensures { λ r. ⌜ r ≡ verdictNumber (verdict.said answer) ⌝ }
@@ -40,5 +41,14 @@ pub fn written_number(answer: Written) -> u32
     match answer {
         Written::Refused(n) => n,
         Written::Length(n) => 256 + n as u32,
+    }
+}
+
+pub fn sequence_number(answer: Finding) -> u64
+    ensures { λ r. ⌜ r ≡ findingNumber answer ⌝ }
+{
+    match answer {
+        Finding::Refused(n) => n as u64,
+        Finding::Found(word) => word,
     }
 }

@@ -75,7 +75,7 @@ pub fn mark_words(rows: &Rows, node: usize) -> Marks
     words
 }
 
-fn no_rows() -> Rows
+pub fn no_rows() -> Rows
     ensures { λ r. ⌜ length r ≡ ROWS ⌝ }
 {
     [0u64; ROWS]

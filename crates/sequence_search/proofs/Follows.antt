@@ -51,7 +51,7 @@ module _ {p : Plan} {F : ℕ → Bool} {rows kids masks : List ℕ} {s : Segment
   )
 
   pub none-left : r .left ≡ 0 → AllSeen p F seen
-  none-left e c h = let (i, l, q) = place-of t h in rw q at (at i l (says-dec (cm .places i l)))
+  none-left e c h = let (i, l, q) = place-of (t .root) h in rw q at (at i l (says-dec (cm .places i l)))
     where
       at : (i : ℕ) → i < count s → Dec (Among (childAt kids s i) seen) → Among (childAt kids s i) seen
       at i l (yes x) = x
@@ -61,7 +61,7 @@ module _ {p : Plan} {F : ℕ → Bool} {rows kids masks : List ℕ} {s : Segment
   pub some-left : (r .left ≡ 0 → ⊥) → ¬ AllSeen p F seen
   some-left n g =
       let (i, l, e) = counted-some (count s) (λ j. not (bit (r .seen) j)) (λ e. n (sym (cm .left) ∙ e)) in
-      (unseen l) .0 e (g _ (is-child t l))
+      (unseen l) .0 e (g _ (is-child (t .root) l))
 
   -- the child at place i
   module _ {i : ℕ} (li : i < count s) where
@@ -81,12 +81,12 @@ module _ {p : Plan} {F : ℕ → Bool} {rows kids masks : List ℕ} {s : Segment
     -- of either sign: a literal that the child may need, and whose opposite may be true
     says-clash : (v : Bool) (f : ℕ) → f < 64 → Says (bitAnd (wordIn rows child (may-pre v)) (wordFor r (not v))) f
         (May p child (ExternalPre p f v) × MayBeTrue p F f (not v) seen)
-    says-clash v f l = says-and refl (t .right child (is-child t li) .says (may-pre v) f l) (cm .may-be (not v) f l)
+    says-clash v f l = says-and refl (t .right child (is-child (t .root) li) .says (may-pre v) f l) (cm .may-be (not v) f l)
 
     follow : bitAnd (r .seen) (2 ^ i) ≡ 0 → bitXor mask (bitAnd mask (r .seen)) ≡ 0
         → ((v : Bool) → bitAnd (wordIn rows child (may-pre v)) (wordFor r (not v)) ≡ 0) → MayFollow p F seen child
     follow za ze zc = record {
-      child = is-child t li;
+      child = is-child (t .root) li;
       new = λ x. no-flag _ i za ((says-again i) .from ((cm .places i li) .from x, refl));
       ordered = ordered;
       safe = safe-on-flags p (t .well-formed) F (λ f v l x y. no-flag _ f (zc v)
@@ -95,7 +95,7 @@ module _ {p : Plan} {F : ℕ → Bool} {rows kids masks : List ℕ} {s : Segment
       where
         ordered : (a : ℕ) → Before p a child → Among a seen
         ordered a y =
-            let (j, lj, e) = place-of t (before-child p (t .well-formed) (is-child t li) y) in
+            let (j, lj, e) = place-of (t .root) (before-child p (t .well-formed) (is-child (t .root) li) y) in
             rw e at (at j lj (rw (← e) at y) (says-dec (cm .places j lj)))
           where
             at : (j : ℕ) → j < count s → Before p (childAt kids s j) child → Dec (Among (childAt kids s j) seen)
@@ -158,7 +158,7 @@ module _ {p : Plan} {F : ℕ → Bool} {rows kids masks : List ℕ} {s : Segment
 
         from : (j : ℕ) → j < count s → (childAt kids s j ≡ child) ⊎ Among (childAt kids s j) seen
             → Among (childAt kids s j) seen ⊎ (j ≡ i)
-        from j lj (inl e) = inr (same-place t li lj e)
+        from j lj (inl e) = inr (same-place (t .root) li lj e)
         from j lj (inr x) = inl x
 
         or-true : (a b : Bool) → b ≡ true → not (a || b) ≡ false
@@ -179,8 +179,8 @@ module _ {p : Plan} {F : ℕ → Bool} {rows kids masks : List ℕ} {s : Segment
         may-be : (v : Bool) (f : ℕ) → f < 64
             → Says (wordFor (after rows child (2 ^ i) r) v) f (MayBeTrue p F f v (child ∷ seen))
         may-be true f l = says-map (Iff·symm (true-next p (t .well-formed) F)) (says-or refl
-            (t .right child (is-child t li) .says (may-post true) f l)
-            (says-and refl (t .right child (is-child t li) .says avoid f l) (cm .may-be true f l)))
+            (t .right child (is-child (t .root) li) .says (may-post true) f l)
+            (says-and refl (t .right child (is-child (t .root) li) .says avoid f l) (cm .may-be true f l)))
         may-be false f l = says-map (Iff·symm (true-next p (t .well-formed) F)) (says-or refl
-            (t .right child (is-child t li) .says (may-post false) f l)
-            (says-and refl (t .right child (is-child t li) .says avoid f l) (cm .may-be false f l)))
+            (t .right child (is-child (t .root) li) .says (may-post false) f l)
+            (says-and refl (t .right child (is-child (t .root) li) .says avoid f l) (cm .may-be false f l)))

@@ -9,7 +9,7 @@ use lib.ListN.{getD}
 use Rattle.runs.specs.Plan.{Plan, Child}
 use Rattle.tables.specs.declared.Segment.{Segment}
 use Rattle.tables.specs.Segments.{Position, AtSegment}
-use Rattle.sequence_search.specs.Search.{CHILDREN, count, childAt, InRange, Tabled}
+use Rattle.sequence_search.specs.Search.{CHILDREN, count, childAt, InRange, RootChildren}
 
 pub place-in : {s : Segment} {i : ℕ} → i < count s → Position s (s .start + i)
 place-in l = record { low = omega arith; high = omega (arith, l) }
@@ -22,7 +22,7 @@ module _ {kids : List ℕ} {s : Segment} (g : InRange kids s) {i : ℕ} (l : i <
   pub child-small : childAt kids s i < 128
   child-small = g .at .nodes .each (s .start + i) (omega arith) (omega (arith, l))
 
-module _ {p : Plan} {rows kids masks : List ℕ} {s : Segment} (t : Tabled p rows kids s masks) where
+module _ {p : Plan} {kids : List ℕ} {s : Segment} (t : RootChildren p kids s) where
   pub is-child : {i : ℕ} → i < count s → Child p 0 (childAt kids s i)
   is-child {i} l = (t .children .child _) .1 (record { at = s .start + i; position = place-in l; is = refl })
 

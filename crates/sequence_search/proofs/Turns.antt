@@ -4,7 +4,7 @@ use mathlib.Core.Logic.{_↔_}
 use mathlib.Core.Bool.{Bool, true, false, not}
 use mathlib.Core.Option.{Option, none, some}
 use mathlib.Core.List.{List, [], _∷_}
-use Prim.Native.Nat.{ℕ, _+_, _*_, _-_, _^_, _%_, _<_, _≤_}
+use Prim.Native.Nat.{ℕ, suc, _+_, _*_, _-_, _^_, _%_, _<_, _≤_}
 use native.Mathlib.Omega.{arith}
 use native.Mathlib.Decide.{ℕ-discrete}
 use lib.Bits.{bitOr}
@@ -15,8 +15,8 @@ use Rattle.runs.specs.Plan.{Plan, Child}
 use Rattle.runs.proofs.Reflect.{clash}
 use Rattle.tables.specs.declared.Segment.{Segment}
 use Rattle.sequences.specs.Model.{MayFollow, DeadEnd, FirstRest}
-use Rattle.sequences.specs.Packed.{packed}
-use Rattle.sequences.proofs.Packed.{one-byte-more, bytes-lt}
+use Rattle.sequences.specs.Word.{packed}
+use Rattle.sequences.proofs.Word.{one-byte-more, bytes-lt}
 use Rattle.sequences.proofs.Search.{ends-here, not-next, nothing-behind, goes-on, ends-nowhere}
 use Rattle.sequence_search.specs.declared.Reach.{Reach}
 use Rattle.sequence_search.specs.declared.Found.{Found}
@@ -43,7 +43,7 @@ module _ (rows kids : List ℕ) (s : Segment) (masks : List ℕ) (r : Reach) whe
   finds-none n l d f p F seen t cm = (none, ends-nowhere (some-left t cm n) dead, nothing f)
     where
       dead : (c : ℕ) → Child p 0 c → DeadEnd p F seen c
-      dead c h = let (j, lj, e) = place-of t h in rw e at (d p F seen t cm j (omega (arith, lj, l)))
+      dead c h = let (j, lj, e) = place-of (t .root) h in rw e at (d p F seen t cm j (omega (arith, lj, l)))
 
   -- the child at place i
   module _ {i : ℕ} (g : InRange kids s) (li : i < count s) (wide : (v : Bool) → wordFor r v < 2 ^ 64) where
@@ -98,8 +98,8 @@ module _ (rows kids : List ℕ) (s : Segment) (masks : List ℕ) (r : Reach) whe
 
             dead : (b : ℕ) → Child p 0 b → b < childAt kids s i → DeadEnd p F seen b
             dead b hb l =
-                let (j, lj, q) = place-of t hb in
-                rw q at (d p F seen t cm j (lower t li lj (rw (← q) at l)))
+                let (j, lj, q) = place-of (t .root) hb in
+                rw q at (d p F seen t cm j (lower (t .root) li lj (rw (← q) at l)))
 
             at : MayFollow p F seen (childAt kids s i) → {o : Option (List ℕ)}
                 → FirstRest p F (childAt kids s i ∷ seen) o → Holds (r .left - 1) y o
@@ -114,5 +114,5 @@ module _ (rows kids : List ℕ) (s : Segment) (masks : List ℕ) (r : Reach) whe
                   (rw left-is at (bytes-lt (r .left - 1) {c = childAt kids s i} b (omega (arith, child-small g li)))),
             )
               where
-                left-is : (r .left - 1) + 1 ≡ r .left
+                left-is : suc (r .left - 1) ≡ r .left
                 left-is = omega (arith, n)

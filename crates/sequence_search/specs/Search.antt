@@ -17,7 +17,7 @@ use Rattle.tables.specs.declared.Segment.{Segment}
 use Rattle.tables.specs.Segments.{Position, ChildrenOf, AtSegment}
 use Rattle.marks_row.specs.Columns.{avoid, may-pre, may-post, wordIn, Right}
 use Rattle.sequences.specs.Model.{MayBeTrue, DeadEnd, FirstRest}
-use Rattle.sequences.specs.Packed.{packed}
+use Rattle.sequences.specs.Word.{packed}
 use Rattle.sequence_search.specs.declared.Reach.{Reach}
 use Rattle.sequence_search.specs.declared.Found.{Found}
 
@@ -50,13 +50,17 @@ after rows c own r = record {
   clear = bitOr (wordIn rows c (may-post false)) (bitAnd (wordIn rows c avoid) (r .clear));
 }
 
--- the tables say what is asked of a plan whose root's children the segment has: their rows, and for each place the
--- places of those that stand before
+-- the segment has the root's children, in rising order
+pub record RootChildren (p : Plan) (kids : List ℕ) (s : Segment) : Type 0 where
+  pub children : ChildrenOf kids s p 0
+  pub rising : (i j : ℕ) → Position s i → Position s j → i < j → getD kids i 0 < getD kids j 0
+
+-- the tables say what is asked of a plan: the root's children, their rows, and for each place the places of those that
+-- stand before
 pub record Tabled (p : Plan) (rows kids : List ℕ) (s : Segment) (masks : List ℕ) : Type 0 where
   pub well-formed : WellFormed p
   pub flags : p .conditions .flags ≤ 64
-  pub children : ChildrenOf kids s p 0
-  pub rising : (i j : ℕ) → Position s i → Position s j → i < j → getD kids i 0 < getD kids j 0
+  pub root : RootChildren p kids s
   pub right : (c : ℕ) → Child p 0 c → Right p rows c
   pub before : (i j : ℕ) → i < count s
       → Says (getD masks i 0) j ((j < count s) × Before p (childAt kids s j) (childAt kids s i))

@@ -14,4 +14,4 @@ pub mod Search
 pub mod Rising
 -- Small plans, computed.
 pub mod Tried
-pub mod Packed
+pub mod Word

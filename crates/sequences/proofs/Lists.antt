@@ -1,7 +1,8 @@
 -- Places in a list: of two numbers in it one is ahead, and where no number comes twice, ahead is transitive.
 use Rattle.runs.proofs.Base.{_≡_, refl, _⊎_, inl, inr, List, [], _∷_, Among, here, there, among-none}
 use Rattle.runs.proofs.Base.{among-cases, ℕ}
-use Rattle.sequences.specs.Sequences.{Ahead, at-front, further-on, aheadB, Once}
+use Rattle.sequences.specs.Sequences.{Ahead, at-front, further-on, Once}
+use Rattle.sequences.specs.Model.{aheadB}
 use Rattle.runs.proofs.Calls.Listed.{r-listed}
 use Rattle.runs.proofs.Reflect.{Reflects, r-map, r-both, r-either, r-eq}
 

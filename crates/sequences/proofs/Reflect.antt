@@ -8,7 +8,8 @@ use Rattle.runs.specs.Execution.{lastAsserted}
 use Rattle.runs.specs.Summary.{May, ExternalPre, ExternalPost, MayClobber}
 use Rattle.runs.specs.Pairs.{in-child}
 use Rattle.runs.specs.Verdict.{Clear}
-use Rattle.sequences.specs.Sequences.{Sequence, serial}
+use Rattle.sequences.specs.Sequences.{Sequence}
+use Rattle.sequences.specs.Model.{serial}
 use Rattle.sequences.specs.Model.{Calm, MayBeTrue, at-start, left, stays, Safe, SafeAlong, end, step}
 use Rattle.sequences.specs.Model.{startB, nextB, everyLiteralB, safeB, passesB, calmB, serialClearB}
 use Rattle.runs.proofs.Reflect.{Reflects, r-map, r-both, r-either, r-implies, r-negate, r-all, r-same}

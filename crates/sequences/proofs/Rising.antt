@@ -1,10 +1,10 @@
 -- Where orders rise in number, as the rules ask, the root's children in rising order are a sequence; so a CLEAR plan
--- has one under which it is CLEAR.
-use Rattle.runs.proofs.Base.{_≡_, refl, _⊎_, inl, inr, Bool, true, false, cond, List, [], _∷_, Among, here, there}
+-- has one under which it is CLEAR, and a DOOMED plan has none.
+use Rattle.runs.proofs.Base.{_≡_, refl, _≢_, _⊎_, inl, inr, Bool, true, false, cond, List, [], _∷_, Among, here, there}
 use Rattle.runs.proofs.Base.{among-none, among-cases, ℕ, zero, suc, _+_, _<_, _≤_, arith, ℕ-discrete, T}
 use Rattle.runs.specs.Plan.{all-of, Plan, Child}
 use Rattle.runs.specs.WellFormed.{WellFormed, Accepted}
-use Rattle.runs.specs.Verdict.{Clear}
+use Rattle.runs.specs.Verdict.{Clear, Doomed}
 use Rattle.sequences.specs.Sequences.{Ahead, at-front, further-on, Sequence, Refused23, not-all-of, Sought}
 use Rattle.sequences.specs.Sequences.{refused-23}
 use Rattle.sequences.specs.Sequences.{refused-24, found}
@@ -14,7 +14,8 @@ use Rattle.runs.proofs.Plan.Chains.{order-child}
 use Rattle.runs.proofs.Plan.Reflect.{r-kind, r-child}
 use Rattle.runs.proofs.Plan.Accepted.{accepted-well-formed}
 use Rattle.sequences.proofs.Lists.{ahead-inv}
-use Rattle.sequences.proofs.Scan.{clear-serial}
+use Rattle.sequences.proofs.Serial.{serial-clears}
+use Rattle.sequences.proofs.Scan.{clear-serial, doomed-serial}
 
 module _ (p : Plan) where
   -- the root's children from n on, below n + k, in rising order
@@ -104,20 +105,25 @@ module _ (p : Plan) where
       every : (c : ℕ) → Child p 0 c → Among c (childrenFrom (p .tree .size) 0)
       every c h = from-every (p .tree .size) 0 c h (omega arith) (omega (arith, w .node-below c (h .node)))
 
--- an accepted plan that is CLEAR never meets 24
-pub clear-found : (p : Plan) → Accepted p → (F : ℕ → Bool) → Clear p F → ¬ Refused23 p → ¬ Sought p F (inl 24)
-clear-found p ok F c k x = at x refl
+root-all-of : {p : Plan} → ¬ Refused23 p → p .tree .kind 0 ≡ all-of
+root-all-of k = force (decided (r-kind _ _)) (λ n. k (not-all-of n))
+
+-- an accepted plan that is CLEAR never meets 24, and for one that is DOOMED no sequence is found
+pub clear-found : (p : Plan) → Accepted p → (F : ℕ → Bool) → Clear p F → {a : ℕ ⊎ List ℕ} → Sought p F a → a ≢ inl 24
+clear-found p ok F c (refused-23 y) e = clash cc
+clear-found p ok F c (found n y) e = clash cc
+clear-found p ok F c (refused-24 n y) e =
+    y _ ((serial-clears p _) .1 (sq, clear-serial p w F (root-all-of n) _ sq c))
   where
-    at : {a : ℕ ⊎ List ℕ} → Sought p F a → a ≡ inl 24 → ⊥
-    at (refused-23 y) e = k y
-    at (refused-24 n y) e = y _ (record { sequence = sq; clear = clear-serial p w F kr _ sq c })
-      where
-        w : WellFormed p
-        w = accepted-well-formed p ok
+    w : WellFormed p
+    w = accepted-well-formed p ok
 
-        sq : Sequence p (childrenFrom p (p .tree .size) 0)
-        sq = rising-sequence p w (λ a b o. ok .orders a b o .0)
+    sq : Sequence p (childrenFrom p (p .tree .size) 0)
+    sq = rising-sequence p w (λ a b o. ok .orders a b o .0)
 
-        kr : p .tree .kind 0 ≡ all-of
-        kr = force (decided (r-kind _ _)) (λ n. k (not-all-of n))
-    at (found n y) e = clash cc
+pub doomed-unfound : (p : Plan) → WellFormed p → (F : ℕ → Bool) → Doomed p F → {a : ℕ ⊎ List ℕ} → Sought p F a
+    → (xs : List ℕ) → a ≢ inr xs
+doomed-unfound p w F d (refused-23 y) xs e = clash cc
+doomed-unfound p w F d (refused-24 n y) xs e = clash cc
+doomed-unfound p w F d (found {xs = ys} n y) xs e =
+    let (sq, cl) = (serial-clears p ys) .0 y in doomed-serial p w F (root-all-of n) ys sq d cl

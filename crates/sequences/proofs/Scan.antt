@@ -7,7 +7,8 @@ use Rattle.runs.specs.WellFormed.{WellFormed}
 use Rattle.runs.specs.Summary.{May, ExternalPre, ExternalPost, Mark, may-pre, may-post, may-clobber, Marked}
 use Rattle.runs.specs.Pairs.{ClobberByPairs, in-child, unordered-pair, opposed-pair, passed-on}
 use Rattle.runs.specs.Verdict.{Clear, Doomed}
-use Rattle.sequences.specs.Sequences.{Ahead, at-front, further-on, Sequence, serialOrder, serial}
+use Rattle.sequences.specs.Sequences.{Ahead, at-front, further-on, Sequence}
+use Rattle.sequences.specs.Model.{serialOrder, serial}
 use Rattle.sequences.specs.Model.{Calm, MayBeTrue, at-start, left, stays, SafeAlong, end, step}
 use Rattle.runs.proofs.Summary.ByChildren.{Avoids, may-pre-all}
 use Rattle.runs.proofs.Summary.Clobber.{clobber-all}

@@ -24,6 +24,7 @@ use Rattle.runs.proofs.Calls.Listed.{r-listed}
 use Rattle.sequences.proofs.Ranks.{count-lt, count-le, count-all}
 use Rattle.sequences.proofs.Counted.{passing, passing-below, passing-length, passing-once, few}
 use Rattle.sequences.proofs.Prefixes.{sequence-rest}
+use Rattle.sequences.proofs.Serial.{serial-clears}
 use Rattle.sequences.proofs.Scan.{serial-clear}
 use Rattle.sequences.proofs.Reflect.{r-start, r-next, r-safe, r-calm}
 
@@ -188,18 +189,19 @@ module _ (p : Plan) (w : WellFormed p) (F : ℕ → Bool) where
   -- what a search came to, by whatever code
   module _ (kr : p .tree .kind 0 ≡ all-of) where
     clear-rest : {xs : List ℕ} → SerialClear p F xs → Rest p F [] xs
-    clear-rest {xs} x = (sequence-rest p F xs) .1
-        (x .sequence, (serial-clear p w F kr xs (x .sequence)) .0 (x .clear) .1)
+    clear-rest {xs} x = let (sq, cl) = (serial-clears p xs) .0 x in
+        (sequence-rest p F xs) .1 (sq, (serial-clear p w F kr xs sq) .0 cl .1)
 
     pub calm-searched : Calm p → {o : Option (List ℕ)} → FirstRest p F [] o → Searched o
     calm-searched calm (no-rest n) = none-clear (λ ys x. n ys (clear-rest x))
     calm-searched calm (first-rest {xs = xs} r n) = let (sq, ps) = (sequence-rest p F xs) .0 r in first-clear (record {
-      clear = record { sequence = sq; clear = (serial-clear p w F kr xs sq) .1 (calm, ps) };
+      clear = (serial-clears p xs) .1 (sq, (serial-clear p w F kr xs sq) .1 (calm, ps));
       first = λ ys q x. n ys (clear-rest x) q;
     })
 
     pub restless-searched : ¬ Calm p → Searched none
-    restless-searched k = none-clear (λ ys x. k ((serial-clear p w F kr ys (x .sequence)) .0 (x .clear) .0))
+    restless-searched k = none-clear (λ ys x. let (sq, cl) = (serial-clears p ys) .0 x in
+        k ((serial-clear p w F kr ys sq) .0 cl .0))
 
   pub first-sequence : p .tree .kind 0 ≡ all-of → Searched (firstSequence p F)
   unfolding firstSequence unless negate

@@ -1,19 +1,21 @@
 -- The plan under a sequence of the root's children: it is well formed, before is ahead in the sequence, and the
 -- children have the marks that they had.
-use Rattle.runs.proofs.Base.{_≡_, refl, sym, _∙_, _⊎_, inl, inr, _↔_, Bool, List, Among, ℕ, _<_, arith, T}
+use Rattle.base.proofs.Booleans.{same}
+use Rattle.runs.proofs.Base.{_≡_, refl, sym, _∙_, fun-ext, _⊎_, inl, inr, _↔_, Bool, List, Among, ℕ, _<_, arith, T}
 use Rattle.runs.specs.Searches.{either}
 use Rattle.runs.specs.Plan.{all-of, Plan, Child, Under, Before, direct, chain}
 use Rattle.runs.specs.WellFormed.{WellFormed}
+use Rattle.runs.specs.Verdict.{Clear}
 use Rattle.runs.specs.Model.Trees.{beforeB}
 use Rattle.runs.specs.Branches.{Keeps}
-use Rattle.sequences.specs.Sequences.{Ahead, Sequence, aheadB, serialOrder, serial}
-use Rattle.runs.proofs.Reflect.{Reflects, r-either, r-T}
+use Rattle.sequences.specs.Sequences.{Ahead, Once, Sequence, InSequence, SerialClear}
+use Rattle.sequences.specs.Model.{aheadB, serialOrder, serial}
+use Rattle.runs.proofs.Reflect.{Reflects, T-true, true-T, r-either, r-T}
 use Rattle.runs.proofs.Plan.Trees.{under-le}
 use Rattle.runs.proofs.Plan.Chains.{before-trans, before-irrefl}
 use Rattle.runs.proofs.Plan.Reflect.{r-before}
 use Rattle.runs.proofs.Blocked.Thinner.{Thinner, thinner-keeps}
 use Rattle.sequences.proofs.Lists.{r-ahead, ahead-left, ahead-right, ahead-trans}
-use Rattle.sequences.specs.Sequences.{Once}
 use Rattle.sequences.proofs.Ranks.{rankOf, rank-below-size, ranks-rise}
 
 -- chains of orders that agree with a list in which no number comes twice
@@ -27,13 +29,37 @@ module _ (xs : List ℕ) (once : Once xs) where
 pub ahead-of : (p : Plan) (xs : List ℕ) → Sequence p xs → {a b : ℕ} → Among b xs → Before p a b → Ahead a b xs
 ahead-of p xs sq = chain-ahead xs (sq .once) p (λ a b i o. sq .agrees a b (sq .child b i) o)
 
+-- the plan with the sequence's orders, as a test and as the only plan that has them
+module _ (p : Plan) (xs : List ℕ) where
+  r-serial-order : (a b : ℕ) → Reflects (serialOrder p xs a b) (T (p .order a b) ⊎ Ahead a b xs)
+  unfolding serialOrder
+  r-serial-order a b = r-either _ _ (r-T _) (r-ahead xs a b)
+
+  in-sequence : InSequence p xs (serial p xs)
+  in-sequence = record {
+    tree = refl;
+    conditions = refl;
+    orders = λ a b. ((r-serial-order a b) .to, (r-serial-order a b) .from);
+  }
+
+  only-serial : {q : Plan} → InSequence p xs q → q ≡ serial p xs
+  unfolding serialOrder
+  only-serial {q} s = rw (← s .tree, ← s .conditions, ← orders) refl
+    where
+      orders : q .order ≡ serialOrder p xs
+      orders = fun-ext (λ a. fun-ext (λ b. same (q .order a b) (serialOrder p xs a b)
+          (λ e. T-true _ ((r-serial-order a b) .from ((s .orders a b) .0 (true-T _ e))))
+          (λ e. T-true _ ((s .orders a b) .1 ((r-serial-order a b) .to (true-T _ e))))))
+
+  pub serial-clears : {F : ℕ → Bool} → SerialClear p F xs ↔ (Sequence p xs × Clear (serial p xs) F)
+  serial-clears {F} = (
+    λ x. (x .sequence, rw (only-serial (x .ordered)) at (x .clear)),
+    λ x. record { sequence = x .0; plan = serial p xs; ordered = in-sequence; clear = x .1 },
+  )
+
 module _ (p : Plan) (w : WellFormed p) (kr : p .tree .kind 0 ≡ all-of) (xs : List ℕ) (sq : Sequence p xs) where
   abbrev q : Plan
   q = serial p xs
-
-  pub r-serial-order : (a b : ℕ) → Reflects (serialOrder p xs a b) (T (p .order a b) ⊎ Ahead a b xs)
-  unfolding serialOrder
-  r-serial-order a b = r-either _ _ (r-T _) (r-ahead xs a b)
 
   -- what is after a child of the root is one
   root-after : {a b : ℕ} → Child p 0 a → Before p a b → Child p 0 b
@@ -87,12 +113,12 @@ module _ (p : Plan) (w : WellFormed p) (kr : p .tree .kind 0 ≡ all-of) (xs : L
     parent-group = w .parent-group;
     some-branch = w .some-branch;
     some-part = w .some-part;
-    order-group = λ a b o. group-of ((r-serial-order a b) .to o);
+    order-group = λ a b o. group-of ((r-serial-order p xs a b) .to o);
     on-task = w .on-task;
     inc-post = w .inc-post;
     rank = rankOf (p .tree .size) precedesB irreflexive;
     rank-below = λ i l. rank-below-size (p .tree .size) precedesB irreflexive i (w .node-below i l);
-    rank-rises = λ a b o. let x = (r-serial-order a b) .to o in let (g, k, ha, hb) = group-of x in
+    rank-rises = λ a b o. let x = (r-serial-order p xs a b) .to o in let (g, k, ha, hb) = group-of x in
         ranks-rise (p .tree .size) precedesB irreflexive transitive a b (w .node-below a (ha .node))
         ((r-precedes a b) .from (precedes x));
   }
@@ -100,9 +126,9 @@ module _ (p : Plan) (w : WellFormed p) (kr : p .tree .kind 0 ≡ all-of) (xs : L
   -- before, among the root's children, is ahead
   pub before-ahead : {a b : ℕ} → Child p 0 b → Before q a b ↔ Ahead a b xs
   before-ahead {a} {b} hb = (
-    chain-ahead xs (sq .once) q (λ a b i o. at a b i ((r-serial-order a b) .to o)) (sq .every b hb),
+    chain-ahead xs (sq .once) q (λ a b i o. at a b i ((r-serial-order p xs a b) .to o)) (sq .every b hb),
     λ y. direct
-        ((r-serial-order a b) .from (inr y)),
+        ((r-serial-order p xs a b) .from (inr y)),
   )
     where
       at : (a b : ℕ) → Among b xs → T (p .order a b) ⊎ Ahead a b xs → Ahead a b xs
@@ -117,7 +143,7 @@ module _ (p : Plan) (w : WellFormed p) (kr : p .tree .kind 0 ≡ all-of) (xs : L
     same-parent = λ i z l. refl;
     no-other = λ g c ug hc. hc;
     all-parts = λ g c ug k hc. hc;
-    all-orders = λ g a b ug ha hb o. (r-serial-order a b) .from (inl o);
+    all-orders = λ g a b ug ha hb o. (r-serial-order p xs a b) .from (inl o);
   }
 
   pub serial-back : {n : ℕ} → 0 < n → T (p .tree .here n) → Thinner q (p .tree) (p .order) n
@@ -127,7 +153,7 @@ module _ (p : Plan) (w : WellFormed p) (kr : p .tree .kind 0 ≡ all-of) (xs : L
     same-parent = λ i z l. refl;
     no-other = λ g c ug hc. hc;
     all-parts = λ g c ug k hc. hc;
-    all-orders = λ g a b ug ha hb o. at g a ug ha ((r-serial-order a b) .to o);
+    all-orders = λ g a b ug ha hb o. at g a ug ha ((r-serial-order p xs a b) .to o);
   }
     where
       at : {b : ℕ} (g a : ℕ) → Under p n g → Child p g a → T (p .order a b) ⊎ Ahead a b xs → T (p .order a b)

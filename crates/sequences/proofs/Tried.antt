@@ -5,7 +5,7 @@ use Rattle.runs.specs.Tests.{both}
 use Rattle.base.specs.Count.{countBelow}
 use Rattle.runs.specs.Plan.{Kind, task, all-of, any-of, optional, Place, pre, inc, post, Plan}
 use Rattle.runs.specs.Verdict.{CLEAR, OPEN, DOOMED}
-use Rattle.sequences.specs.Sequences.{aheadB, serialOrder, serial}
+use Rattle.sequences.specs.Model.{aheadB, serialOrder, serial}
 use Rattle.runs.specs.Model.Computing.{computing}
 use Rattle.runs.specs.Model.Verdicts.{verdict}
 use Rattle.sequences.specs.Model.{startB, nextB, everyLiteralB, safeB, calmB, unless, prefixed, orNext}

@@ -1,20 +1,34 @@
--- The scan along a sequence of the root's children, which decides whether the plan under it is CLEAR, and the search
--- for the first such sequence; as propositions and as functions that compute. Definitions only.
+-- The plan under a sequence of the root's children; the scan along the sequence, which decides whether that plan is
+-- CLEAR; the search for the first such sequence. Propositions and functions that compute. Definitions only.
 use mathlib.Core.Path.{_≡_}
 use mathlib.Core.Logic.{_⊎_, inl, inr}
 use mathlib.Core.Bool.{Bool, true, false, not}
 use mathlib.Core.Option.{Option, none, some}
 use mathlib.Core.List.{List, [], _∷_, List·Memᴰ as Among, Lexᴰ}
 use Prim.Native.Nat.{ℕ, zero, suc, _<_}
-use lib.Dec.{ltb}
+use lib.Dec.{eqb, ltb}
 use Rattle.runs.specs.Tests.{both, implies, negate, allBelow, sameB}
 use Rattle.runs.specs.Searches.{either, listed}
 use Rattle.runs.specs.Plan.{all-of, Plan, Child, Before}
 use Rattle.runs.specs.Execution.{lastAsserted}
 use Rattle.runs.specs.Summary.{May, ExternalPre, ExternalPost, MayClobber}
 use Rattle.base.specs.Count.{countBelow}
+use Rattle.runs.specs.Model.Blocked.{over}
 use Rattle.runs.specs.Model.Trees.{kindB, childB, everyChildB, beforeB}
 use Rattle.runs.specs.Model.Marks.{avoidB, mayPreB, mayPostB, mayClobberB}
+
+-- ---- the plan under a sequence
+-- a is in the list, and b after it
+unfoldable pub aheadB : List ℕ → ℕ → ℕ → Bool
+aheadB [] a b = false
+aheadB (x ∷ xs) a b = either (both (eqb a x) (λ u. listed xs b)) (λ u. aheadB xs a b)
+
+-- the plan with the sequence's orders added
+unfoldable pub serialOrder : Plan → List ℕ → ℕ → ℕ → Bool
+serialOrder p xs a b = either (p .order a b) (λ u. aheadB xs a b)
+
+abbrev pub serial : Plan → List ℕ → Plan
+serial p xs = over p (p .tree) (serialOrder p xs)
 
 -- ---- the scan, as propositions
 -- no child of the root may clobber

@@ -1,32 +1,18 @@
 -- 02's sequence of the root's children (101): the plan under it, and which sequence is asked for. Definitions only.
-use mathlib.Core.Logic.{_≢_, _⊎_, inl, inr}
-use mathlib.Core.Bool.{Bool, false}
-use mathlib.Core.List.{List, [], _∷_, List·Memᴰ as Among}
+use mathlib.Core.Path.{_≡_}
+use mathlib.Core.Logic.{_≢_, _⊎_, inl, inr, _↔_}
+use mathlib.Core.Bool.{Bool}
+use mathlib.Core.List.{List, _∷_, List·Memᴰ as Among}
 use Prim.Native.Nat.{ℕ, _<_}
-use lib.Dec.{T, eqb}
+use lib.Dec.{T}
 use lib.ListN.{length}
-use Rattle.runs.specs.Tests.{both}
-use Rattle.runs.specs.Searches.{either, listed}
 use Rattle.runs.specs.Plan.{all-of, Plan, Child}
 use Rattle.runs.specs.Verdict.{Clear}
-use Rattle.runs.specs.Model.Blocked.{over}
 
 -- a is in the list, and b after it
 pub data Ahead (a b : ℕ) : List ℕ → Type 0 where
   at-front : {xs : List ℕ} → Among b xs → Ahead a b (a ∷ xs)
   further-on : {x : ℕ} {xs : List ℕ} → Ahead a b xs → Ahead a b (x ∷ xs)
-
--- the same as a test
-unfoldable pub aheadB : List ℕ → ℕ → ℕ → Bool
-aheadB [] a b = false
-aheadB (x ∷ xs) a b = either (both (eqb a x) (λ u. listed xs b)) (λ u. aheadB xs a b)
-
--- the plan with the sequence's orders added: "each wholly before the next" (02)
-unfoldable pub serialOrder : Plan → List ℕ → ℕ → ℕ → Bool
-serialOrder p xs a b = either (p .order a b) (λ u. aheadB xs a b)
-
-abbrev pub serial : Plan → List ℕ → Plan
-serial p xs = over p (p .tree) (serialOrder p xs)
 
 -- no number comes twice
 abbrev pub Once : List ℕ → Type 0
@@ -39,6 +25,12 @@ pub record Sequence (p : Plan) (xs : List ℕ) : Type 0 where
   pub once : Once xs
   pub agrees : (a b : ℕ) → Child p 0 b → T (p .order a b) → Ahead a b xs
 
+-- q is the plan with the sequence's orders added: "each wholly before the next" (02)
+pub record InSequence (p : Plan) (xs : List ℕ) (q : Plan) : Type 0 where
+  pub tree : q .tree ≡ p .tree
+  pub conditions : q .conditions ≡ p .conditions
+  pub orders : (a b : ℕ) → T (q .order a b) ↔ (T (p .order a b) ⊎ Ahead a b xs)
+
 -- 23: "the root is not an all-of group or has more than seven children"
 pub data Refused23 (p : Plan) : Type 0 where
   not-all-of : p .tree .kind 0 ≢ all-of → Refused23 p
@@ -48,7 +40,9 @@ module _ (p : Plan) (F : ℕ → Bool) where
   -- a sequence "under which the answer is CLEAR" (101)
   pub record SerialClear (xs : List ℕ) : Type 0 where
     pub sequence : Sequence p xs
-    pub clear : Clear (serial p xs) F
+    pub plan : Plan
+    pub ordered : InSequence p xs plan
+    pub clear : Clear plan F
 
   -- the answer for an accepted plan: 23; 24, "when no such sequence exists"; or "any one such sequence"
   pub data Sought : ℕ ⊎ List ℕ → Type 0 where

@@ -1,0 +1,3 @@
+-- What the call for a sequence answers; inner contracts.
+pub mod Sequence
+pub mod Inner

@@ -1,0 +1,34 @@
+-- The answer for a plan (01: book): a refusal, or a sequence of the root's children (02: a serial order, 101).
+-- Definitions only.
+use mathlib.Core.Path.{_≡_}
+use mathlib.Core.Logic.{_≢_, _⊎_, inl, inr, _↔_}
+use mathlib.Core.List.{List}
+use Prim.Native.Nat.{ℕ}
+use Rattle.plan_rules.specs.Rules.{refusal}
+use Rattle.plan_check.specs.Meaning.{planOf, startOf}
+use Rattle.sequences.specs.Sequences.{Refused23, SerialClear, Sought}
+use Rattle.sequences.specs.Word.{sequenceWord, sequenceIn}
+use Rattle.sequence.specs.declared.Finding.{Finding}
+use Rattle.sequence.specs.declared.Finding.the-variants.{Refused, Found}
+
+-- 02's number, or the nodes one after another, for each case
+abbrev pub foundIn : Finding → ℕ ⊎ List ℕ
+foundIn (Refused n) = inl n
+foundIn (Found w) = inr (sequenceIn w)
+
+-- a number or a list of nodes is an answer: 1 to 14 come first; then 23; 24, and no such sequence exists; or one that
+-- is sought
+pub record Sequenced (b : List ℕ) (a : ℕ ⊎ List ℕ) : Type 0 where
+  pub refused : refusal b ≢ 0 → a ≡ inl (refusal b)
+  pub sought : refusal b ≡ 0 → Sought (planOf b) (startOf b) a
+  pub refused-23 : refusal b ≡ 0 → (a ≡ inl 23) ↔ Refused23 (planOf b)
+  pub refused-24 : refusal b ≡ 0
+      → (a ≡ inl 24) ↔ ((¬ Refused23 (planOf b)) × ((xs : List ℕ) → ¬ SerialClear (planOf b) (startOf b) xs))
+
+-- the word of a sequence has nothing but the sequence
+abbrev pub Whole : Finding → Type 0
+Whole r = (w : ℕ) → r ≡ Found w → w ≡ sequenceWord (sequenceIn w)
+
+pub record Answered (b : List ℕ) (r : Finding) : Type 0 where
+  pub sequenced : Sequenced b (foundIn r)
+  pub whole : Whole r
