@@ -5,7 +5,9 @@ use mathlib.Core.Logic.{_↔_}
 use mathlib.Core.Bool.{Bool, true}
 use mathlib.Core.List.{List}
 use Prim.Native.Nat.{ℕ, _≤_, _<_}
+use lib.Dec.{T}
 use lib.ListN.{getD}
+use Rattle.base.specs.Bits.{bit}
 use Rattle.base.specs.Words.{Says}
 use Rattle.runs.specs.Plan.{all-of, Plan, Child}
 use Rattle.runs.specs.WellFormed.{WellFormed}
@@ -27,10 +29,10 @@ pub record MaskOf (order kids : List ℕ) (s : Segment) (i mask : ℕ) : Type 0 
 pub record MasksOf (order kids : List ℕ) (s : Segment) (masks : List ℕ) : Type 0 where
   pub each : (i : ℕ) → i < count s → MaskOf order kids s i (getD masks i 0)
 
--- no child has a word of may clobber with a bit
-abbrev pub CalmIn : List ℕ → List ℕ → Segment → Bool → Type 0
-CalmIn rows kids s r =
-    (r ≡ true) ↔ ((i : ℕ) → Position s i → (v : Bool) → wordIn rows (getD kids i 0) (may-clobber v) ≡ 0)
+-- no child has a flag in its words of may clobber
+pub record CalmIn (rows kids : List ℕ) (s : Segment) (r : Bool) : Type 0 where
+  pub tells : (r ≡ true) ↔ ((i : ℕ) → Position s i → (v : Bool) (f : ℕ) → f < 64
+      → ¬ T (bit (wordIn rows (getD kids i 0) (may-clobber v)) f))
 
 -- a plan with an all-of root that the tables represent below it
 pub record Below (p : Plan) (kids : List ℕ) (s : Segment) (order rows : List ℕ) : Type 0 where

@@ -1,6 +1,6 @@
 -- The search finds the first sequence under which the plan is CLEAR, or there is none.
 use mathlib.Core.List.{Lexᴰ, Lexᴰ·nil, Lexᴰ·rel, Lexᴰ·cons}
-use Rattle.runs.proofs.Base.{_≡_, refl, _≢_, _⊎_, inl, inr, Bool, true, false, Option, none, some, List}
+use Rattle.runs.proofs.Base.{_≡_, refl, _≢_, _⊎_, inl, inr, _↔_, Bool, true, false, Option, none, some, List}
 use Rattle.runs.proofs.Base.{[], _∷_, Among, here, there, ℕ, zero, suc, _<_, arith}
 use Rattle.runs.proofs.Base.{ℕ-discrete}
 use Rattle.runs.specs.Tests.{negate}
@@ -95,6 +95,29 @@ module _ {p : Plan} {F : ℕ → Bool} where
       none-at : (ys : List ℕ) → ¬ Rest p F seen ys
       none-at [] r = more (rest-all-seen r)
       none-at (c ∷ ys) r = dead c (rest-follows r .0 .child) ys r
+
+module _ (p : Plan) (w : WellFormed p) where
+  -- 23 by the number of children
+  pub refused-is : ((p .tree .kind 0 ≢ all-of) ⊎ (7 < childCount p)) ↔ Refused23 p
+  refused-is = (to, from)
+    where
+      children : ℕ → Bool
+      children c = childB p 0 c
+
+      to : (p .tree .kind 0 ≢ all-of) ⊎ (7 < childCount p) → Refused23 p
+      to (inl n) = not-all-of n
+      to (inr l) = too-many (passing children (p .tree .size)) (rw (passing-length children (p .tree .size)) l)
+          (passing-once children (p .tree .size))
+          (λ c m. (r-child p 0 c) .to (passing-below children (p .tree .size) c m .1))
+
+      from : Refused23 p → (p .tree .kind 0 ≢ all-of) ⊎ (7 < childCount p)
+      from (not-all-of n) = inl n
+      from (too-many xs l o h) = inr (omega (
+        arith,
+        l,
+        few children (p .tree .size) xs
+            (λ c m. (w .node-below c (h c m .node), (r-child p 0 c) .from (h c m))) o,
+      ))
 
 module _ (p : Plan) (w : WellFormed p) (F : ℕ → Bool) where
   -- one turn
@@ -218,25 +241,7 @@ module _ (p : Plan) (w : WellFormed p) (F : ℕ → Bool) where
   -- the answer computed is the one asked for
   pub r-23 : Reflects (refused23B p) (Refused23 p)
   unfolding refused23B
-  r-23 = r-map (to, from) (r-either _ _ (r-negate _ (r-kind _ _)) (r-lt _ _))
-    where
-      children : ℕ → Bool
-      children c = childB p 0 c
-
-      to : (p .tree .kind 0 ≢ all-of) ⊎ (7 < childCount p) → Refused23 p
-      to (inl n) = not-all-of n
-      to (inr l) = too-many (passing children (p .tree .size)) (rw (passing-length children (p .tree .size)) l)
-          (passing-once children (p .tree .size))
-          (λ c m. (r-child p 0 c) .to (passing-below children (p .tree .size) c m .1))
-
-      from : Refused23 p → (p .tree .kind 0 ≢ all-of) ⊎ (7 < childCount p)
-      from (not-all-of n) = inl n
-      from (too-many xs l o h) = inr (omega (
-        arith,
-        l,
-        few children (p .tree .size) xs
-            (λ c m. (w .node-below c (h c m .node), (r-child p 0 c) .from (h c m))) o,
-      ))
+  r-23 = r-map (refused-is p w) (r-either _ _ (r-negate _ (r-kind _ _)) (r-lt _ _))
 
   pub searched-sought : ¬ Refused23 p → {o : Option (List ℕ)} → Searched o → Sought p F (foundOr24 o)
   searched-sought n (first-clear x) = found n (x .clear)
