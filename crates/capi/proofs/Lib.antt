@@ -1,4 +1,5 @@
 -- A listing's answer is small enough to have a number (`short`), and the numbers of answers tell what the answers do
--- (`verdict-told`, `status-told`, `listing-told`).
+-- (`verdict-told`, `status-told`, `listing-told`, `sequence-told`).
 pub mod Listing
 pub mod Told
+pub mod Sequence

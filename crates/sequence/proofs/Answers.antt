@@ -23,10 +23,9 @@ use Rattle.tables.specs.declared.Segment.{Segment}
 use Rattle.tables.specs.Represents.{beforeCode, code}
 use Rattle.marks_row.specs.Columns.{may-clobber}
 use Rattle.marks_words.specs.Words.{StartWord}
-use Rattle.sequences.specs.Sequences.{Refused23, SerialClear, Sought, refused-23, refused-24}
-use Rattle.sequences.specs.Sequences.{found as found-one}
 use Rattle.sequences.specs.Model.{Calm, MayBeTrue, FirstRest, foundOr24}
 use Rattle.sequences.specs.Word.{packed, sequenceWord, sequenceIn}
+use Rattle.sequences.proofs.Cases.{sought-23, sought-24}
 use Rattle.sequences.proofs.Ranks.{count-all}
 use Rattle.sequences.proofs.Reflect.{true-start, calm-on-flags}
 use Rattle.sequences.proofs.Search.{Searched, first-clear, none-clear, calm-searched, restless-searched}
@@ -182,19 +181,6 @@ module _ {p : Plan} {kids order rows : List ℕ} {s : Segment} (g : InRange kids
               whole v r = ap word (sym r) ∙ is-word ∙ ap sequenceWord (sym back) ∙ ap (λ (u : ℕ). sequenceWord (sequenceIn u)) (ap word r)
 
 -- ---- the whole answer
--- the cases of an accepted plan exclude each other
-module _ {p : Plan} {F : ℕ → Bool} where
-  sought-23 : {a : ℕ ⊎ List ℕ} → Sought p F a → (a ≡ inl 23) ↔ Refused23 p
-  sought-23 (refused-23 x) = (λ e. x, λ y. refl)
-  sought-23 (refused-24 n x) = (λ e. clash cc, λ y. absurd (n y))
-  sought-23 (found-one n x) = (λ e. clash cc, λ y. absurd (n y))
-
-  sought-24 : {a : ℕ ⊎ List ℕ} → Sought p F a
-      → (a ≡ inl 24) ↔ ((¬ Refused23 p) × ((xs : List ℕ) → ¬ SerialClear p F xs))
-  sought-24 (refused-23 x) = (λ e. clash cc, λ y. absurd (y .0 x))
-  sought-24 (refused-24 n x) = (λ e. (n, x), λ y. refl)
-  sought-24 (found-one {xs = xs} n x) = (λ e. clash cc, λ y. absurd (y .1 xs x))
-
 pub answered-refused : (b : List ℕ) {r : ℕ} → r ≡ refusal b → (r ≡ 0 → ⊥) → Answered b (finding.Refused r)
 answered-refused b e k = record {
   sequenced = record {

@@ -10,8 +10,10 @@ pub mod Reflect
 -- The first sequence: what a search comes to, prefix by prefix, and that the one computed is sought (`sought`).
 pub mod Prefixes
 pub mod Search
--- A CLEAR plan has a sequence (`clear-found`).
+-- A CLEAR plan has a sequence (`clear-found`), a DOOMED one has none (`doomed-unfound`).
 pub mod Rising
+-- The cases of an answer (`sought-23`, `sought-24`), and a sequence as a word (`read-back`).
+pub mod Cases
+pub mod Word
 -- Small plans, computed.
 pub mod Tried
-pub mod Word

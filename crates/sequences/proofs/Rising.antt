@@ -105,7 +105,7 @@ module _ (p : Plan) where
       every : (c : ℕ) → Child p 0 c → Among c (childrenFrom (p .tree .size) 0)
       every c h = from-every (p .tree .size) 0 c h (omega arith) (omega (arith, w .node-below c (h .node)))
 
-root-all-of : {p : Plan} → ¬ Refused23 p → p .tree .kind 0 ≡ all-of
+pub root-all-of : {p : Plan} → ¬ Refused23 p → p .tree .kind 0 ≡ all-of
 root-all-of k = force (decided (r-kind _ _)) (λ n. k (not-all-of n))
 
 -- an accepted plan that is CLEAR never meets 24, and for one that is DOOMED no sequence is found
