@@ -11,6 +11,7 @@ use Rattle.plan_rules.specs.Rules.{cause10, bothSigns, cause11, postOf, noPost,
 use Rattle.plan_rules.specs.Rules.{cause13, cause14, refusal}
 use Rattle.plan_check.specs.Meaning.{planOf, startOf, kindAt, conditionIs, hasCondition, signIn, orderIs, hasOrder}
 use Rattle.runs.specs.Model.Computing.{computing}
+use Rattle.sequences.proofs.Tried.{seeking}
 use Rattle.base.specs.Bits.{bit}
 use Rattle.base.specs.Count.{countBelow}
 use Rattle.run_flags.specs.Flags.{flagIn}
@@ -28,10 +29,12 @@ use Rattle.run_trials.specs.Trial.{statusBytes, stateBytes, AllHold}
 use Rattle.run_trials.specs.Starred.{starred}
 use Rattle.run_trials.specs.Requested.{of-starts, of-places, of-skips, of-groups, of-words, of-finishes}
 use Rattle.run_trials.specs.Blocked.{of-branches, of-lists, of-absent, of-roots}
+use Rattle.run_trials.specs.Sequences.{of-sequences, AllSequenced}
 use Rattle.run_trials.specs.Checked.{AllChecked, AllWorded, AllRefused}
 use Rattle.run_trials.proofs.Tests.{showsB, leftB, holdsB, allHoldB, all-hold}
 use Rattle.run_trials.proofs.Checks.{allCheckedB, all-checked, completeIs, allWordedB, all-worded}
 use Rattle.run_trials.proofs.Checks.{allRefusedB, all-refused}
+use Rattle.run_trials.proofs.Sequences.{refusedFirst, answerIs, allSequencedB, all-sequenced}
 
 -- the plans, their bytes and their meaning, and the bytes of states, under one name
 unfoldable pub bytes : Unit {0}
@@ -104,3 +107,8 @@ absent-checked = all-checked of-absent tt
 pub roots-told : AllWorded of-roots
 unfolding rows checks moves statusAt statusIn completeIs allWordedB
 roots-told = all-worded of-roots tt
+
+-- every row for 02's sequence of the root's children
+pub sequences-told : AllSequenced of-sequences
+unfolding bytes startOf seeking refusedFirst answerIs allSequencedB
+sequences-told = all-sequenced of-sequences tt

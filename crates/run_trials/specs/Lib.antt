@@ -5,3 +5,4 @@ pub mod Terms
 pub mod Starred
 pub mod Requested
 pub mod Blocked
+pub mod Sequences

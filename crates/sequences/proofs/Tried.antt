@@ -34,7 +34,8 @@ A-then-Z a b = both (eqb a 1) (λ u. eqb b 2)
 abbrev clear : ℕ → Bool
 clear f = false
 
-unfoldable seeking : Unit {0}
+-- the search, under one name
+unfoldable pub seeking : Unit {0}
 unfolding computing countBelow startB nextB everyLiteralB safeB calmB unless prefixed orNext firstBelow mayFollowB
     restIn firstSequence refused23B sequenceOf
 seeking = tt

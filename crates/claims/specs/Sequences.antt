@@ -1,0 +1,18 @@
+-- What `assess` and the call for a sequence answer for one plan: a CLEAR plan always has a sequence, a DOOMED one never
+-- (101). Definitions only.
+use mathlib.Core.Path.{_≡_}
+use mathlib.Core.Logic.{_≢_, _⊎_, inl, inr}
+use mathlib.Core.List.{List, []}
+use Prim.Native.Nat.{ℕ}
+use Rattle.runs.specs.Verdict.{CLEAR, DOOMED}
+use Rattle.verdict.specs.declared.Answer.{Answer}
+use Rattle.verdict.specs.Verdict.{said, Assessed}
+use Rattle.sequence.specs.Sequence.{Sequenced}
+
+pub record SequenceAgrees (a : Answer) (s : ℕ ⊎ List ℕ) : Type 0 where
+  pub clear : said a ≡ inr CLEAR → s ≢ inl 24
+  pub doomed : said a ≡ inr DOOMED → (xs : List ℕ) → s ≢ inr xs
+
+abbrev pub SequencesAgree : Type 0
+SequencesAgree =
+    (b : List ℕ) (a : Answer) (s : ℕ ⊎ List ℕ) → Assessed b [] a → Sequenced b s → SequenceAgrees a s
