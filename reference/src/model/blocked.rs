@@ -4,7 +4,7 @@
 //! is a plan of its own, in which the nodes have other numbers.
 
 use crate::model::events::Event;
-use crate::model::format::{Condition, Node, Order, Plan, NO_PARENT};
+use crate::model::format::Plan;
 use crate::model::marks::Marks;
 
 /// An accepted plan without its blocked subtrees.
@@ -35,30 +35,9 @@ impl Remaining {
         let nodes = 0..whole.nodes.len();
         let remains = |&node: &usize| !is_absent(whole, blocked, node);
         let numbers: Vec<usize> = nodes.filter(remains).collect();
-        let anew = |number: u8| {
-            let at = numbers.binary_search(&usize::from(number)).ok()?;
-            u8::try_from(at).ok()
-        };
-        let node = |&number: &usize| {
-            let node = whole.nodes[number];
-            let parent = anew(node.parent).unwrap_or(NO_PARENT);
-            Node { parent, ..node }
-        };
-        let condition = |condition: &Condition| {
-            let node = anew(condition.node)?;
-            Some(Condition { node, ..*condition })
-        };
-        let order = |order: &Order| Some(Order::new(anew(order.earlier)?, anew(order.later)?));
-        let plan = Plan {
-            flags: whole.flags,
-            start: whole.start,
-            nodes: numbers.iter().map(node).collect(),
-            conditions: whole.conditions.iter().filter_map(condition).collect(),
-            orders: whole.orders.iter().filter_map(order).collect(),
-        };
         Remaining {
             whole: whole.clone(),
-            plan,
+            plan: whole.numbered(&numbers),
             numbers,
         }
     }
@@ -138,7 +117,9 @@ fn no_branch_left(plan: &Plan, blocked: &[usize], group: usize) -> bool {
 #[cfg(test)]
 mod tests {
     use super::*;
-    use crate::model::format::{ALL_OF, ANY_OF, OPTIONAL, POSTCONDITION, SET, TASK};
+    use crate::model::format::{
+        Condition, Node, Order, ALL_OF, ANY_OF, NO_PARENT, OPTIONAL, POSTCONDITION, SET, TASK,
+    };
 
     fn node(parent: u8, kind: u8) -> Node {
         Node {

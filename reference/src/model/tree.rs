@@ -2,7 +2,9 @@
 
 use std::iter::successors;
 
-use crate::model::format::{Plan, ALL_OF, ANY_OF, NO_PARENT, OPTIONAL, TASK};
+use crate::model::format::{
+    Condition, Node, Order, Plan, ALL_OF, ANY_OF, NO_PARENT, OPTIONAL, TASK,
+};
 
 impl Plan {
     /// Whether the number, which may be any, is that of a task.
@@ -70,5 +72,34 @@ impl Plan {
     pub fn optional_under(&self, node: usize) -> impl Iterator<Item = usize> + '_ {
         let groups = self.optional_groups();
         groups.filter(move |&group| self.is_under(group, node))
+    }
+
+    /// The plan of these nodes alone, numbered anew in this order, with their conditions and the
+    /// orders between them, each sorted. The parent of each but the root is to be among them.
+    pub fn numbered(&self, numbers: &[usize]) -> Plan {
+        let mut anew = [None; 256];
+        for (at, &number) in (0..).zip(numbers) {
+            anew[number] = Some(at);
+        }
+        let anew = |number: u8| anew[usize::from(number)];
+        let node = |&number: &usize| {
+            let node = self.nodes[number];
+            let parent = anew(node.parent).unwrap_or(NO_PARENT);
+            Node { parent, ..node }
+        };
+        let condition = |condition: &Condition| {
+            let node = anew(condition.node)?;
+            Some(Condition { node, ..*condition })
+        };
+        let order = |order: &Order| Some(Order::new(anew(order.earlier)?, anew(order.later)?));
+        let mut plan = Plan {
+            nodes: numbers.iter().map(node).collect(),
+            conditions: self.conditions.iter().filter_map(condition).collect(),
+            orders: self.orders.iter().filter_map(order).collect(),
+            ..*self
+        };
+        plan.conditions.sort_by_key(|c| (c.node, c.value));
+        plan.orders.sort_by_key(|o| (o.earlier, o.later));
+        plan
     }
 }
