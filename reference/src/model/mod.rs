@@ -17,6 +17,7 @@ pub mod verdict;
 pub mod blocked;
 
 pub mod monitor;
+pub mod sequence;
 pub mod summary;
 pub mod waits;
 

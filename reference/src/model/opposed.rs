@@ -35,8 +35,8 @@ impl Plan {
         one != other && !self.leads(one, other) && !self.leads(other, one)
     }
 
-    /// Whether a chain of orders leads from the one to the other. Orders go from lower to higher
-    /// numbers.
+    /// Whether a chain of orders leads from the one to the other. No chain leads back to where it
+    /// began.
     fn leads(&self, from: usize, to: usize) -> bool {
         let mut next = self
             .orders
