@@ -86,6 +86,7 @@ mod c {
             out: *mut u8,
             out_len: usize,
         ) -> u32;
+        pub fn knowetop_sequence(plan: *const u8, plan_len: usize) -> u64;
     }
 }
 
@@ -106,6 +107,12 @@ pub fn make(call: &Call, plan: &mut [u8], blocked: &[usize], lent: &mut [u8]) ->
 /// The verdict as it is timed, with the blocked nodes in this memory.
 pub fn verdict(plan: &mut [u8], blocked: &mut [usize]) -> u32 {
     make_with(&Call::Verdict, plan, &mut [], [blocked, &mut []])
+}
+
+/// The sequence call, which alone returns a word of 64 bits, and is lent the plan only.
+pub fn sequence(plan: &mut [u8]) -> u64 {
+    // SAFETY: pointer and length are those of one slice, borrowed for the length of the call.
+    unsafe { c::knowetop_sequence(plan.as_mut_ptr(), plan.len()) }
 }
 
 /// Makes the call with the blocked nodes and with its list of tasks, as far as it is to have them,

@@ -1,6 +1,7 @@
 //! Random valid plans.
 
 pub mod clear;
+pub mod disordered;
 
 use std::collections::BTreeSet;
 
@@ -32,6 +33,7 @@ enum Parents {
     Deep,
     Even,
     Bushy,
+    Seven,
 }
 
 impl Shape {
@@ -45,6 +47,8 @@ impl Shape {
     pub const EVEN: Shape = Shape::of(Parents::Even);
     /// Some eight large groups.
     pub const BUSHY: Shape = Shape::of(Parents::Bushy);
+    /// Seven nodes under the root, each other one under any lower node but the root.
+    pub const SEVEN: Shape = Shape::of(Parents::Seven);
 
     const fn of(parents: Parents) -> Shape {
         let kinds = &[ALL_OF, ALL_OF, ALL_OF, ANY_OF, OPTIONAL];
@@ -135,6 +139,10 @@ fn parent(random: &mut Random, node: usize, parents: Parents) -> usize {
         Parents::Deep => random.within(node.saturating_sub(4), node - 1),
         Parents::Even => random.below(node),
         Parents::Bushy => random.below(node.min(8)),
+        Parents::Seven => match node {
+            1..=7 => 0,
+            _ => random.within(1, node - 1),
+        },
     }
 }
 

@@ -7,6 +7,7 @@
 pub mod blocked;
 pub mod cases;
 pub mod lists;
+pub mod sequence;
 pub mod states;
 pub mod stream;
 pub mod tally;

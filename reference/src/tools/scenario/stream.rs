@@ -78,6 +78,7 @@ fn any_size(random: &mut Random) -> Plan {
 
 /// Every call on these bytes with nothing blocked, and with a list of blocked nodes of any kind.
 pub fn every_call(tally: &mut Tally, random: &mut Random, bytes: &[u8]) {
+    tally.sequence(bytes);
     with_list(tally, random, bytes, &[]);
     let blocked = match accept(bytes) {
         Ok(plan) => any_blocked(random, &plan),

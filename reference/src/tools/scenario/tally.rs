@@ -3,6 +3,7 @@
 use std::collections::BTreeMap;
 use std::fmt;
 
+use super::sequence::judged;
 use super::{After, Case};
 use crate::model::calls::{Answers, Call};
 use crate::tools::archive;
@@ -10,7 +11,7 @@ use crate::tools::archive;
 /// How often each call returned what.
 #[derive(Clone, Debug, Default)]
 pub struct Tally {
-    /// Answers with a length count as 256.
+    /// Answers with a length, and sequences, count as 256.
     counts: BTreeMap<(&'static str, u32), usize>,
 }
 
@@ -20,7 +21,7 @@ impl Tally {
     pub fn compare(&mut self, answers: &Answers, case: &Case) -> After {
         match case.compared(answers, archive::make) {
             Ok(after) => {
-                *self.count(&case.call, after.returned) += 1;
+                self.count(case.call.name(), after.returned);
                 after
             }
             Err(message) => panic!("the archive differs: {message}"),
@@ -41,9 +42,21 @@ impl Tally {
         }
     }
 
-    fn count(&mut self, call: &Call, returned: u32) -> &mut usize {
-        let key = (call.name(), returned.min(256));
-        self.counts.entry(key).or_default()
+    /// The archive returns a sequence that the reference admits, or its refusal.
+    #[track_caller]
+    pub fn sequence(&mut self, plan: &[u8]) -> u64 {
+        match judged(plan, archive::sequence) {
+            Ok(word) => {
+                self.count("sequence", u32::try_from(word).unwrap_or(256));
+                word
+            }
+            Err(message) => panic!("the archive differs: {message}"),
+        }
+    }
+
+    fn count(&mut self, name: &'static str, returned: u32) {
+        let key = (name, returned.min(256));
+        *self.counts.entry(key).or_default() += 1;
     }
 
     /// How often a call of this name returned this.
