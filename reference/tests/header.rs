@@ -53,11 +53,12 @@ fn makes_every_call() {
     let header = fs::read_to_string(root().join("crates/capi/knowetop.h")).unwrap();
     let program = fs::read_to_string(source()).unwrap();
     let declared = header.lines().filter_map(|line| {
-        let rest = line.strip_prefix("uint32_t ")?;
+        let mut returned = ["uint32_t ", "uint64_t "].into_iter();
+        let rest = returned.find_map(|kind| line.strip_prefix(kind))?;
         Some(rest.split_once('(')?.0)
     });
     let declared: Vec<&str> = declared.collect();
-    assert_eq!(declared.len(), 10);
+    assert_eq!(declared.len(), 11);
     for call in declared {
         assert!(program.contains(&format!("{call}(")), "{call}");
     }

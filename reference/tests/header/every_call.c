@@ -248,6 +248,31 @@ static void listing(const uint8_t *plan, size_t len)
     assert(memcmp(out, text, text_len) == 0 && kept(out + text_len, sizeof out - text_len));
 }
 
+/* CAST, then COMS, which the order says; without it either way; with an any-of root 23; and 24 where
+   CAST needs flag 0 set, which it is not. */
+static void sequence(const uint8_t *plan, size_t len)
+{
+    static const uint64_t in_order = (uint64_t)2 << 56 | COMS << 8 | CAST;
+    static const uint64_t falling = (uint64_t)2 << 56 | CAST << 8 | COMS;
+    uint8_t changed[82];
+    uint64_t word;
+
+    assert(knowetop_sequence(plan, 15) == 1);
+    assert(knowetop_sequence(plan, len - 1) == 3);
+    assert(knowetop_sequence(plan, len) == in_order);
+
+    assert(len == sizeof changed);
+    memcpy(changed, plan, len);
+    changed[4] = 0; /* no order */
+    word = knowetop_sequence(changed, len - 2);
+    assert(word == in_order || word == falling);
+    changed[16 + 4 * NODES + 4 * MOOR + 1] = 2;
+    assert(knowetop_sequence(changed, len - 2) == 23);
+    changed[16 + 4 * NODES + 4 * MOOR + 1] = 1;
+    changed[16 + 8 * NODES + 8] += 64; /* the first condition: CAST needs flag 0 set */
+    assert(knowetop_sequence(changed, len - 2) == 24);
+}
+
 int main(int argc, char **argv)
 {
     uint8_t plan[82 + 1], lent[82];
@@ -264,6 +289,7 @@ int main(int argc, char **argv)
     blocked(lent, sizeof lent);
     lent_states(lent, sizeof lent);
     listing(lent, sizeof lent);
+    sequence(lent, sizeof lent);
     assert(same(lent, plan, sizeof lent));
     return 0;
 }
