@@ -50,6 +50,7 @@ fn prints_each_sample() {
         ("large", "DOOMED 393546"),
         ("nodes-128", "CLEAR 0"),
         ("one-task", "CLEAR 0"),
+        ("sequence-found", "OPEN 45"),
         ("fifteen-bytes", "REFUSED 1"),
         ("nodes-129", "REFUSED 2"),
         ("one-byte-more", "REFUSED 3"),

@@ -12,7 +12,7 @@ use reference::tools::archive;
 use reference::tools::text::{make, show, Error, Source};
 
 /// Each sample with its length and its refusal.
-const SAMPLES: [(&str, usize, u32); 22] = [
+const SAMPLES: [(&str, usize, u32); 23] = [
     ("b", 82, 0),
     ("b-flag-set", 82, 0),
     ("b-without-order", 80, 0),
@@ -35,6 +35,7 @@ const SAMPLES: [(&str, usize, u32); 22] = [
     ("restored-by-choice", 77, 0),
     ("restored-in-chain", 61, 0),
     ("restored-unordered", 59, 0),
+    ("sequence-found", 108, 0),
 ];
 
 fn folder() -> PathBuf {

@@ -11,6 +11,7 @@ mod optional;
 mod past;
 mod places;
 mod readings;
+mod sequences;
 mod together;
 mod trials;
 mod waits;
