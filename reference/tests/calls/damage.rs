@@ -18,6 +18,7 @@ fn every_call(tally: &mut Tally, random: &mut Random, plan: &[u8]) {
     for case in cases(random, plan, &[]) {
         tally.compare(&answers, &case);
     }
+    tally.sequence(plan);
 }
 
 /// B, and a plan with an optional group, with any one byte changed or cut off there; the largest

@@ -4,6 +4,7 @@ mod blocked;
 mod damage;
 mod listings;
 mod lists;
+mod sequences;
 mod summaries;
 mod together;
 
@@ -18,7 +19,7 @@ use reference::tools::scenario::tally::Tally;
 
 type Topic = (&'static str, fn(&mut Tally));
 
-const TOPICS: [Topic; 34] = [
+const TOPICS: [Topic; 39] = [
     ("summaries of small plans, by runs", summaries::small),
     ("summaries of large plans, by rules", summaries::large),
     ("summaries of the samples", summaries::samples),
@@ -81,12 +82,17 @@ const TOPICS: [Topic; 34] = [
     ("listings of long, deep and equal waits", listings::extremes),
     ("listings of equal waits, by names", listings::ties),
     ("listings in every length around 2,048", listings::lengths),
+    ("sequences of small plans", sequences::small),
+    ("sequences of every small plan", sequences::every),
+    ("sequences, places changed", sequences::places_changed),
+    ("sequences of large plans", sequences::large),
+    ("sequences, by verdicts", sequences::by_verdicts),
     ("plans with damaged bytes", damage::bytes),
     ("plans with damaged fields", damage::fields),
 ];
 
 /// What each call returned at least so often.
-const MET: [(&str, usize, &[RangeInclusive<u32>]); 9] = [
+const MET: [(&str, usize, &[RangeInclusive<u32>]); 10] = [
     ("verdict", 20, &[1..=14, 28..=29, 128..=130]),
     ("summary", 20, &[0..=15, 17..=17, 28..=29]),
     ("fresh", 20, &[0..=15, 28..=29]),
@@ -96,6 +102,7 @@ const MET: [(&str, usize, &[RangeInclusive<u32>]); 9] = [
     ("finish together", 20, &[0..=18, 22..=22, 25..=26, 28..=29]),
     ("status", 20, &[1..=16, 28..=29, 128..=129]),
     ("listing", 20, &[1..=15, 256..=256]),
+    ("sequence", 20, &[1..=14, 23..=24, 256..=256]),
 ];
 
 /// The topics that one thread takes, each once it is done with the last: their comparisons and seconds.
