@@ -101,7 +101,7 @@ fn worst() -> Vec<Shaped> {
 /// With `broken` flags a last task, unordered, needs them clear and holds them set, and for each of
 /// their literals one task of the chain leaves the opposite: the search finds one clash at a time,
 /// each at the last child.
-fn chain(tasks: usize, toggled: u16, broken: u16) -> Plan {
+pub fn chain(tasks: usize, toggled: u16, broken: u16) -> Plan {
     let mut plan = Plan::new(64).all_of(b"ROOT", NO_PARENT);
     // A literal broken costs a condition of a task in the chain, a flag three of the last task.
     let room = LIMITS.conditions - usize::from(2 * broken + 3 * broken);
@@ -145,7 +145,7 @@ fn needed_by_last() -> Plan {
 
 /// An all-of root with `before` unordered tasks, one after all of them, and `after` unordered tasks
 /// after that one, which puts right what the first leave and the last need.
-fn funnel(before: u8, after: u8) -> Plan {
+pub fn funnel(before: u8, after: u8) -> Plan {
     let mut plan = Plan::new(64).all_of(b"ROOT", NO_PARENT);
     for _ in 0..before {
         plan = plan.task(b"FIRS", 0, 1).post(1, CLEAR).post(0, SET);

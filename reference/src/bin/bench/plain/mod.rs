@@ -1,10 +1,10 @@
-//! The verdict in plain Rust, by the shortcuts that the proved crates take: rules in passes over
-//! the bytes, words whose bit f speaks of flag f, the children of a group as a segment of one
-//! array, chains of orders filled backwards, pairs each looked at once and only for literals that a
-//! pair can clobber, children passed over that require and leave nothing wanted, and shared literals
-//! narrowed until none is left.
+//! The verdict, and a sequence, in plain Rust, by the shortcuts that the proved crates take: rules
+//! in passes over the bytes, words whose bit f speaks of flag f, the children of a group as a
+//! segment of one array, chains of orders filled backwards, pairs each looked at once and only for
+//! literals that a pair can clobber, children passed over that require and leave nothing wanted,
+//! and shared literals narrowed until none is left.
 //!
-//! Its modules in their order: words, row; check, tables; siblings, pairs; rows.
+//! Its modules in their order: words, row; check, tables; siblings, pairs; rows; search.
 //!
 //! It is no reference: tests compare it with the reference, and nothing else rests on it.
 
@@ -12,12 +12,14 @@ mod check;
 mod pairs;
 mod row;
 mod rows;
+mod search;
 mod siblings;
 mod tables;
 mod words;
 
 use check::Fields;
 use row::Row;
+use search::Searched;
 use tables::Tables;
 use words::{and, or};
 
@@ -35,6 +37,30 @@ pub fn verdict(bytes: &[u8]) -> u32 {
     judged(&fields, rows::root(&tables))
 }
 
+/// What `knowetop_sequence` may return, and how many prefixes were gone on from.
+pub fn sequence(bytes: &[u8]) -> (u64, usize) {
+    let fields = match check::accept(bytes) {
+        Ok(fields) => fields,
+        Err(number) => return (u64::from(number), 0),
+    };
+    let mut tables = Tables::BLANK;
+    tables.fill(&fields);
+    let count = tables.segment(0).len();
+    if tables.kinds[0] != 1 || count > 7 {
+        return (23, 0);
+    }
+    let rows = rows::below_root(&tables);
+    if tables
+        .children(0)
+        .any(|child| rows[child].may_clobber != [0; 2])
+    {
+        return (24, 0);
+    }
+    let Searched { nodes, prefixes } = search::search(&tables, &rows, fields.start);
+    let word = nodes.map_or(24, |nodes| nodes | (count as u64) << 56);
+    (word, prefixes)
+}
+
 fn judged(fields: &Fields, root: Row) -> u32 {
     let false_at_start = [fields.start, !fields.start];
     let may_fail = or(root.may_clobber, and(root.may_pre, false_at_start));
@@ -48,11 +74,13 @@ fn judged(fields: &Fields, root: Row) -> u32 {
 
 #[cfg(test)]
 mod tests {
-    use super::verdict;
+    use super::{sequence, verdict};
     use reference::model::calls::{make, Call};
     use reference::model::format::{Plan, Sizes};
+    use reference::model::sequence::may_return;
     use reference::tools::edit::edit;
     use reference::tools::generate::clear::shaken_plan;
+    use reference::tools::generate::disordered::disordered;
     use reference::tools::generate::{any_plan, dense_plan, plan, LIMITS, SHAPES};
     use reference::tools::random::Random;
 
@@ -90,5 +118,21 @@ mod tests {
         for returned in (1..=14).chain(128..=130) {
             assert!(counts[returned] >= 10, "{returned}: {}", counts[returned]);
         }
+    }
+
+    #[test]
+    fn sequences_of_small_plans() {
+        let mut random = Random::new(92);
+        let mut counts = [0; 3];
+        for nodes in 1..=10 {
+            for _ in 0..300 {
+                let plan = dense_plan(&mut random, nodes);
+                let bytes = disordered(&mut random, &plan).bytes();
+                let (word, _) = sequence(&bytes);
+                assert!(may_return(&bytes, word), "{word:#x} of {plan:?}");
+                counts[word.saturating_sub(23).min(2) as usize] += 1;
+            }
+        }
+        assert!(counts.iter().all(|&count| count >= 200), "{counts:?}");
     }
 }

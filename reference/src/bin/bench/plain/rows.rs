@@ -9,14 +9,28 @@ use super::words::{and, and_not, or, swap};
 /// The row of the root.
 pub fn root(tables: &Tables) -> Row {
     let mut rows = [Row::default(); 128];
+    fill_tasks(tables, &mut rows);
+    fill(tables, &mut rows, 0);
+    rows[0]
+}
+
+/// The rows of all nodes but the root.
+pub fn below_root(tables: &Tables) -> Rows {
+    let mut rows = [Row::default(); 128];
+    fill_tasks(tables, &mut rows);
+    for child in tables.children(0) {
+        fill(tables, &mut rows, child);
+    }
+    rows
+}
+
+fn fill_tasks(tables: &Tables, rows: &mut Rows) {
     let of_nodes = tables.kinds.iter().zip(&tables.conditions);
     for (row, (&kind, conditions)) in rows[..tables.nodes].iter_mut().zip(of_nodes) {
         if kind == 0 {
             *row = Row::task(conditions);
         }
     }
-    fill(tables, &mut rows, 0);
-    rows[0]
 }
 
 /// Fills the rows of the groups under a node.
