@@ -1,6 +1,6 @@
 -- A CLEAR plan always has a sequence, a DOOMED one never. Assumes nothing.
-use mathlib.Core.Path.{_≡_, sym, ap, _∙_, subst}
-use mathlib.Core.Logic.{_≢_, _⊎_, inl, inr, by-cases}
+use mathlib.Core.Path.{_≡_, sym, _∙_, subst}
+use mathlib.Core.Logic.{inr, by-cases}
 use mathlib.Core.List.{List, []}
 use Prim.Native.Nat.{ℕ}
 use native.Mathlib.Decide.{ℕ-discrete}
@@ -9,7 +9,7 @@ use Rattle.plan_rules.specs.Rules.{refusal}
 use Rattle.plan_check.specs.Meaning.{planOf, startOf}
 use Rattle.plan_check.proofs.Accepted.{clean}
 use Rattle.plan_check.proofs.Meaning.{meaning-accepted, means-well-formed}
-use Rattle.plan_blocked.specs.Blocked.{planUnder, refusalUnder}
+use Rattle.plan_blocked.specs.Blocked.{refusalUnder}
 use Rattle.plan_blocked.proofs.Refused.{plan-accepted, none-under}
 use Rattle.runs.specs.Plan.{Plan}
 use Rattle.runs.specs.Verdict.{Verdict, CLEAR, DOOMED, Judged}
@@ -17,8 +17,7 @@ use Rattle.runs.proofs.Reflect.{clash}
 use Rattle.verdict.specs.declared.Answer.{Answer}
 use Rattle.verdict.specs.Verdict.{said, answerOf, Assessed}
 use Rattle.sequences.proofs.Rising.{clear-found, doomed-unfound}
-use Rattle.sequence.specs.Sequence.{Sequenced}
-use Rattle.claims.specs.Sequences.{SequenceAgrees, SequencesAgree}
+use Rattle.claims.specs.Sequences.{SequencesAgree}
 
 module _ (b : List ℕ) (a : Answer) (x : Assessed b [] a) where
   -- where a verdict is said, the plan is accepted and has it

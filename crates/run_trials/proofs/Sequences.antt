@@ -16,7 +16,6 @@ use Rattle.sequences.specs.Sequences.{SerialClear, Sought, refused-23, refused-
 use Rattle.sequences.specs.Model.{sequenceOf}
 use Rattle.sequences.proofs.Cases.{sought-23, sought-24}
 use Rattle.sequences.proofs.Search.{sought}
-use Rattle.sequence.specs.Sequence.{Answered}
 use Rattle.run_trials.specs.Written.{bytesOf}
 use Rattle.run_trials.specs.Sequences.{Outcome, refuses, finds, SequenceRow, OutcomeOf, AllSequenced}
 

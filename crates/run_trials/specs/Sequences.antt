@@ -1,5 +1,5 @@
 -- Trial plans for 02's sequence of the root's children (101), and what `sequence` answers for them. Definitions only.
-use Prim.Native.Nat.{ℕ, suc}
+use Prim.Native.Nat.{ℕ}
 use mathlib.Core.Path.{_≡_}
 use mathlib.Core.Logic.{inl, inr}
 use mathlib.Core.List.{List, [], _∷_}

@@ -1,21 +1,19 @@
 -- What the search answers, from the words that it is given. Assumes nothing.
 use mathlib.Core.Path.{_≡_, refl, sym, ap, _∙_}
-use mathlib.Core.Logic.{_⊎_, inl, inr, _↔_}
+use mathlib.Core.Logic.{inl, _↔_}
 use mathlib.Core.Bool.{Bool, true, false, not}
-use mathlib.Core.Option.{Option, none, some}
-use mathlib.Core.List.{List, [], _∷_, List·Memᴰ as Among, List·Memᴰ·not-nil as among-none}
+use mathlib.Core.Option.{Option, none}
+use mathlib.Core.List.{List, [], List·Memᴰ as Among, List·Memᴰ·not-nil as among-none}
 use Prim.Native.Nat.{ℕ, _+_, _*_, _^_, _%_, _≤_, _<_}
 use native.Mathlib.Omega.{arith}
 use lib.Bits.{bitOr, bitXor, or-shifted}
 use lib.Pow.{pow-mono, shl-exact}
-use lib.ListN.{getD, length}
-use Rattle.base.specs.Bits.{bit}
+use lib.ListN.{getD}
 use Rattle.base.specs.Words.{ones, Says}
 use Rattle.base.proofs.Bits.{bit-none}
 use Rattle.base.proofs.Count.{count-same}
 use Rattle.base.proofs.Says.{says-map, says-none, says-not}
-use Rattle.runs.specs.Plan.{all-of, Plan, Child, Before}
-use Rattle.runs.specs.WellFormed.{WellFormed}
+use Rattle.runs.specs.Plan.{Plan, Child, Before}
 use Rattle.runs.specs.Summary.{MayClobber}
 use Rattle.plan_rules.specs.Rules.{refusal}
 use Rattle.runs.proofs.Reflect.{clash}
@@ -23,22 +21,22 @@ use Rattle.tables.specs.declared.Segment.{Segment}
 use Rattle.tables.specs.Represents.{beforeCode, code}
 use Rattle.marks_row.specs.Columns.{may-clobber}
 use Rattle.marks_words.specs.Words.{StartWord}
-use Rattle.sequences.specs.Model.{Calm, MayBeTrue, FirstRest, foundOr24}
+use Rattle.sequences.specs.Model.{Calm, MayBeTrue}
 use Rattle.sequences.specs.Word.{packed, sequenceWord, sequenceIn}
 use Rattle.sequences.proofs.Cases.{sought-23, sought-24}
 use Rattle.sequences.proofs.Ranks.{count-all}
 use Rattle.sequences.proofs.Reflect.{true-start, calm-on-flags}
-use Rattle.sequences.proofs.Search.{Searched, first-clear, none-clear, calm-searched, restless-searched}
+use Rattle.sequences.proofs.Search.{Searched, first-clear, calm-searched, restless-searched}
 use Rattle.sequences.proofs.Search.{searched-sought}
 use Rattle.sequences.proofs.Word.{read-back}
 use Rattle.sequence_search.specs.declared.Reach.{Reach}
 use Rattle.sequence_search.specs.declared.Found.{Found}
-use Rattle.sequence_search.specs.Search.{CHILDREN, count, childAt, InRange, RootChildren, Tabled, wordFor, ComeTo}
+use Rattle.sequence_search.specs.Search.{count, childAt, InRange, Tabled, wordFor, ComeTo}
 use Rattle.sequence_search.specs.Search.{Holds, nothing, nodes, Finds}
 use Rattle.sequence_search.proofs.Places.{place-in, child-small, is-child, place-of}
 use Rattle.sequence.specs.declared.Finding.{Finding}
 use Rattle.sequence.specs.declared.Finding.the-variants as finding
-use Rattle.sequence.specs.Sequence.{foundIn, Whole, Answered}
+use Rattle.sequence.specs.Sequence.{Whole, Answered}
 use Rattle.sequence.specs.Inner.{MasksOf, CalmIn, Below, Answers, AnswersOf}
 use Rattle.sequence.proofs.Counted.{passes-23}
 
@@ -81,7 +79,8 @@ module _ {p : Plan} {kids order rows : List ℕ} {s : Segment} (g : InRange kids
 
       from : Calm p → r ≡ true
       from k = (c .tells) .1 (λ i q v f l x.
-          let h : Child p 0 (getD kids i 0) = (b .root .children .child _) .1 (record { at = i; position = q; is = refl }) in
+          let h : Child p 0 (getD kids i 0) =
+          (b .root .children .child _) .1 (record { at = i; position = q; is = refl }) in
           k _ h f v ((b .right _ h .says (may-clobber v) f l) .to x))
 
   pub restless : {F : ℕ → Bool} {r : Bool} → CalmIn rows kids s r → not r ≡ true → Answers p F (finding.Refused 24)
@@ -131,7 +130,8 @@ module _ {p : Plan} {kids order rows : List ℕ} {s : Segment} (g : InRange kids
             from : MayBeTrue p F f false [] → ¬ (F f ≡ true)
             from x = (opposite (F f)) .1 ((true-start p (b .well-formed) F) .0 x)
 
-    module _ {r : Bool} (c : CalmIn rows kids s r) (passed : not r ≡ false) {z : Found} (fi : Finds rows kids s masks (outset (count s) start) z) where
+    module _ {r : Bool} (c : CalmIn rows kids s r) (passed : not r ≡ false) {z : Found}
+        (fi : Finds rows kids s masks (outset (count s) start) z) where
       found-first : (o : Option (List ℕ)) × Searched p (b .well-formed) F o × Holds (count s) z o
       found-first = let (o, fr, h) = fi p F [] tabled begins in
           (o, calm-searched p (b .well-formed) F (b .root-all-of) ((is-calm c) .0 (kept r passed)) fr, h)
@@ -165,7 +165,8 @@ module _ {p : Plan} {kids order rows : List ℕ} {s : Segment} (g : InRange kids
 
               is-word : w ≡ sequenceWord xs
               is-word = q ∙ ap (λ (v : ℕ). bitOr ((count s * 2 ^ 56) % 2 ^ 64) v) y
-                  ∙ ap (λ (v : ℕ). bitOr v (packed xs)) (shl-exact {a = count s} 3 56 64 (omega (arith, g .few)) (omega arith))
+                  ∙ ap (λ (v : ℕ). bitOr v (packed xs))
+                  (shl-exact {a = count s} 3 56 64 (omega (arith, g .few)) (omega arith))
                   ∙ or-shifted (count s) 56 (packed xs) small
                   ∙ ap (λ (n : ℕ). n * 2 ^ 56 + packed xs) (sym l)
 
@@ -178,7 +179,8 @@ module _ {p : Plan} {kids order rows : List ℕ} {s : Segment} (g : InRange kids
               back = ap sequenceIn is-word ∙ read-back xs bytes (omega (arith, l, g .few))
 
               whole : Whole (finding.Found w)
-              whole v r = ap word (sym r) ∙ is-word ∙ ap sequenceWord (sym back) ∙ ap (λ (u : ℕ). sequenceWord (sequenceIn u)) (ap word r)
+              whole v r = ap word (sym r) ∙ is-word ∙ ap sequenceWord (sym back)
+                  ∙ ap (λ (u : ℕ). sequenceWord (sequenceIn u)) (ap word r)
 
 -- ---- the whole answer
 pub answered-refused : (b : List ℕ) {r : ℕ} → r ≡ refusal b → (r ≡ 0 → ⊥) → Answered b (finding.Refused r)

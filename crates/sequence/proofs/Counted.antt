@@ -11,7 +11,7 @@ use Rattle.base.specs.Count.{countBelow}
 use Rattle.base.proofs.Booleans.{same, not-passed}
 use Rattle.base.proofs.Count.{count-same, count-none, count-one-more}
 use Rattle.runs.specs.Searches.{anyBelow}
-use Rattle.runs.specs.Plan.{all-of, Plan, Child}
+use Rattle.runs.specs.Plan.{all-of, Plan}
 use Rattle.runs.specs.WellFormed.{WellFormed}
 use Rattle.runs.specs.Model.Trees.{childB}
 use Rattle.runs.proofs.Reflect.{Reflects, T-true, true-T, r-any, r-eq}

@@ -28,7 +28,8 @@ module _ {order kids : List ℕ} {s : Segment} {i : ℕ} where
   pub mask-none : MaskTo order kids s i 0 0
   mask-none = record { says = λ j. says-none refl (λ x. omega (arith, x .0)) }
 
-  module _ {n mask a b : ℕ} (h : MaskTo order kids s i n mask) (ea : a ≡ childAt kids s n) (eb : b ≡ childAt kids s i) where
+  module _ {n mask a b : ℕ} (h : MaskTo order kids s i n mask) (ea : a ≡ childAt kids s n)
+      (eb : b ≡ childAt kids s i) where
     pub mask-set : {m : ℕ} → getD order (a * NODES + b) 0 ≡ beforeCode → m ≡ bitOr mask (2 ^ n)
         → MaskTo order kids s i (n + 1) m
     mask-set {m} e q = record {

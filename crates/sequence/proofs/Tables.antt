@@ -7,7 +7,7 @@ use lib.ListN.{getD}
 use Rattle.node_sets.specs.Sets.{AllMarked}
 use Rattle.plan_format.specs.Format.{nodeCount}
 use Rattle.plan_rules.specs.Rules.{refusal}
-use Rattle.plan_check.specs.Meaning.{planOf, startOf}
+use Rattle.plan_check.specs.Meaning.{planOf}
 use Rattle.plan_check.proofs.Accepted.{clean}
 use Rattle.plan_check.proofs.Meaning.{means, means-well-formed}
 use Rattle.plan_blocked.proofs.Refused.{none-under}
@@ -22,13 +22,12 @@ use Rattle.tables.specs.Segments.{segmentOf}
 use Rattle.tables.specs.Represents.{AtGroup, Represents}
 use Rattle.tables.proofs.Turns.{at-segment}
 use Rattle.marks_tree.specs.Filled.{BelowFilled}
-use Rattle.table_children.specs.Children.{TreeOf}
 use Rattle.table_children.proofs.Whole.{whole-tree}
 use Rattle.table_all.specs.Filled.{TablesOf}
 use Rattle.sequences.specs.Sequences.{not-all-of, refused-23}
 use Rattle.sequence_search.specs.Search.{CHILDREN, count, InRange, RootChildren}
 use Rattle.sequence.specs.declared.Finding.the-variants as finding
-use Rattle.sequence.specs.Inner.{Below, Answers, AnswersOf}
+use Rattle.sequence.specs.Inner.{Below, AnswersOf}
 use Rattle.sequence.proofs.Counted.{too-many-places}
 use Rattle.sequence.proofs.Answers.{refused-whole}
 

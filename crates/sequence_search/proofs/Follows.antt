@@ -5,10 +5,10 @@ use mathlib.Core.Logic.{_⊎_, inl, inr, _↔_, Iff·symm}
 use mathlib.Core.Bool.{Bool, true, false, not, _||_}
 use mathlib.Core.List.{List, _∷_, List·Memᴰ as Among, List·Memᴰ·head as here, List·Memᴰ·tail as there}
 use mathlib.Core.List.{List·Memᴰ·cases-cons as among-cases}
-use Prim.Native.Nat.{ℕ, _+_, _-_, _^_, _<_}
+use Prim.Native.Nat.{ℕ, _^_, _<_}
 use native.Mathlib.Omega.{arith}
 use native.Mathlib.Decide.{ℕ-discrete}
-use lib.Dec.{T, eqb}
+use lib.Dec.{T}
 use lib.Bits.{bitAnd, bitOr, bitXor, and-le-r}
 use lib.ListN.{getD}
 use borrow.Author.Tests.{eqb-true}
@@ -19,7 +19,7 @@ use Rattle.base.proofs.Bits.{bit-or, one-same, one-other}
 use Rattle.base.proofs.Says.{says-map, says-dec, says-self, says-and, says-or, says-less, says-set, no-flag}
 use Rattle.base.proofs.Words.{no-bits, no-bit-at-all, or-zero}
 use Rattle.base.proofs.Count.{some-counted, counted-some, count-one-more}
-use Rattle.runs.specs.Plan.{Plan, Child, Before}
+use Rattle.runs.specs.Plan.{Plan, Before}
 use Rattle.runs.specs.Summary.{May, ExternalPre}
 use Rattle.runs.proofs.Reflect.{T-true, true-T, clash}
 use Rattle.runs.proofs.Plan.Chains.{before-child}
@@ -28,7 +28,7 @@ use Rattle.marks_row.specs.Columns.{avoid, may-pre, may-post, wordIn}
 use Rattle.sequences.specs.Model.{MayBeTrue, AllSeen, MayFollow}
 use Rattle.sequences.proofs.Reflect.{true-next, safe-on-flags}
 use Rattle.sequence_search.specs.declared.Reach.{Reach}
-use Rattle.sequence_search.specs.Search.{CHILDREN, count, childAt, followsB, after, Tabled, wordFor, ComeTo}
+use Rattle.sequence_search.specs.Search.{count, childAt, followsB, after, Tabled, wordFor, ComeTo}
 use Rattle.sequence_search.proofs.Places.{is-child, place-of, same-place}
 
 one-says : (k f : ℕ) → Says (2 ^ k) f (f ≡ k)
@@ -81,7 +81,8 @@ module _ {p : Plan} {F : ℕ → Bool} {rows kids masks : List ℕ} {s : Segment
     -- of either sign: a literal that the child may need, and whose opposite may be true
     says-clash : (v : Bool) (f : ℕ) → f < 64 → Says (bitAnd (wordIn rows child (may-pre v)) (wordFor r (not v))) f
         (May p child (ExternalPre p f v) × MayBeTrue p F f (not v) seen)
-    says-clash v f l = says-and refl (t .right child (is-child (t .root) li) .says (may-pre v) f l) (cm .may-be (not v) f l)
+    says-clash v f l =
+        says-and refl (t .right child (is-child (t .root) li) .says (may-pre v) f l) (cm .may-be (not v) f l)
 
     follow : bitAnd (r .seen) (2 ^ i) ≡ 0 → bitXor mask (bitAnd mask (r .seen)) ≡ 0
         → ((v : Bool) → bitAnd (wordIn rows child (may-pre v)) (wordFor r (not v)) ≡ 0) → MayFollow p F seen child

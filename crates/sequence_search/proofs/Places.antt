@@ -2,13 +2,13 @@
 use mathlib.Core.Path.{_≡_, refl, ap, _∙_}
 use mathlib.Core.Logic.{by-cases}
 use mathlib.Core.List.{List}
-use Prim.Native.Nat.{ℕ, _+_, _-_, _≤_, _<_}
+use Prim.Native.Nat.{ℕ, _+_, _<_, _-_}
 use native.Mathlib.Omega.{arith}
 use native.Mathlib.Decide.{ℕ-discrete, decLt}
 use lib.ListN.{getD}
 use Rattle.runs.specs.Plan.{Plan, Child}
 use Rattle.tables.specs.declared.Segment.{Segment}
-use Rattle.tables.specs.Segments.{Position, AtSegment}
+use Rattle.tables.specs.Segments.{Position}
 use Rattle.sequence_search.specs.Search.{CHILDREN, count, childAt, InRange, RootChildren}
 
 pub place-in : {s : Segment} {i : ℕ} → i < count s → Position s (s .start + i)
@@ -37,7 +37,8 @@ module _ {p : Plan} {kids : List ℕ} {s : Segment} (t : RootChildren p kids s) 
 
   -- lower places have lower numbers, and the other way round
   pub higher : {i j : ℕ} → i < j → j < count s → childAt kids s i < childAt kids s j
-  higher {i} {j} l m = t .rising (s .start + i) (s .start + j) (place-in (omega (arith, l, m))) (place-in m) (omega arith)
+  higher {i} {j} l m =
+      t .rising (s .start + i) (s .start + j) (place-in (omega (arith, l, m))) (place-in m) (omega arith)
 
   pub lower : {i j : ℕ} → i < count s → j < count s → childAt kids s j < childAt kids s i → j < i
   lower {i} {j} li lj l = by-cases (decLt j i) (λ (x : j < i). x) (λ x. by-cases (ℕ-discrete i j)

@@ -1,14 +1,14 @@
 -- The turns of a search, by the laws of `sequences` for the first rest. Assumes nothing.
-use mathlib.Core.Path.{_≡_, refl, ap, _∙_}
+use mathlib.Core.Path.{_≡_, ap, _∙_}
 use mathlib.Core.Logic.{_↔_}
 use mathlib.Core.Bool.{Bool, true, false, not}
 use mathlib.Core.Option.{Option, none, some}
 use mathlib.Core.List.{List, [], _∷_}
-use Prim.Native.Nat.{ℕ, suc, _+_, _*_, _-_, _^_, _%_, _<_, _≤_}
+use Prim.Native.Nat.{ℕ, suc, _+_, _*_, _^_, _%_, _<_, _≤_, _-_}
 use native.Mathlib.Omega.{arith}
 use native.Mathlib.Decide.{ℕ-discrete}
 use lib.Bits.{bitOr}
-use lib.ListN.{getD, length}
+use lib.ListN.{getD}
 use Rattle.base.proofs.Count.{count-le}
 use Rattle.base.specs.Bits.{bit}
 use Rattle.runs.specs.Plan.{Plan, Child}
@@ -22,7 +22,7 @@ use Rattle.sequence_search.specs.declared.Reach.{Reach}
 use Rattle.sequence_search.specs.declared.Found.{Found}
 use Rattle.sequence_search.specs.Search.{count, childAt, followsB, after, InRange, Tabled, wordFor, ComeTo, Holds}
 use Rattle.sequence_search.specs.Search.{nothing, nodes, Finds, DeadTo}
-use Rattle.sequence_search.proofs.Places.{is-child, place-of, lower, child-small}
+use Rattle.sequence_search.proofs.Places.{place-of, lower, child-small}
 use Rattle.sequence_search.proofs.Follows.{none-left, some-left, follows, next-come}
 
 -- both words of a search have 64 bits
@@ -108,7 +108,8 @@ module _ (rows kids : List ℕ) (s : Segment) (masks : List ℕ) (r : Reach) whe
             at m fr (nodes {xs = xs} k x l b) = (
               some (childAt kids s i ∷ xs),
               goes-on (some-left t cm n) dead m fr,
-              nodes {xs = childAt kids s i ∷ xs} f (q ∙ ap (λ (v : ℕ). bitOr ((v * 2 ^ 8) % 2 ^ 64) (childAt kids s i)) x
+              nodes {xs = childAt kids s i ∷ xs} f
+                  (q ∙ ap (λ (v : ℕ). bitOr ((v * 2 ^ 8) % 2 ^ 64) (childAt kids s i)) x
                   ∙ one-byte-more (r .left - 1) b (omega (arith, child-small g li)) (omega (arith, few-left)))
                   (omega (arith, l, n))
                   (rw left-is at (bytes-lt (r .left - 1) {c = childAt kids s i} b (omega (arith, child-small g li)))),

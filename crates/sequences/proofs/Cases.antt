@@ -1,6 +1,6 @@
 -- The cases of an answer: they exclude each other, and each is told by its number or by a list with a node.
-use Rattle.runs.proofs.Base.{_≡_, refl, ap, _≢_, _⊎_, inl, inr, _↔_, Bool, List, [], among-none, ℕ}
-use Rattle.runs.specs.Plan.{all-of, Plan}
+use Rattle.runs.proofs.Base.{_≡_, refl, _≢_, _⊎_, inl, inr, _↔_, Bool, List, [], among-none, ℕ}
+use Rattle.runs.specs.Plan.{Plan}
 use Rattle.runs.specs.WellFormed.{Accepted}
 use Rattle.sequences.specs.Sequences.{Refused23, SerialClear, Sought, refused-23, refused-24, found}
 use Rattle.runs.proofs.Reflect.{clash}

@@ -1,6 +1,6 @@
 -- Where orders rise in number, as the rules ask, the root's children in rising order are a sequence; so a CLEAR plan
 -- has one under which it is CLEAR, and a DOOMED plan has none.
-use Rattle.runs.proofs.Base.{_≡_, refl, _≢_, _⊎_, inl, inr, Bool, true, false, cond, List, [], _∷_, Among, here, there}
+use Rattle.runs.proofs.Base.{_≡_, _≢_, _⊎_, inl, inr, Bool, true, false, cond, List, [], _∷_, Among, here, there}
 use Rattle.runs.proofs.Base.{among-none, among-cases, ℕ, zero, suc, _+_, _<_, _≤_, arith, ℕ-discrete, T}
 use Rattle.runs.specs.Plan.{all-of, Plan, Child}
 use Rattle.runs.specs.WellFormed.{WellFormed, Accepted}

@@ -1,5 +1,5 @@
 -- A list of nodes as a word: one node more is a shift by eight bits, and a sequence is read back from its word.
-use Prim.Native.Nat.{_*_, _-_, _^_, _/_, _%_}
+use Prim.Native.Nat.{_*_, _^_, _/_, _%_, _-_}
 use native.Mathlib.Nat.{mul-assoc}
 use lib.Bits.{bitOr, or-shifted}
 use lib.Pow.{pow-add, pow-mono, shl-exact, high, low}

@@ -1,8 +1,7 @@
 -- `before_masks` meets its contract: the masks of the places below i. Assumes nothing.
-use mathlib.Core.Path.{_≡_, refl}
-use Prim.Native.Nat.{ℕ, _-_, _≤_}
+use mathlib.Core.Path.{refl}
+use Prim.Native.Nat.{_≤_, _-_}
 use native.Mathlib.Omega.{arith}
-use lib.ListN.{length}
 use Rattle.sequence_search.proofs.Places.{place-small}
 use Rattle.sequence.proofs.Masks.{MasksTo, masks-none, masks-more, masks-whole}
 use Rattle.sequence.proofs.before_masks.Statement.{statement}
@@ -28,7 +27,8 @@ mul-masks c = let turn = c .before in
     omega (arith, place-small (turn .before .before .before .pre) (turn .loop-test .taken) .0)
 
 array-write-masks : tie.Need-array-write-masks Inv-loop μ-loop
-array-write-masks c = let turn = c .before in place-small (turn .before .before .before .pre) (turn .loop-test .taken) .0
+array-write-masks c = let turn = c .before in
+    place-small (turn .before .before .before .pre) (turn .loop-test .taken) .0
 
 add-i : tie.Need-add-i Inv-loop μ-loop
 add-i c = let turn = c .before in

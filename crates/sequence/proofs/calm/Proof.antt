@@ -1,5 +1,5 @@
 -- `calm` meets its contract: no child before position i may clobber. Assumes nothing.
-use Prim.Native.Nat.{ℕ, _-_}
+use Prim.Native.Nat.{_-_}
 use native.Mathlib.Omega.{arith}
 use borrow.Author.Needs.{needs}
 use Rattle.tables.specs.Segments.{Reached}
@@ -25,8 +25,10 @@ element-copy-out-wide c =
 word-at-requires : tie.Need-word-at-requires Inv-loop μ-loop
 word-at-requires c κs =
     let turn = c .before .before in
-    let loop = turn .before .before in
-    (kid-small (loop .before .pre .at) (position (loop .loop .inv .0) (turn .if1 .taken)) (c .wide .ensures .0), omega arith)
+    let loop = turn .before .before in (
+      kid-small (loop .before .pre .at) (position (loop .loop .inv .0) (turn .if1 .taken)) (c .wide .ensures .0),
+      omega arith,
+    )
 
 add-word-at : tie.Need-add-word-at Inv-loop μ-loop
 add-word-at c = omega arith

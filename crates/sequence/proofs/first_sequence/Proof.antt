@@ -1,5 +1,4 @@
 -- `first_sequence` meets its contract. Assumes nothing.
-use mathlib.Core.Path.{_≡_}
 use Rattle.plan_check.proofs.Accepted.{clean}
 use Rattle.sequence.proofs.Tables.{at-root, not-all, in-order, in-range, too-many, below}
 use native.Mathlib.Omega.{arith}
@@ -8,11 +7,11 @@ use Rattle.sequence.proofs.first_sequence.Statement.{statement}
 use Rattle.sequence.proofs.first_sequence.Tie as tie
 
 -- what the call was given, the tables, the root's segment, the rows
-abbrev entry : tie.After-fill-tables → tie.Start
-entry c = c .before .before .before .before .before .before .before .before .before .before .before .before .before .before
-
 abbrev standing : tie.After-fill-tables → tie.After-all-nodes
 standing c = c .before .before .before .before .before .before .before .before .before .before .before .before
+
+abbrev entry : tie.After-fill-tables → tie.Start
+entry c = standing c .before .before
 
 abbrev filled : tie.After-children → tie.After-fill-tables
 filled c = c .before .before

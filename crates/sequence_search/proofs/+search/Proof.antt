@@ -1,10 +1,9 @@
 -- `search` meets its contract, the number of children left falling: those before place i are dead ends. Assumes
 -- nothing.
-use mathlib.Core.Path.{_≡_, refl, ap, _∙_}
+use mathlib.Core.Path.{refl, ap}
 use mathlib.Core.Logic.{⊎-elim}
-use Prim.Native.Nat.{ℕ, _+_, _*_, _-_, _^_, _%_, _≤_, _<_}
+use Prim.Native.Nat.{ℕ, _+_, _*_, _^_, _%_, _≤_, _<_, _-_}
 use native.Mathlib.Omega.{arith}
-use borrow.Author.Needs.{needs}
 use borrow.Fn.Kinds.{In}
 use borrow.Fn.PlainCycle.{Measures, is, falls, and}
 use lib.Bits.{bitOr}
@@ -90,7 +89,8 @@ module _ (t : ℕ) where
       let entry = turn .before .before .before .before .before in
       omega (arith, place-small (entry .pre .1) (turn .loop-test .taken) .0)
 
-  element-copy-out-may-follow : search-lts.Need-element-copy-out-may-follow claims (search-at t) search′.Post Inv-loop μ-loop
+  element-copy-out-may-follow : search-lts.Need-element-copy-out-may-follow claims (search-at t) search′.Post Inv-loop
+      μ-loop
   element-copy-out-may-follow c =
       let turn = c .before .before .before in
       let entry = turn .before .before .before .before .before in

@@ -4,7 +4,9 @@ use Rattle.sequence_search.proofs.moved_on.Statement.{statement}
 use Rattle.sequence_search.proofs.moved_on.Tie as tie
 
 returns : tie.Need-returns
-returns c = rw (c .before .before .before .before .before .before .word-at .ensures, c .before .before .before .word-at2 .ensures, c .before .word-at3 .ensures)
+returns c =
+    let left = c .before .before .before in
+    rw (left .before .before .before .word-at .ensures, left .word-at2 .ensures, c .before .word-at3 .ensures)
 
 pub moved-on-spec : {M : Type 1} → statement M
 moved-on-spec = tie.close (tie.spec
