@@ -17,7 +17,7 @@ use Rattle.sequences.specs.Word.{lowBytes, sequenceIn}
 use Rattle.sequences.proofs.Cases.{sought-number, sought-some}
 use Rattle.sequence.specs.declared.Finding.{Finding}
 use Rattle.sequence.specs.declared.Finding.the-variants.{Refused, Found}
-use Rattle.sequence.specs.Sequence.{Sequenced, Answered}
+use Rattle.sequence.specs.Sequence.{SoughtOf, Sequenced}
 use Rattle.capi_numbers.specs.Numbers.{sequenceNumber}
 use Rattle.capi_numbers.specs.Inner.{findingNumber}
 use Rattle.capi.specs.Told.{toldBy, SequenceNumber}
@@ -28,7 +28,7 @@ number (inr xs) = 0
 
 module _ (b : List ℕ) where
   -- a refusal is a small number
-  small : {n : ℕ} → Sequenced b (inl n) → n < 2 ^ 56
+  small : {n : ℕ} → SoughtOf b (inl n) → n < 2 ^ 56
   small {n} s = at (ℕ-discrete (refusal b) 0)
     where
       of-two : (n ≡ 23) ⊎ (n ≡ 24) → n < 2 ^ 56
@@ -40,7 +40,7 @@ module _ (b : List ℕ) where
       at (no k) = omega (arith, ap number (s .refused k), refusal-limit b)
 
   -- the word of a sequence is a great one: below 2^56 it would tell an empty sequence
-  great : {w : ℕ} → Sequenced b (inr (sequenceIn w)) → 2 ^ 56 ≤ w
+  great : {w : ℕ} → SoughtOf b (inr (sequenceIn w)) → 2 ^ 56 ≤ w
   unfolding lowBytes
   great {w} s = by-cases (decLt w (2 ^ 56)) (λ (l : w < 2 ^ 56). absurd (at l (ℕ-discrete (refusal b) 0)))
       (λ n. omega (arith, n))
@@ -52,10 +52,10 @@ module _ (b : List ℕ) where
       at l (yes ok) = sought-some (meaning-accepted b (clean b ok)) (s .sought ok) (ap inr (empty l))
       at l (no k) = let e = s .refused k in clash cc
 
-  pub sequence-told : (f : Finding) {r : ℕ} → Answered b f → r ≡ findingNumber f → SequenceNumber b r
+  pub sequence-told : (f : Finding) {r : ℕ} → Sequenced b f → r ≡ findingNumber f → SequenceNumber b r
   sequence-told (Refused n) a e =
-      let t : toldBy n ≡ inl n = rw (lt-ltb n (2 ^ 56) (small (a .sequenced))) in
-      rw e (record { sequenced = rw t (a .sequenced); returns = rw t })
+      let t : toldBy n ≡ inl n = rw (lt-ltb n (2 ^ 56) (small (a .sought))) in
+      rw e (record { sought = rw t (a .sought); returns = rw t })
   sequence-told (Found w) a e =
-      let t : toldBy w ≡ inr (sequenceIn w) = rw (le-ltb w (2 ^ 56) (great (a .sequenced))) in
-      rw e (record { sequenced = rw t (a .sequenced); returns = a .whole w refl ∙ ap sequenceNumber (sym t) })
+      let t : toldBy w ≡ inr (sequenceIn w) = rw (le-ltb w (2 ^ 56) (great (a .sought))) in
+      rw e (record { sought = rw t (a .sought); returns = a .exact w refl ∙ ap sequenceNumber (sym t) })

@@ -21,7 +21,7 @@ use Rattle.text_listing.specs.Model.{textOf}
 use Rattle.text_listing.specs.Sentences.{IsListing}
 use Rattle.listing.specs.Listing.{listedOf, listingLeft}
 use Rattle.sequences.specs.Word.{sequenceIn}
-use Rattle.sequence.specs.Sequence.{Sequenced}
+use Rattle.sequence.specs.Sequence.{SoughtOf}
 use Rattle.capi_numbers.specs.Numbers.{verdictNumber, statusNumber, writtenNumber, sequenceNumber}
 
 -- r is the number of the answer for the plan and the list xs of blocked nodes: 28 and 29 in 02's words; accepted, it is
@@ -56,5 +56,5 @@ toldBy r = cond (ltb r (2 ^ 56)) (inl r) (inr (sequenceIn r))
 
 -- what r tells is an answer, and r is its number
 pub record SequenceNumber (b : List ℕ) (r : ℕ) : Type 0 where
-  pub sequenced : Sequenced b (toldBy r)
+  pub sought : SoughtOf b (toldBy r)
   pub returns : r ≡ sequenceNumber (toldBy r)

@@ -7,7 +7,7 @@ use Prim.Native.Nat.{ℕ}
 use Rattle.runs.specs.Verdict.{CLEAR, DOOMED}
 use Rattle.verdict.specs.declared.Answer.{Answer}
 use Rattle.verdict.specs.Verdict.{said, Assessed}
-use Rattle.sequence.specs.Sequence.{Sequenced}
+use Rattle.sequence.specs.Sequence.{SoughtOf}
 
 pub record SequenceAgrees (a : Answer) (s : ℕ ⊎ List ℕ) : Type 0 where
   pub clear : said a ≡ inr CLEAR → s ≢ inl 24
@@ -15,4 +15,4 @@ pub record SequenceAgrees (a : Answer) (s : ℕ ⊎ List ℕ) : Type 0 where
 
 abbrev pub SequencesAgree : Type 0
 SequencesAgree =
-    (b : List ℕ) (a : Answer) (s : ℕ ⊎ List ℕ) → Assessed b [] a → Sequenced b s → SequenceAgrees a s
+    (b : List ℕ) (a : Answer) (s : ℕ ⊎ List ℕ) → Assessed b [] a → SoughtOf b s → SequenceAgrees a s

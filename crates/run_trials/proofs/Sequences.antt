@@ -74,11 +74,11 @@ outcome b o e = at o (refusal b) refl e
 
     at : (o : Outcome) (r : ℕ) → refusal b ≡ r → refusedFirst r (sequenceOf (planOf b) (startOf b)) ≡ answerOf o
         → OutcomeOf b o
-    at (refuses n) zero ok q = λ f a. same-refusal (a .sequenced .sought ok) (right ok) n q
-    at (refuses n) (suc k) m q = λ f a. a .sequenced .refused (λ z. omega (arith, m, z)) ∙ ap inl m ∙ q
+    at (refuses n) zero ok q = λ f a. same-refusal (a .sought .sought ok) (right ok) n q
+    at (refuses n) (suc k) m q = λ f a. a .sought .refused (λ z. omega (arith, m, z)) ∙ ap inl m ∙ q
     at (finds xs) zero ok q = (
       both-found (right ok) (right ok) xs q .0,
-      λ f a. both-found (a .sequenced .sought ok) (right ok) xs q .1,
+      λ f a. both-found (a .sought .sought ok) (right ok) xs q .1,
     )
     at (finds xs) (suc k) m q = clash cc
 

@@ -8,7 +8,7 @@ use Rattle.plan_check.specs.Meaning.{planOf, startOf}
 use Rattle.runs.specs.Plan.{Kind, all-of, any-of, optional}
 use Rattle.sequences.specs.Sequences.{SerialClear}
 use Rattle.sequence.specs.declared.Finding.{Finding}
-use Rattle.sequence.specs.Sequence.{foundIn, Answered}
+use Rattle.sequence.specs.Sequence.{foundIn, Sequenced}
 use Rattle.run_trials.specs.Written.{Entry, Order, then, PlanPieces, bytesOf}
 use Rattle.run_trials.specs.Terms.{short, off, on, needs, leaves, group, work, none-set, under-root, a-task}
 use Rattle.run_trials.specs.Terms.{z-task, A, C, G, O, R, Z}
@@ -24,9 +24,9 @@ pub record SequenceRow : Type 0 where
 
 -- whatever `sequence` answers for the bytes: the refusal; some sequence, and xs is one that it may answer
 abbrev pub OutcomeOf : List ℕ → Outcome → Type 0
-OutcomeOf b (refuses n) = (r : Finding) → Answered b r → foundIn r ≡ inl n
+OutcomeOf b (refuses n) = (r : Finding) → Sequenced b r → foundIn r ≡ inl n
 OutcomeOf b (finds xs) = SerialClear (planOf b) (startOf b) xs
-    × ((r : Finding) → Answered b r → (ys : List ℕ) × (foundIn r ≡ inr ys))
+    × ((r : Finding) → Sequenced b r → (ys : List ℕ) × (foundIn r ≡ inr ys))
 
 abbrev pub AllSequenced : List SequenceRow → Type 0
 AllSequenced [] = Unit {0}

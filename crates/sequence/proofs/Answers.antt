@@ -30,13 +30,13 @@ use Rattle.sequences.proofs.Search.{Searched, first-clear, calm-searched, restl
 use Rattle.sequences.proofs.Search.{searched-sought}
 use Rattle.sequences.proofs.Word.{read-back}
 use Rattle.sequence_search.specs.declared.Reach.{Reach}
-use Rattle.sequence_search.specs.declared.Found.{Found}
-use Rattle.sequence_search.specs.Search.{count, childAt, InRange, Tabled, wordFor, ComeTo}
-use Rattle.sequence_search.specs.Search.{Holds, nothing, nodes, Finds}
+use Rattle.sequence_search.specs.declared.Ending.{Ending}
+use Rattle.sequence_search.specs.Search.{count, childAt, InRange, Tabled, flagsFor, ComeTo}
+use Rattle.sequence_search.specs.Search.{Carries, nothing, nodes, Finds}
 use Rattle.sequence_search.proofs.Places.{place-in, child-small, is-child, place-of}
 use Rattle.sequence.specs.declared.Finding.{Finding}
 use Rattle.sequence.specs.declared.Finding.the-variants as finding
-use Rattle.sequence.specs.Sequence.{Whole, Answered}
+use Rattle.sequence.specs.Sequence.{Exact, Sequenced}
 use Rattle.sequence.specs.Inner.{MasksOf, CalmIn, Below, Answers, AnswersOf}
 use Rattle.sequence.proofs.Counted.{passes-23}
 
@@ -45,8 +45,8 @@ kept true e = refl
 kept false e = clash cc
 
 -- a number is no word
-pub refused-whole : (n : ℕ) → Whole (finding.Refused n)
-refused-whole n w e = clash cc
+pub refused-exact : (n : ℕ) → Exact (finding.Refused n)
+refused-exact n w e = clash cc
 
 abbrev word : Finding → ℕ
 word (finding.Refused n) = 0
@@ -61,7 +61,7 @@ module _ {p : Plan} {kids order rows : List ℕ} {s : Segment} (g : InRange kids
   none-found : {F : ℕ → Bool} → Searched p (b .well-formed) F none → Answers p F (finding.Refused 24)
   none-found {F} x = record {
     sought = searched-sought p (b .well-formed) F (passes-23 (b .well-formed) (b .root) (b .root-all-of) (g .few)) x;
-    whole = refused-whole 24;
+    exact = refused-exact 24;
   }
 
   is-calm : {r : Bool} → CalmIn rows kids s r → (r ≡ true) ↔ Calm p
@@ -117,7 +117,7 @@ module _ {p : Plan} {kids order rows : List ℕ} {s : Segment} (g : InRange kids
         opposite true = (λ k. absurd (k refl), λ e. clash cc)
         opposite false = (λ k. refl, λ e q. clash cc)
 
-        may-be : (v : Bool) (f : ℕ) → f < 64 → Says (wordFor (outset (count s) start) v) f (MayBeTrue p F f v [])
+        may-be : (v : Bool) (f : ℕ) → f < 64 → Says (flagsFor (outset (count s) start) v) f (MayBeTrue p F f v [])
         may-be true f l = says-map (from-start true) (st .says f l)
           where
             from-start : (v : Bool) → (F f ≡ v) ↔ MayBeTrue p F f v []
@@ -130,16 +130,16 @@ module _ {p : Plan} {kids order rows : List ℕ} {s : Segment} (g : InRange kids
             from : MayBeTrue p F f false [] → ¬ (F f ≡ true)
             from x = (opposite (F f)) .1 ((true-start p (b .well-formed) F) .0 x)
 
-    module _ {r : Bool} (c : CalmIn rows kids s r) (passed : not r ≡ false) {z : Found}
+    module _ {r : Bool} (c : CalmIn rows kids s r) (passed : not r ≡ false) {z : Ending}
         (fi : Finds rows kids s masks (outset (count s) start) z) where
-      found-first : (o : Option (List ℕ)) × Searched p (b .well-formed) F o × Holds (count s) z o
+      found-first : (o : Option (List ℕ)) × Searched p (b .well-formed) F o × Carries (count s) z o
       found-first = let (o, fr, h) = fi p F [] tabled begins in
           (o, calm-searched p (b .well-formed) F (b .root-all-of) ((is-calm c) .0 (kept r passed)) fr, h)
 
       pub unfound : not (z .found) ≡ true → Answers p F (finding.Refused 24)
       unfound e = let (o, x, h) = found-first in at x h
         where
-          at : {o : Option (List ℕ)} → Searched p (b .well-formed) F o → Holds (count s) z o
+          at : {o : Option (List ℕ)} → Searched p (b .well-formed) F o → Carries (count s) z o
               → Answers p F (finding.Refused 24)
           at x (nothing q) = none-found x
           at x (nodes q y l m) = let k = ap not q in clash cc
@@ -149,13 +149,13 @@ module _ {p : Plan} {kids order rows : List ℕ} {s : Segment} (g : InRange kids
           → Answers p F (finding.Found w)
       found {w} e q = let (o, x, h) = found-first in at x h
         where
-          at : {o : Option (List ℕ)} → Searched p (b .well-formed) F o → Holds (count s) z o
+          at : {o : Option (List ℕ)} → Searched p (b .well-formed) F o → Carries (count s) z o
               → Answers p F (finding.Found w)
           at x (nothing k) = let j = ap not k in clash cc
           at (first-clear {xs = xs} fc) (nodes k y l m) = record {
             sought = rw back (searched-sought p (b .well-formed) F
                 (passes-23 (b .well-formed) (b .root) (b .root-all-of) (g .few)) (first-clear fc));
-            whole = whole;
+            exact = exact;
           }
             where
               small : packed xs < 2 ^ 56
@@ -178,29 +178,29 @@ module _ {p : Plan} {kids order rows : List ℕ} {s : Segment} (g : InRange kids
               back : sequenceIn w ≡ xs
               back = ap sequenceIn is-word ∙ read-back xs bytes (omega (arith, l, g .few))
 
-              whole : Whole (finding.Found w)
-              whole v r = ap word (sym r) ∙ is-word ∙ ap sequenceWord (sym back)
+              exact : Exact (finding.Found w)
+              exact v r = ap word (sym r) ∙ is-word ∙ ap sequenceWord (sym back)
                   ∙ ap (λ (u : ℕ). sequenceWord (sequenceIn u)) (ap word r)
 
 -- ---- the whole answer
-pub answered-refused : (b : List ℕ) {r : ℕ} → r ≡ refusal b → (r ≡ 0 → ⊥) → Answered b (finding.Refused r)
+pub answered-refused : (b : List ℕ) {r : ℕ} → r ≡ refusal b → (r ≡ 0 → ⊥) → Sequenced b (finding.Refused r)
 answered-refused b e k = record {
-  sequenced = record {
+  sought = record {
     refused = λ n. ap inl e;
     sought = λ ok. absurd (k (e ∙ ok));
     refused-23 = λ ok. absurd (k (e ∙ ok));
     refused-24 = λ ok. absurd (k (e ∙ ok));
   };
-  whole = refused-whole _;
+  exact = refused-exact _;
 }
 
-pub answered : (b : List ℕ) {r : Finding} → refusal b ≡ 0 → AnswersOf b r → Answered b r
+pub answered : (b : List ℕ) {r : Finding} → refusal b ≡ 0 → AnswersOf b r → Sequenced b r
 answered b ok a = record {
-  sequenced = record {
+  sought = record {
     refused = λ n. absurd (n ok);
     sought = λ ok. a .sought;
     refused-23 = λ ok. sought-23 (a .sought);
     refused-24 = λ ok. sought-24 (a .sought);
   };
-  whole = a .whole;
+  exact = a .exact;
 }

@@ -12,7 +12,8 @@ use Rattle.plan_check.proofs.Accepted.{clean}
 use Rattle.plan_check.proofs.Meaning.{means, means-well-formed}
 use Rattle.plan_blocked.proofs.Refused.{none-under}
 use Rattle.plan_blocked.proofs.Standing.{all-stand}
-use Rattle.runs.specs.Plan.{all-of, kindNumber, Plan}
+use Rattle.runs.specs.Plan.{all-of, Plan}
+use Rattle.runs.specs.Numbers.{kindNumber}
 use Rattle.runs.specs.WellFormed.{WellFormed}
 use Rattle.runs.specs.Searches.{listed}
 use Rattle.runs.proofs.Blocked.Branches.{blocks-nothing}
@@ -29,7 +30,7 @@ use Rattle.sequence_search.specs.Search.{CHILDREN, count, InRange, RootChildren
 use Rattle.sequence.specs.declared.Finding.the-variants as finding
 use Rattle.sequence.specs.Inner.{Below, AnswersOf}
 use Rattle.sequence.proofs.Counted.{too-many-places}
-use Rattle.sequence.proofs.Answers.{refused-whole}
+use Rattle.sequence.proofs.Answers.{refused-exact}
 
 module _ {b standing kind from kids order conds : List ℕ} (ok : refusal b ≡ 0) (all : AllMarked standing)
     (t : TablesOf b standing kind from kids order conds) where
@@ -46,7 +47,7 @@ module _ {b standing kind from kids order conds : List ℕ} (ok : refusal b ≡ 
   pub not-all : ¬ (getD kind 0 0 ≡ 1) → AnswersOf b (finding.Refused 23)
   not-all k = record {
     sought = refused-23 (not-all-of (λ e. k (represents .kinds .is 0 (well .root-node) ∙ ap kindNumber e)));
-    whole = refused-whole 23;
+    exact = refused-exact 23;
   }
 
   -- the segment of the root
@@ -66,7 +67,7 @@ module _ {b standing kind from kids order conds : List ℕ} (ok : refusal b ≡ 
         })
 
     pub too-many : CHILDREN < count s → AnswersOf b (finding.Refused 23)
-    too-many l = record { sought = refused-23 (too-many-places well root l); whole = refused-whole 23 }
+    too-many l = record { sought = refused-23 (too-many-places well root l); exact = refused-exact 23 }
 
     pub below : {n : ℕ} {rows : List ℕ} → getD kind 0 0 ≡ 1 → n ≡ nodeCount b
         → BelowFilled kind from kids order conds rows n → Below (planOf b) kids s order rows

@@ -20,7 +20,7 @@ use Rattle.marks_words.specs.Words.{StartWord}
 use Rattle.sequences.specs.Sequences.{Sought}
 use Rattle.sequence_search.specs.Search.{count, childAt, RootChildren}
 use Rattle.sequence.specs.declared.Finding.{Finding}
-use Rattle.sequence.specs.Sequence.{foundIn, Whole}
+use Rattle.sequence.specs.Sequence.{foundIn, Exact}
 
 -- the bits of a mask are the places of the children whose code says that they stand before the one at place i
 pub record MaskOf (order kids : List ℕ) (s : Segment) (i mask : ℕ) : Type 0 where
@@ -46,7 +46,7 @@ pub record Below (p : Plan) (kids : List ℕ) (s : Segment) (order rows : List �
 -- what is sought, and as a word that has nothing else
 pub record Answers (p : Plan) (F : ℕ → Bool) (r : Finding) : Type 0 where
   pub sought : Sought p F (foundIn r)
-  pub whole : Whole r
+  pub exact : Exact r
 
 -- of every such plan, whatever flags a word says to be set at the start; of an accepted plan
 abbrev pub AnswersFrom : List ℕ → Segment → List ℕ → List ℕ → ℕ → Finding → Type 0

@@ -18,7 +18,7 @@ foundIn (Found w) = inr (sequenceIn w)
 
 -- a number or a list of nodes is an answer: 1 to 14 come first; then 23; 24, and no such sequence exists; or one that
 -- is sought
-pub record Sequenced (b : List ℕ) (a : ℕ ⊎ List ℕ) : Type 0 where
+pub record SoughtOf (b : List ℕ) (a : ℕ ⊎ List ℕ) : Type 0 where
   pub refused : refusal b ≢ 0 → a ≡ inl (refusal b)
   pub sought : refusal b ≡ 0 → Sought (planOf b) (startOf b) a
   pub refused-23 : refusal b ≡ 0 → (a ≡ inl 23) ↔ Refused23 (planOf b)
@@ -26,9 +26,9 @@ pub record Sequenced (b : List ℕ) (a : ℕ ⊎ List ℕ) : Type 0 where
       → (a ≡ inl 24) ↔ ((¬ Refused23 (planOf b)) × ((xs : List ℕ) → ¬ SerialClear (planOf b) (startOf b) xs))
 
 -- the word of a sequence has nothing but the sequence
-abbrev pub Whole : Finding → Type 0
-Whole r = (w : ℕ) → r ≡ Found w → w ≡ sequenceWord (sequenceIn w)
+abbrev pub Exact : Finding → Type 0
+Exact r = (w : ℕ) → r ≡ Found w → w ≡ sequenceWord (sequenceIn w)
 
-pub record Answered (b : List ℕ) (r : Finding) : Type 0 where
-  pub sequenced : Sequenced b (foundIn r)
-  pub whole : Whole r
+pub record Sequenced (b : List ℕ) (r : Finding) : Type 0 where
+  pub sought : SoughtOf b (foundIn r)
+  pub exact : Exact r

@@ -3,7 +3,7 @@ ghost use mathlib.Core.Path.{_≡_};
 ghost use Prim.Native.Nat.{_<_};
 ghost use Rattle.plan_rules.specs.Rules.{refusal};
 ghost use Rattle.sequence_search.specs.Search.{count, InRange};
-ghost use Rattle.sequence.specs.Sequence.{Answered};
+ghost use Rattle.sequence.specs.Sequence.{Sequenced};
 ghost use Rattle.sequence.specs.Inner.{MaskOf, MasksOf, CalmIn, AnswersFrom, AnswersOf};
 use base::ALL;
 use base::kinds::ALL_OF;
@@ -148,7 +148,7 @@ fn first_sequence(plan: &[u8]) -> Finding
 
 // A refusal, 1 to 14, 23 or 24, or a sequence of all the root's children under which the answer is CLEAR.
 pub fn sequence(plan: &[u8]) -> Finding
-    ensures { λ r. ⌜ Answered (now (plan .entry)) r ⌝ }
+    ensures { λ r. ⌜ Sequenced (now (plan .entry)) r ⌝ }
 {
     let r = check(plan);
     if r != 0 {

@@ -28,7 +28,7 @@ use Rattle.marks_row.specs.Columns.{avoid, may-pre, may-post, wordIn}
 use Rattle.sequences.specs.Model.{MayBeTrue, AllSeen, MayFollow}
 use Rattle.sequences.proofs.Reflect.{true-next, safe-on-flags}
 use Rattle.sequence_search.specs.declared.Reach.{Reach}
-use Rattle.sequence_search.specs.Search.{count, childAt, followsB, after, Tabled, wordFor, ComeTo}
+use Rattle.sequence_search.specs.Search.{count, childAt, followsB, after, Tabled, flagsFor, ComeTo}
 use Rattle.sequence_search.proofs.Places.{is-child, place-of, same-place}
 
 one-says : (k f : ℕ) → Says (2 ^ k) f (f ≡ k)
@@ -79,13 +79,13 @@ module _ {p : Plan} {F : ℕ → Bool} {rows kids masks : List ℕ} {s : Segment
     says-early j = says-less refl (t .before i j li) (says-self (r .seen) j)
 
     -- of either sign: a literal that the child may need, and whose opposite may be true
-    says-clash : (v : Bool) (f : ℕ) → f < 64 → Says (bitAnd (wordIn rows child (may-pre v)) (wordFor r (not v))) f
+    says-clash : (v : Bool) (f : ℕ) → f < 64 → Says (bitAnd (wordIn rows child (may-pre v)) (flagsFor r (not v))) f
         (May p child (ExternalPre p f v) × MayBeTrue p F f (not v) seen)
     says-clash v f l =
         says-and refl (t .right child (is-child (t .root) li) .says (may-pre v) f l) (cm .may-be (not v) f l)
 
     follow : bitAnd (r .seen) (2 ^ i) ≡ 0 → bitXor mask (bitAnd mask (r .seen)) ≡ 0
-        → ((v : Bool) → bitAnd (wordIn rows child (may-pre v)) (wordFor r (not v)) ≡ 0) → MayFollow p F seen child
+        → ((v : Bool) → bitAnd (wordIn rows child (may-pre v)) (flagsFor r (not v)) ≡ 0) → MayFollow p F seen child
     follow za ze zc = record {
       child = is-child (t .root) li;
       new = λ x. no-flag _ i za ((says-again i) .from ((cm .places i li) .from x, refl));
@@ -114,13 +114,13 @@ module _ {p : Plan} {F : ℕ → Bool} {rows kids masks : List ℕ} {s : Segment
       not-early = no-bit-at-all _
           (λ j x. let (y, n) = (says-early j) .to x in n ((cm .places j (y .0)) .from (m .ordered _ (y .1))))
 
-      no-clash : (v : Bool) → wordFor r (not v) < 2 ^ 64
-          → bitAnd (wordIn rows child (may-pre v)) (wordFor r (not v)) ≡ 0
-      no-clash v b = no-bits _ (omega (arith, b, and-le-r (wordIn rows child (may-pre v)) (wordFor r (not v))))
+      no-clash : (v : Bool) → flagsFor r (not v) < 2 ^ 64
+          → bitAnd (wordIn rows child (may-pre v)) (flagsFor r (not v)) ≡ 0
+      no-clash v b = no-bits _ (omega (arith, b, and-le-r (wordIn rows child (may-pre v)) (flagsFor r (not v))))
           (λ f l x. let (y, z) = (says-clash v f l) .to x in m .safe f v y z)
 
     -- the four tests in one word
-    pub follows : ((v : Bool) → wordFor r v < 2 ^ 64)
+    pub follows : ((v : Bool) → flagsFor r v < 2 ^ 64)
         → (followsB rows child mask (2 ^ i) r ≡ true) ↔ MayFollow p F seen child
     follows wide = (to, from)
       where
@@ -133,7 +133,7 @@ module _ {p : Plan} {F : ℕ → Bool} {rows kids masks : List ℕ} {s : Segment
           where
             at : (v : Bool) → bitAnd (wordIn rows child (may-pre true)) (r .clear) ≡ 0
                 → bitAnd (wordIn rows child (may-pre false)) (r .set) ≡ 0
-                → bitAnd (wordIn rows child (may-pre v)) (wordFor r (not v)) ≡ 0
+                → bitAnd (wordIn rows child (may-pre v)) (flagsFor r (not v)) ≡ 0
             at true z1 z0 = z1
             at false z1 z0 = z0
 
@@ -178,7 +178,7 @@ module _ {p : Plan} {F : ℕ → Bool} {rows kids masks : List ℕ} {s : Segment
             ∙ ap not (sym (bit-or (r .seen) (2 ^ i) j))
 
         may-be : (v : Bool) (f : ℕ) → f < 64
-            → Says (wordFor (after rows child (2 ^ i) r) v) f (MayBeTrue p F f v (child ∷ seen))
+            → Says (flagsFor (after rows child (2 ^ i) r) v) f (MayBeTrue p F f v (child ∷ seen))
         may-be true f l = says-map (Iff·symm (true-next p (t .well-formed) F)) (says-or refl
             (t .right child (is-child (t .root) li) .says (may-post true) f l)
             (says-and refl (t .right child (is-child (t .root) li) .says avoid f l) (cm .may-be true f l)))

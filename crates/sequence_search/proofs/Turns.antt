@@ -19,26 +19,26 @@ use Rattle.sequences.specs.Word.{packed}
 use Rattle.sequences.proofs.Word.{one-byte-more, bytes-lt}
 use Rattle.sequences.proofs.Search.{ends-here, not-next, nothing-behind, goes-on, ends-nowhere}
 use Rattle.sequence_search.specs.declared.Reach.{Reach}
-use Rattle.sequence_search.specs.declared.Found.{Found}
-use Rattle.sequence_search.specs.Search.{count, childAt, followsB, after, InRange, Tabled, wordFor, ComeTo, Holds}
+use Rattle.sequence_search.specs.declared.Ending.{Ending}
+use Rattle.sequence_search.specs.Search.{count, childAt, followsB, after, InRange, Tabled, flagsFor, ComeTo, Carries}
 use Rattle.sequence_search.specs.Search.{nothing, nodes, Finds, DeadTo}
 use Rattle.sequence_search.proofs.Places.{place-of, lower, child-small}
 use Rattle.sequence_search.proofs.Follows.{none-left, some-left, follows, next-come}
 
 -- both words of a search have 64 bits
-pub both-wide : (r : Reach) → r .set < 2 ^ 64 → r .clear < 2 ^ 64 → (v : Bool) → wordFor r v < 2 ^ 64
+pub both-wide : (r : Reach) → r .set < 2 ^ 64 → r .clear < 2 ^ 64 → (v : Bool) → flagsFor r v < 2 ^ 64
 both-wide r l1 l0 true = l1
 both-wide r l1 l0 false = l0
 
 module _ (rows kids : List ℕ) (s : Segment) (masks : List ℕ) (r : Reach) where
   -- nothing is left
-  pub finds-all : {z : Found} → r .left ≡ 0 → z .found ≡ true → z .word ≡ 0 → Finds rows kids s masks r z
+  pub finds-all : {z : Ending} → r .left ≡ 0 → z .found ≡ true → z .word ≡ 0 → Finds rows kids s masks r z
   unfolding packed
   finds-all e f g p F seen t cm =
       (some [], ends-here (none-left t cm e), nodes {xs = []} f g (omega (arith, e)) (rw e (omega arith)))
 
   -- every child is a dead end
-  pub finds-none : {z : Found} {i : ℕ} → (r .left ≡ 0 → ⊥) → count s ≤ i → DeadTo rows kids s masks r i
+  pub finds-none : {z : Ending} {i : ℕ} → (r .left ≡ 0 → ⊥) → count s ≤ i → DeadTo rows kids s masks r i
       → z .found ≡ false → Finds rows kids s masks r z
   finds-none n l d f p F seen t cm = (none, ends-nowhere (some-left t cm n) dead, nothing f)
     where
@@ -46,7 +46,7 @@ module _ (rows kids : List ℕ) (s : Segment) (masks : List ℕ) (r : Reach) whe
       dead c h = let (j, lj, e) = place-of (t .root) h in rw e at (d p F seen t cm j (omega (arith, lj, l)))
 
   -- the child at place i
-  module _ {i : ℕ} (g : InRange kids s) (li : i < count s) (wide : (v : Bool) → wordFor r v < 2 ^ 64) where
+  module _ {i : ℕ} (g : InRange kids s) (li : i < count s) (wide : (v : Bool) → flagsFor r v < 2 ^ 64) where
     -- it is a dead end
     abbrev DeadAt : Type 0
     DeadAt = (p : Plan) (F : ℕ → Bool) (seen : List ℕ) → Tabled p rows kids s masks → ComeTo p F kids s seen r
@@ -70,11 +70,11 @@ module _ (rows kids : List ℕ) (s : Segment) (masks : List ℕ) (r : Reach) whe
       pub refused-dead : a ≡ false → DeadAt
       refused-dead e p F seen t cm = not-next (λ m. let q = (may-follow t cm) .1 m in clash cc)
 
-      module _ (fe : a ≡ true) {next : Reach} (en : next ≡ after rows c o r) {y : Found}
+      module _ (fe : a ≡ true) {next : Reach} (en : next ≡ after rows c o r) {y : Ending}
           (fi : Finds rows kids s masks next y) where
         behind : {p : Plan} {F : ℕ → Bool} {seen : List ℕ} → Tabled p rows kids s masks → ComeTo p F kids s seen r
             → MayFollow p F seen (childAt kids s i)
-            × ((o : Option (List ℕ)) × FirstRest p F (childAt kids s i ∷ seen) o × Holds (r .left - 1) y o)
+            × ((o : Option (List ℕ)) × FirstRest p F (childAt kids s i ∷ seen) o × Carries (r .left - 1) y o)
         behind t cm =
             let m = (may-follow t cm) .0 fe in
             (m, rw (en, ec, eo) at fi _ _ _ t (next-come t cm li m))
@@ -82,12 +82,12 @@ module _ (rows kids : List ℕ) (s : Segment) (masks : List ℕ) (r : Reach) whe
         pub empty-dead : y .found ≡ false → DeadAt
         empty-dead e p F seen t cm = let (m, (o, fr, h)) = behind t cm in at fr h
           where
-            at : {o : Option (List ℕ)} → FirstRest p F (childAt kids s i ∷ seen) o → Holds (r .left - 1) y o
+            at : {o : Option (List ℕ)} → FirstRest p F (childAt kids s i ∷ seen) o → Carries (r .left - 1) y o
                 → DeadEnd p F seen (childAt kids s i)
             at fr (nothing q) = nothing-behind fr
             at fr (nodes q x l b) = clash cc
 
-        pub finds-more : {z : Found} → (r .left ≡ 0 → ⊥) → DeadTo rows kids s masks r i → y .found ≡ true
+        pub finds-more : {z : Ending} → (r .left ≡ 0 → ⊥) → DeadTo rows kids s masks r i → y .found ≡ true
             → z .found ≡ true → z .word ≡ bitOr ((y .word * 2 ^ 8) % 2 ^ 64) (childAt kids s i)
             → Finds rows kids s masks r z
         unfolding packed
@@ -102,8 +102,8 @@ module _ (rows kids : List ℕ) (s : Segment) (masks : List ℕ) (r : Reach) whe
                 rw q at (d p F seen t cm j (lower (t .root) li lj (rw (← q) at l)))
 
             at : MayFollow p F seen (childAt kids s i) → {o : Option (List ℕ)}
-                → FirstRest p F (childAt kids s i ∷ seen) o → Holds (r .left - 1) y o
-                → (o : Option (List ℕ)) × FirstRest p F seen o × Holds (r .left) z o
+                → FirstRest p F (childAt kids s i ∷ seen) o → Carries (r .left - 1) y o
+                → (o : Option (List ℕ)) × FirstRest p F seen o × Carries (r .left) z o
             at m fr (nothing k) = clash cc
             at m fr (nodes {xs = xs} k x l b) = (
               some (childAt kids s i ∷ xs),

@@ -19,7 +19,7 @@ use Rattle.marks_row.specs.Columns.{avoid, may-pre, may-post, wordIn, Right}
 use Rattle.sequences.specs.Model.{MayBeTrue, DeadEnd, FirstRest}
 use Rattle.sequences.specs.Word.{packed}
 use Rattle.sequence_search.specs.declared.Reach.{Reach}
-use Rattle.sequence_search.specs.declared.Found.{Found}
+use Rattle.sequence_search.specs.declared.Ending.{Ending}
 
 -- the children of the root, at most
 abbrev pub CHILDREN : ℕ
@@ -66,26 +66,26 @@ pub record Tabled (p : Plan) (rows kids : List ℕ) (s : Segment) (masks : List 
       → Says (getD masks i 0) j ((j < count s) × Before p (childAt kids s j) (childAt kids s i))
 
 -- the flags that may have a value
-abbrev pub wordFor : Reach → Bool → ℕ
-wordFor r true = r .set
-wordFor r false = r .clear
+abbrev pub flagsFor : Reach → Bool → ℕ
+flagsFor r true = r .set
+flagsFor r false = r .clear
 
 -- the search has come to the nodes `seen`, the newest first
 pub record ComeTo (p : Plan) (F : ℕ → Bool) (kids : List ℕ) (s : Segment) (seen : List ℕ) (r : Reach) : Type 0 where
   pub places : (i : ℕ) → i < count s → Says (r .seen) i (Among (childAt kids s i) seen)
   pub left : countBelow (count s) (λ i. not (bit (r .seen) i)) ≡ r .left
-  pub may-be : (v : Bool) (f : ℕ) → f < 64 → Says (wordFor r v) f (MayBeTrue p F f v seen)
+  pub may-be : (v : Bool) (f : ℕ) → f < 64 → Says (flagsFor r v) f (MayBeTrue p F f v seen)
 
 -- what is found: nothing, or a list of n nodes
-pub data Holds (n : ℕ) (r : Found) : Option (List ℕ) → Type 0 where
-  nothing : r .found ≡ false → Holds n r none
+pub data Carries (n : ℕ) (r : Ending) : Option (List ℕ) → Type 0 where
+  nothing : r .found ≡ false → Carries n r none
   nodes : {xs : List ℕ} → r .found ≡ true → r .word ≡ packed xs → length xs ≡ n → packed xs < 2 ^ (8 * n)
-      → Holds n r (some xs)
+      → Carries n r (some xs)
 
 -- of every plan that the tables fit, and wherever the search has come to: the first rest after it
-abbrev pub Finds : List ℕ → List ℕ → Segment → List ℕ → Reach → Found → Type 0
+abbrev pub Finds : List ℕ → List ℕ → Segment → List ℕ → Reach → Ending → Type 0
 Finds rows kids s before r z = (p : Plan) (F : ℕ → Bool) (seen : List ℕ) → Tabled p rows kids s before
-    → ComeTo p F kids s seen r → (o : Option (List ℕ)) × FirstRest p F seen o × Holds (r .left) z o
+    → ComeTo p F kids s seen r → (o : Option (List ℕ)) × FirstRest p F seen o × Carries (r .left) z o
 
 -- the children at the places below i are dead ends
 abbrev pub DeadTo : List ℕ → List ℕ → Segment → List ℕ → Reach → ℕ → Type 0

@@ -28,7 +28,7 @@ pub struct Reach {
 }
 
 // What a search comes to: the rest of a sequence, its first node in the lowest byte.
-pub struct Found {
+pub struct Ending {
     pub found: bool,
     pub word: u64,
 }
@@ -69,12 +69,12 @@ fn moved_on(rows: &Rows, child: usize, own: u64, reach: Reach) -> Reach
 
 // The first rest of a sequence after the children seen, if there is one: the children are tried in rising order, and
 // one that may not come next is left at once.
-pub fn search(rows: &Rows, kids: &Nodes, segment: Segment, before: &Masks, reach: Reach) -> Found
+pub fn search(rows: &Rows, kids: &Nodes, segment: Segment, before: &Masks, reach: Reach) -> Ending
     requires { ⌜ InRange (now kids) segment ⌝ }
     ensures { λ r. ⌜ Finds (now (rows .entry)) (now (kids .entry)) segment (now (before .entry)) reach r ⌝ }
 {
     if reach.left == 0 {
-        return Found {
+        return Ending {
             found: true,
             word: 0,
         };
@@ -89,7 +89,7 @@ pub fn search(rows: &Rows, kids: &Nodes, segment: Segment, before: &Masks, reach
             let next = moved_on(rows, child, own, reach);
             let rest = search(rows, kids, segment, before, next);
             if rest.found {
-                return Found {
+                return Ending {
                     found: true,
                     word: (rest.word << 8) | byte_word(byte),
                 };
@@ -97,7 +97,7 @@ pub fn search(rows: &Rows, kids: &Nodes, segment: Segment, before: &Masks, reach
         }
         i += 1;
     }
-    Found {
+    Ending {
         found: false,
         word: 0,
     }
