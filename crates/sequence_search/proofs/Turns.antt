@@ -20,8 +20,8 @@ use Rattle.sequences.proofs.Word.{one-byte-more, bytes-lt}
 use Rattle.sequences.proofs.Search.{ends-here, not-next, nothing-behind, goes-on, ends-nowhere}
 use Rattle.sequence_search.specs.declared.Reach.{Reach}
 use Rattle.sequence_search.specs.declared.Ending.{Ending}
-use Rattle.sequence_search.specs.Search.{count, childAt, followsB, after, InRange, Tabled, flagsFor, ComeTo, Carries}
-use Rattle.sequence_search.specs.Search.{nothing, nodes, Finds, DeadTo}
+use Rattle.sequence_search.specs.Search.{count, childAt, followsB, after, InRange, Tabled, flagsFor, ComeTo}
+use Rattle.sequence_search.specs.Search.{Carries, nothing, nodes, Finds, DeadTo}
 use Rattle.sequence_search.proofs.Places.{place-of, lower, child-small}
 use Rattle.sequence_search.proofs.Follows.{none-left, some-left, follows, next-come}
 
