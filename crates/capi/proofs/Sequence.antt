@@ -7,14 +7,12 @@ use Prim.Native.Nat.{ℕ, _^_, _≤_, _<_}
 use native.Mathlib.Nat.{div-eq-of-lt}
 use native.Mathlib.Omega.{arith}
 use native.Mathlib.Decide.{ℕ-discrete, decLt}
+use lib.ListN.{length}
 use borrow.Author.Tests.{lt-ltb, le-ltb}
 use Rattle.plan_rules.specs.Rules.{refusal}
-use Rattle.plan_check.proofs.Accepted.{clean}
-use Rattle.plan_check.proofs.Meaning.{meaning-accepted}
-use Rattle.runs.proofs.Reflect.{clash}
 use Rattle.listing.proofs.Printed.{refusal-limit}
 use Rattle.sequences.specs.Word.{lowBytes, sequenceIn}
-use Rattle.sequences.proofs.Cases.{sought-number, sought-some}
+use Rattle.sequences.proofs.Cases.{sought-number}
 use Rattle.sequence.specs.declared.Finding.{Finding}
 use Rattle.sequence.specs.declared.Finding.the-variants.{Refused, Found}
 use Rattle.sequence.specs.Sequence.{SoughtOf, Sequenced}
@@ -42,15 +40,12 @@ module _ (b : List ℕ) where
   -- the word of a sequence is a great one: below 2^56 it would tell an empty sequence
   great : {w : ℕ} → SoughtOf b (inr (sequenceIn w)) → 2 ^ 56 ≤ w
   unfolding lowBytes
-  great {w} s = by-cases (decLt w (2 ^ 56)) (λ (l : w < 2 ^ 56). absurd (at l (ℕ-discrete (refusal b) 0)))
+  great {w} s = by-cases (decLt w (2 ^ 56))
+      (λ (l : w < 2 ^ 56). absurd (omega (arith, s .sized (sequenceIn w) refl .0, ap length (empty l))))
       (λ n. omega (arith, n))
     where
       empty : w < 2 ^ 56 → sequenceIn w ≡ []
       empty l = ap (λ (n : ℕ). lowBytes n w) (div-eq-of-lt l)
-
-      at : w < 2 ^ 56 → Dec (refusal b ≡ 0) → ⊥
-      at l (yes ok) = sought-some (meaning-accepted b (clean b ok)) (s .sought ok) (ap inr (empty l))
-      at l (no k) = let e = s .refused k in clash cc
 
   pub sequence-told : (f : Finding) {r : ℕ} → Sequenced b f → r ≡ findingNumber f → SequenceNumber b r
   sequence-told (Refused n) a e =

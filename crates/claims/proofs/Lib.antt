@@ -2,5 +2,5 @@
 pub mod Left
 -- `blocking-promise` and `orders-promise`: 02's two promises hold.
 pub mod Promises
--- `sequences-agree`: a CLEAR plan has a sequence (101), a DOOMED one has none.
+-- `sequences-agree`: a CLEAR plan meets 23 or has a sequence (101), a DOOMED one has none.
 pub mod Sequences

@@ -1,4 +1,4 @@
--- A CLEAR plan always has a sequence, a DOOMED one never. Assumes nothing.
+-- A CLEAR plan meets 23 or has a sequence, a DOOMED one has none. Assumes nothing.
 use mathlib.Core.Path.{_≡_, sym, _∙_, subst}
 use mathlib.Core.Logic.{inr, by-cases}
 use mathlib.Core.List.{List, []}

@@ -1,5 +1,5 @@
--- What `assess` and the call for a sequence answer for one plan: a CLEAR plan always has a sequence, a DOOMED one never
--- (101). Definitions only.
+-- What `assess` and the call for a sequence answer for one plan: for a CLEAR plan 23 or a sequence, for a DOOMED one no
+-- sequence (101). Definitions only.
 use mathlib.Core.Path.{_≡_}
 use mathlib.Core.Logic.{_≢_, _⊎_, inl, inr}
 use mathlib.Core.List.{List, []}
@@ -10,7 +10,7 @@ use Rattle.verdict.specs.Verdict.{said, Assessed}
 use Rattle.sequence.specs.Sequence.{SoughtOf}
 
 pub record SequenceAgrees (a : Answer) (s : ℕ ⊎ List ℕ) : Type 0 where
-  pub clear : said a ≡ inr CLEAR → s ≢ inl 24
+  pub clear : said a ≡ inr CLEAR → (s ≡ inl 23) ⊎ ((xs : List ℕ) × (s ≡ inr xs))
   pub doomed : said a ≡ inr DOOMED → (xs : List ℕ) → s ≢ inr xs
 
 abbrev pub SequencesAgree : Type 0

@@ -16,6 +16,9 @@ use Rattle.base.proofs.Says.{says-map, says-none, says-not}
 use Rattle.runs.specs.Plan.{Plan, Child, Before}
 use Rattle.runs.specs.Summary.{MayClobber}
 use Rattle.plan_rules.specs.Rules.{refusal}
+use Rattle.plan_check.proofs.Accepted.{clean}
+use Rattle.plan_check.proofs.Meaning.{meaning-accepted}
+use Rattle.plan_check.proofs.Nodes.{node-is}
 use Rattle.runs.proofs.Reflect.{clash}
 use Rattle.tables.specs.declared.Segment.{Segment}
 use Rattle.tables.specs.Represents.{beforeCode, code}
@@ -23,7 +26,7 @@ use Rattle.marks_row.specs.Columns.{may-clobber}
 use Rattle.marks_words.specs.Words.{StartWord}
 use Rattle.sequences.specs.Model.{Calm, MayBeTrue}
 use Rattle.sequences.specs.Word.{packed, sequenceWord, sequenceIn}
-use Rattle.sequences.proofs.Cases.{sought-23, sought-24}
+use Rattle.sequences.proofs.Cases.{sought-23, sought-24, sought-sized, sought-children}
 use Rattle.sequences.proofs.Ranks.{count-all}
 use Rattle.sequences.proofs.Reflect.{true-start, calm-on-flags}
 use Rattle.sequences.proofs.Search.{Searched, first-clear, calm-searched, restless-searched}
@@ -190,6 +193,8 @@ answered-refused b e k = record {
     sought = λ ok. absurd (k (e ∙ ok));
     refused-23 = λ ok. absurd (k (e ∙ ok));
     refused-24 = λ ok. absurd (k (e ∙ ok));
+    sized = λ xs q. clash cc;
+    nodes = λ xs q. clash cc;
   };
   exact = refused-exact _;
 }
@@ -201,6 +206,8 @@ answered b ok a = record {
     sought = λ ok. a .sought;
     refused-23 = λ ok. sought-23 (a .sought);
     refused-24 = λ ok. sought-24 (a .sought);
+    sized = sought-sized (meaning-accepted b (clean b ok)) (a .sought);
+    nodes = λ xs e c i. node-is b c (sought-children (a .sought) xs e c i .node);
   };
   exact = a .exact;
 }

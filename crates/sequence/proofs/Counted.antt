@@ -60,8 +60,8 @@ module _ {p : Plan} {kids : List ℕ} {s : Segment} (w : WellFormed p) (t : Root
       more : countBelow (p .tree .size) (placedB n) ≡ n → suc (countBelow (p .tree .size) (placedB n)) ≡ suc n
       more e = omega (arith, e)
 
-  counted : childCount p ≡ count s
-  counted = count-same (p .tree .size) (childB p 0) (placedB (count s))
+  pub as-many-places : childCount p ≡ count s
+  as-many-places = count-same (p .tree .size) (childB p 0) (placedB (count s))
       (λ c m. same _ _
       (λ e. T-true _ ((r-placed (count s) c) .from (place-of t ((r-child p 0 c) .to (true-T _ e)))))
       (λ e. let (i, j, q) = (r-placed (count s) c) .to (true-T _ e) in
@@ -70,11 +70,11 @@ module _ {p : Plan} {kids : List ℕ} {s : Segment} (w : WellFormed p) (t : Root
 
   -- 23 by the places
   pub too-many-places : CHILDREN < count s → Refused23 p
-  too-many-places l = (refused-is p w) .0 (inr (omega (arith, counted, l)))
+  too-many-places l = (refused-is p w) .0 (inr (omega (arith, as-many-places, l)))
 
   pub passes-23 : p .tree .kind 0 ≡ all-of → count s ≤ CHILDREN → ¬ Refused23 p
   passes-23 k l x = at ((refused-is p w) .1 x)
     where
       at : (p .tree .kind 0 ≢ all-of) ⊎ (7 < childCount p) → ⊥
       at (inl n) = n k
-      at (inr m) = omega (arith, counted, l, m)
+      at (inr m) = omega (arith, as-many-places, l, m)

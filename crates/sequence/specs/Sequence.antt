@@ -2,8 +2,10 @@
 -- Definitions only.
 use mathlib.Core.Path.{_≡_}
 use mathlib.Core.Logic.{_≢_, _⊎_, inl, inr, _↔_}
-use mathlib.Core.List.{List}
-use Prim.Native.Nat.{ℕ}
+use mathlib.Core.List.{List, List·Memᴰ as Among}
+use Prim.Native.Nat.{ℕ, _≤_, _<_}
+use lib.ListN.{length}
+use Rattle.plan_format.specs.Format.{nodeCount}
 use Rattle.plan_rules.specs.Rules.{refusal}
 use Rattle.plan_check.specs.Meaning.{planOf, startOf}
 use Rattle.sequences.specs.Sequences.{Refused23, SerialClear, Sought}
@@ -24,6 +26,9 @@ pub record SoughtOf (b : List ℕ) (a : ℕ ⊎ List ℕ) : Type 0 where
   pub refused-23 : refusal b ≡ 0 → (a ≡ inl 23) ↔ Refused23 (planOf b)
   pub refused-24 : refusal b ≡ 0
       → (a ≡ inl 24) ↔ ((¬ Refused23 (planOf b)) × ((xs : List ℕ) → ¬ SerialClear (planOf b) (startOf b) xs))
+  -- a sequence has 1 to 7 nodes, each of the plan
+  pub sized : (xs : List ℕ) → a ≡ inr xs → (0 < length xs) × (length xs ≤ 7)
+  pub nodes : (xs : List ℕ) → a ≡ inr xs → (c : ℕ) → Among c xs → c < nodeCount b
 
 -- the word of a sequence has nothing but the sequence
 abbrev pub Exact : Finding → Type 0

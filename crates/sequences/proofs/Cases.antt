@@ -1,8 +1,12 @@
--- The cases of an answer: they exclude each other, and each is told by its number or by a list with a node.
-use Rattle.runs.proofs.Base.{_≡_, refl, _≢_, _⊎_, inl, inr, _↔_, Bool, List, [], among-none, ℕ}
-use Rattle.runs.specs.Plan.{Plan}
+-- The cases of an answer: they exclude each other; a refusal is 23 or 24, and a sequence has 1 to 7 of the root's
+-- children.
+use native.Mathlib.Decide.{decLt}
+use Rattle.runs.proofs.Base.{_≡_, refl, _⊎_, inl, inr, _↔_, Bool, List, [], _∷_, Among, among-none, ℕ, _<_, _≤_}
+use Rattle.runs.proofs.Base.{arith, length}
+use Rattle.runs.specs.Plan.{Plan, Child}
 use Rattle.runs.specs.WellFormed.{Accepted}
-use Rattle.sequences.specs.Sequences.{Refused23, SerialClear, Sought, refused-23, refused-24, found}
+use Rattle.sequences.specs.Sequences.{Refused23, SerialClear, too-many, Sought, refused-23, refused-24}
+use Rattle.sequences.specs.Sequences.{found}
 use Rattle.runs.proofs.Reflect.{clash}
 use Rattle.sequences.proofs.Rising.{root-all-of}
 
@@ -30,10 +34,25 @@ module _ {p : Plan} {F : ℕ → Bool} where
   sought-number (refused-24 k x) n e = inr (number-of e)
   sought-number (found k x) n e = clash cc
 
-  -- a sequence has a node, since a group has a child
-  pub sought-some : Accepted p → {a : ℕ ⊎ List ℕ} → Sought p F a → a ≢ inr []
-  sought-some ok (refused-23 x) e = clash cc
-  sought-some ok (refused-24 k x) e = clash cc
-  sought-some ok (found {xs = xs} k x) e =
-      let (c, h) = ok .has-child 0 (ok .some-node) (λ q. let z = root-all-of k in clash cc) in
-      among-none (rw (list-of e) at (x .sequence .every c h))
+  -- a sequence has 1 to 7 nodes, since a group has a child and 23 does not apply; they are children of the root
+  pub sought-sized : Accepted p → {a : ℕ ⊎ List ℕ} → Sought p F a → (xs : List ℕ) → a ≡ inr xs
+      → (0 < length xs) × (length xs ≤ 7)
+  sought-sized ok (refused-23 x) xs e = clash cc
+  sought-sized ok (refused-24 k x) xs e = clash cc
+  sought-sized ok (found {xs = ys} k x) xs e = rw (← list-of e) (some ys x, few (decLt 7 (length ys)))
+    where
+      some : (zs : List ℕ) → SerialClear p F zs → 0 < length zs
+      some [] y =
+          let (c, h) = ok .has-child 0 (ok .some-node) (λ q. let z = root-all-of k in clash cc) in
+          absurd (among-none (y .sequence .every c h))
+      some (z ∷ zs) y = omega arith
+
+      few : Dec (7 < length ys) → length ys ≤ 7
+      few (yes l) = absurd (k (too-many ys l (x .sequence .once) (x .sequence .child)))
+      few (no n) = omega (arith, n)
+
+  pub sought-children : {a : ℕ ⊎ List ℕ} → Sought p F a → (xs : List ℕ) → a ≡ inr xs → (c : ℕ) → Among c xs
+      → Child p 0 c
+  sought-children (refused-23 x) xs e c i = clash cc
+  sought-children (refused-24 k x) xs e c i = clash cc
+  sought-children (found k x) xs e c i = x .sequence .child c (rw (← list-of e) at i)

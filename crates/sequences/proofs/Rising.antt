@@ -1,6 +1,6 @@
 -- Where orders rise in number, as the rules ask, the root's children in rising order are a sequence; so a CLEAR plan
 -- has one under which it is CLEAR, and a DOOMED plan has none.
-use Rattle.runs.proofs.Base.{_≡_, _≢_, _⊎_, inl, inr, Bool, true, false, cond, List, [], _∷_, Among, here, there}
+use Rattle.runs.proofs.Base.{_≡_, refl, _≢_, _⊎_, inl, inr, Bool, true, false, cond, List, [], _∷_, Among, here, there}
 use Rattle.runs.proofs.Base.{among-none, among-cases, ℕ, zero, suc, _+_, _<_, _≤_, arith, ℕ-discrete, T}
 use Rattle.runs.specs.Plan.{all-of, Plan, Child}
 use Rattle.runs.specs.WellFormed.{WellFormed, Accepted}
@@ -108,12 +108,13 @@ module _ (p : Plan) where
 pub root-all-of : {p : Plan} → ¬ Refused23 p → p .tree .kind 0 ≡ all-of
 root-all-of k = force (decided (r-kind _ _)) (λ n. k (not-all-of n))
 
--- an accepted plan that is CLEAR never meets 24, and for one that is DOOMED no sequence is found
-pub clear-found : (p : Plan) → Accepted p → (F : ℕ → Bool) → Clear p F → {a : ℕ ⊎ List ℕ} → Sought p F a → a ≢ inl 24
-clear-found p ok F c (refused-23 y) e = clash cc
-clear-found p ok F c (found n y) e = clash cc
-clear-found p ok F c (refused-24 n y) e =
-    y _ ((serial-clears p _) .1 (sq, clear-serial p w F (root-all-of n) _ sq c))
+-- for an accepted plan that is CLEAR the answer is 23 or a sequence, and for one that is DOOMED it is no sequence
+pub clear-found : (p : Plan) → Accepted p → (F : ℕ → Bool) → Clear p F → {a : ℕ ⊎ List ℕ} → Sought p F a
+    → (a ≡ inl 23) ⊎ ((xs : List ℕ) × (a ≡ inr xs))
+clear-found p ok F c (refused-23 y) = inl refl
+clear-found p ok F c (found {xs = xs} n y) = inr (xs, refl)
+clear-found p ok F c (refused-24 n y) =
+    absurd (y _ ((serial-clears p _) .1 (sq, clear-serial p w F (root-all-of n) _ sq c)))
   where
     w : WellFormed p
     w = accepted-well-formed p ok
