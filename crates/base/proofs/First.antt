@@ -1,10 +1,10 @@
 -- The first of two refusals. Assumes nothing.
 use mathlib.Core.Path.{_≡_, refl}
-use mathlib.Core.Logic.{inl, inr}
+use mathlib.Core.Logic.{_⊎_, inl, inr}
 use mathlib.Core.Bool.{Bool, true, false, cond}
 use Prim.Native.Nat.{ℕ, zero, suc}
 use native.Mathlib.Omega.{arith}
-use Rattle.base.specs.Answers.{first, refusedOr}
+use Rattle.base.specs.Answers.{first, refusedOr, refusedElse}
 
 pub first-none : (r k : ℕ) → r ≡ 0 → k ≡ first r k
 first-none r k e = rw e
@@ -28,3 +28,10 @@ answer-none r x e = rw e
 pub answer-some : {A : Type 0} (r : ℕ) (x : A) → (r ≡ 0 → ⊥) → inl r ≡ refusedOr r x
 answer-some zero x n = absurd (n refl)
 answer-some (suc r) x n = refl
+
+pub else-none : {A : Type 0} (r : ℕ) (a : ℕ ⊎ A) → r ≡ 0 → a ≡ refusedElse r a
+else-none r a e = rw e
+
+pub else-some : {A : Type 0} (r : ℕ) (a : ℕ ⊎ A) → (r ≡ 0 → ⊥) → inl r ≡ refusedElse r a
+else-some zero a n = absurd (n refl)
+else-some (suc r) a n = refl

@@ -14,6 +14,11 @@ abbrev pub refusedOr : {A : Type 0} → ℕ → A → ℕ ⊎ A
 refusedOr zero x = inr x
 refusedOr (suc r) x = inl (suc r)
 
+-- a refusal, or what is answered where there is none
+abbrev pub refusedElse : {A : Type 0} → ℕ → ℕ ⊎ A → ℕ ⊎ A
+refusedElse zero a = a
+refusedElse (suc r) a = inl (suc r)
+
 -- xs with f i in the place of each element i below n
 unfoldable pub overlay : (ℕ → ℕ) → ℕ → List ℕ → List ℕ
 overlay f zero xs = xs

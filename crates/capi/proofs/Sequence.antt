@@ -50,7 +50,11 @@ module _ (b : List ℕ) where
   pub sequence-told : (f : Finding) {r : ℕ} → Sequenced b f → r ≡ findingNumber f → SequenceNumber b r
   sequence-told (Refused n) a e =
       let t : toldBy n ≡ inl n = rw (lt-ltb n (2 ^ 56) (small (a .sought))) in
-      rw e (record { sought = rw t (a .sought); returns = rw t })
+      rw e (record { returns = ap sequenceNumber (a .returns); sought = rw t (a .sought); exact = rw t })
   sequence-told (Found w) a e =
       let t : toldBy w ≡ inr (sequenceIn w) = rw (le-ltb w (2 ^ 56) (great (a .sought))) in
-      rw e (record { sought = rw t (a .sought); returns = a .exact w refl ∙ ap sequenceNumber (sym t) })
+      rw e (record {
+        returns = a .exact w refl ∙ ap sequenceNumber (a .returns);
+        sought = rw t (a .sought);
+        exact = a .exact w refl ∙ ap sequenceNumber (sym t);
+      })

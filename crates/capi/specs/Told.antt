@@ -21,7 +21,7 @@ use Rattle.text_listing.specs.Model.{textOf}
 use Rattle.text_listing.specs.Sentences.{IsListing}
 use Rattle.listing.specs.Listing.{listedOf, listingLeft}
 use Rattle.sequences.specs.Word.{sequenceIn}
-use Rattle.sequence.specs.Sequence.{SoughtOf}
+use Rattle.sequence.specs.Sequence.{sequenceAnswer, SoughtOf}
 use Rattle.capi_numbers.specs.Numbers.{verdictNumber, statusNumber, writtenNumber, sequenceNumber}
 
 -- r is the number of the answer for the plan and the list xs of blocked nodes: 28 and 29 in 02's words; accepted, it is
@@ -54,7 +54,8 @@ pub record ListingNumber (b out : List ℕ) (r : ℕ) (out′ : List ℕ) : Type
 abbrev pub toldBy : ℕ → ℕ ⊎ List ℕ
 toldBy r = cond (ltb r (2 ^ 56)) (inl r) (inr (sequenceIn r))
 
--- what r tells is an answer, and r is its number
+-- r is the number of the answer; what it tells is the answer in 02's words, and it tells nothing else
 pub record SequenceNumber (b : List ℕ) (r : ℕ) : Type 0 where
+  pub returns : r ≡ sequenceNumber (sequenceAnswer b)
   pub sought : SoughtOf b (toldBy r)
-  pub returns : r ≡ sequenceNumber (toldBy r)
+  pub exact : r ≡ sequenceNumber (toldBy r)

@@ -1,4 +1,4 @@
--- A CLEAR plan meets 23 or has a sequence, a DOOMED one has none. Assumes nothing.
+-- A CLEAR plan meets 23 or has a sequence, a DOOMED one has none; of one plan there is one answer. Assumes nothing.
 use mathlib.Core.Path.{_≡_, sym, _∙_, subst}
 use mathlib.Core.Logic.{inr, by-cases}
 use mathlib.Core.List.{List, []}
@@ -16,8 +16,9 @@ use Rattle.runs.specs.Verdict.{Verdict, CLEAR, DOOMED, Judged}
 use Rattle.runs.proofs.Reflect.{clash}
 use Rattle.verdict.specs.declared.Answer.{Answer}
 use Rattle.verdict.specs.Verdict.{said, answerOf, Assessed}
+use Rattle.sequences.proofs.Cases.{sought-only}
 use Rattle.sequences.proofs.Rising.{clear-found, doomed-unfound}
-use Rattle.claims.specs.Sequences.{SequencesAgree}
+use Rattle.claims.specs.Sequences.{SequencesAgree, SequencesSame}
 
 module _ (b : List ℕ) (a : Answer) (x : Assessed b [] a) where
   -- where a verdict is said, the plan is accepted and has it
@@ -38,3 +39,8 @@ sequences-agree b a s x y = record {
   doomed = λ e. let (ok, d) = has-verdict b a x DOOMED e in
       doomed-unfound (planOf b) (means-well-formed b ok) (startOf b) d (y .sought ok);
 }
+
+pub sequences-same : SequencesSame
+sequences-same b s t x y = by-cases (ℕ-discrete (refusal b) 0)
+    (λ (ok : refusal b ≡ 0). sought-only (x .sought ok) (y .sought ok))
+    (λ k. x .refused k ∙ sym (y .refused k))

@@ -34,7 +34,8 @@ use Rattle.run_trials.specs.Checked.{AllChecked, AllWorded, AllRefused}
 use Rattle.run_trials.proofs.Tests.{showsB, leftB, holdsB, allHoldB, all-hold}
 use Rattle.run_trials.proofs.Checks.{allCheckedB, all-checked, completeIs, allWordedB, all-worded}
 use Rattle.run_trials.proofs.Checks.{allRefusedB, all-refused}
-use Rattle.run_trials.proofs.Sequences.{refusedFirst, answerIs, allSequencedB, all-sequenced}
+use Rattle.sequence.specs.Sequence.{sequenceAnswer}
+use Rattle.run_trials.proofs.Sequences.{sameAnswer, allSequencedB, all-sequenced}
 
 -- the plans, their bytes and their meaning, and the bytes of states, under one name
 unfoldable pub bytes : Unit {0}
@@ -110,5 +111,5 @@ roots-told = all-worded of-roots tt
 
 -- every row for 02's sequence of the root's children
 pub sequences-told : AllSequenced of-sequences
-unfolding bytes startOf seeking refusedFirst answerIs allSequencedB
+unfolding bytes startOf seeking sequenceAnswer sameAnswer allSequencedB
 sequences-told = all-sequenced of-sequences tt

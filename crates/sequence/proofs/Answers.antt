@@ -1,6 +1,6 @@
 -- What the search answers, from the words that it is given. Assumes nothing.
 use mathlib.Core.Path.{_≡_, refl, sym, ap, _∙_}
-use mathlib.Core.Logic.{inl, _↔_}
+use mathlib.Core.Logic.{_⊎_, inl, _↔_}
 use mathlib.Core.Bool.{Bool, true, false, not}
 use mathlib.Core.Option.{Option, none}
 use mathlib.Core.List.{List, [], List·Memᴰ as Among, List·Memᴰ·not-nil as among-none}
@@ -12,25 +12,28 @@ use lib.ListN.{getD}
 use Rattle.base.specs.Words.{ones, Says}
 use Rattle.base.proofs.Bits.{bit-none}
 use Rattle.base.proofs.Count.{count-same}
+use Rattle.base.proofs.First.{else-none, else-some}
 use Rattle.base.proofs.Says.{says-map, says-none, says-not}
 use Rattle.runs.specs.Plan.{Plan, Child, Before}
 use Rattle.runs.specs.Summary.{MayClobber}
 use Rattle.plan_rules.specs.Rules.{refusal}
 use Rattle.plan_check.proofs.Accepted.{clean}
-use Rattle.plan_check.proofs.Meaning.{meaning-accepted}
+use Rattle.plan_check.specs.Meaning.{planOf, startOf}
+use Rattle.plan_check.proofs.Meaning.{meaning-accepted, means-well-formed}
 use Rattle.plan_check.proofs.Nodes.{node-is}
 use Rattle.runs.proofs.Reflect.{clash}
 use Rattle.tables.specs.declared.Segment.{Segment}
 use Rattle.tables.specs.Represents.{beforeCode, code}
 use Rattle.marks_row.specs.Columns.{may-clobber}
 use Rattle.marks_words.specs.Words.{StartWord}
+use Rattle.sequences.specs.Sequences.{Sought}
 use Rattle.sequences.specs.Model.{Calm, MayBeTrue}
 use Rattle.sequences.specs.Word.{packed, sequenceWord, sequenceIn}
-use Rattle.sequences.proofs.Cases.{sought-23, sought-24, sought-sized, sought-children}
+use Rattle.sequences.proofs.Cases.{sought-23, sought-24, sought-found, sought-only, sought-sized, sought-children}
 use Rattle.sequences.proofs.Ranks.{count-all}
 use Rattle.sequences.proofs.Reflect.{true-start, calm-on-flags}
 use Rattle.sequences.proofs.Search.{Searched, first-clear, calm-searched, restless-searched}
-use Rattle.sequences.proofs.Search.{searched-sought}
+use Rattle.sequences.proofs.Search.{searched-sought, sought}
 use Rattle.sequences.proofs.Word.{read-back}
 use Rattle.sequence_search.specs.declared.Reach.{Reach}
 use Rattle.sequence_search.specs.declared.Ending.{Ending}
@@ -39,7 +42,7 @@ use Rattle.sequence_search.specs.Search.{Carries, nothing, nodes, Finds}
 use Rattle.sequence_search.proofs.Places.{place-in, child-small, is-child, place-of}
 use Rattle.sequence.specs.declared.Finding.{Finding}
 use Rattle.sequence.specs.declared.Finding.the-variants as finding
-use Rattle.sequence.specs.Sequence.{Exact, Sequenced}
+use Rattle.sequence.specs.Sequence.{sequenceAnswer, Exact, Sequenced}
 use Rattle.sequence.specs.Inner.{MasksOf, CalmIn, Below, Answers, AnswersOf}
 use Rattle.sequence.proofs.Counted.{passes-23}
 
@@ -186,13 +189,24 @@ module _ {p : Plan} {kids order rows : List ℕ} {s : Segment} (g : InRange kids
                   ∙ ap (λ (u : ℕ). sequenceWord (sequenceIn u)) (ap word r)
 
 -- ---- the whole answer
+-- it is the one computed, since there is no other
+refused-is : (b : List ℕ) {r : ℕ} → r ≡ refusal b → (r ≡ 0 → ⊥) → inl r ≡ sequenceAnswer b
+unfolding sequenceAnswer
+refused-is b e k = ap inl e ∙ else-some (refusal b) _ (λ z. k (e ∙ z))
+
+sought-is : (b : List ℕ) {a : ℕ ⊎ List ℕ} → refusal b ≡ 0 → Sought (planOf b) (startOf b) a → a ≡ sequenceAnswer b
+unfolding sequenceAnswer
+sought-is b ok x = sought-only x (sought (planOf b) (means-well-formed b ok) (startOf b)) ∙ else-none (refusal b) _ ok
+
 pub answered-refused : (b : List ℕ) {r : ℕ} → r ≡ refusal b → (r ≡ 0 → ⊥) → Sequenced b (finding.Refused r)
 answered-refused b e k = record {
+  returns = refused-is b e k;
   sought = record {
     refused = λ n. ap inl e;
     sought = λ ok. absurd (k (e ∙ ok));
     refused-23 = λ ok. absurd (k (e ∙ ok));
     refused-24 = λ ok. absurd (k (e ∙ ok));
+    found = λ ok. absurd (k (e ∙ ok));
     sized = λ xs q. clash cc;
     nodes = λ xs q. clash cc;
   };
@@ -201,11 +215,13 @@ answered-refused b e k = record {
 
 pub answered : (b : List ℕ) {r : Finding} → refusal b ≡ 0 → AnswersOf b r → Sequenced b r
 answered b ok a = record {
+  returns = sought-is b ok (a .sought);
   sought = record {
     refused = λ n. absurd (n ok);
     sought = λ ok. a .sought;
     refused-23 = λ ok. sought-23 (a .sought);
     refused-24 = λ ok. sought-24 (a .sought);
+    found = λ ok. sought-found (a .sought);
     sized = sought-sized (meaning-accepted b (clean b ok)) (a .sought);
     nodes = λ xs e c i. node-is b c (sought-children (a .sought) xs e c i .node);
   };

@@ -1,12 +1,13 @@
--- The cases of an answer: they exclude each other; a refusal is 23 or 24, and a sequence has 1 to 7 of the root's
--- children.
+-- The cases of an answer: they exclude each other, and there is one answer only; a refusal is 23 or 24, and a sequence
+-- has 1 to 7 of the root's children.
 use native.Mathlib.Decide.{decLt}
-use Rattle.runs.proofs.Base.{_≡_, refl, _⊎_, inl, inr, _↔_, Bool, List, [], _∷_, Among, among-none, ℕ, _<_, _≤_}
+use Rattle.base.proofs.Dictionary.{Compared, compare}
+use Rattle.runs.proofs.Base.{_≡_, refl, ap, _⊎_, inl, inr, _↔_, Bool, List, [], _∷_, Among, among-none, ℕ, _<_, _≤_}
 use Rattle.runs.proofs.Base.{arith, length}
 use Rattle.runs.specs.Plan.{Plan, Child}
 use Rattle.runs.specs.WellFormed.{Accepted}
-use Rattle.sequences.specs.Sequences.{Refused23, SerialClear, too-many, Sought, refused-23, refused-24}
-use Rattle.sequences.specs.Sequences.{found}
+use Rattle.sequences.specs.Sequences.{Refused23, too-many, SerialClear, FirstClear, Sought, refused-23}
+use Rattle.sequences.specs.Sequences.{refused-24, found}
 use Rattle.runs.proofs.Reflect.{clash}
 use Rattle.sequences.proofs.Rising.{root-all-of}
 
@@ -26,7 +27,28 @@ module _ {p : Plan} {F : ℕ → Bool} where
       → (a ≡ inl 24) ↔ ((¬ Refused23 p) × ((xs : List ℕ) → ¬ SerialClear p F xs))
   sought-24 (refused-23 x) = (λ e. clash cc, λ y. absurd (y .0 x))
   sought-24 (refused-24 n x) = (λ e. (n, x), λ y. refl)
-  sought-24 (found {xs = xs} n x) = (λ e. clash cc, λ y. absurd (y .1 xs x))
+  sought-24 (found {xs = xs} n x) = (λ e. clash cc, λ y. absurd (y .1 xs (x .clear)))
+
+  -- two lists that are first are the same
+  first-only : {xs ys : List ℕ} → FirstClear p F xs → FirstClear p F ys → xs ≡ ys
+  first-only {xs} {ys} x y = at (compare xs ys)
+    where
+      at : Compared xs ys → xs ≡ ys
+      at (inl q) = absurd (y .first xs q (x .clear))
+      at (inr (inl e)) = e
+      at (inr (inr q)) = absurd (x .first ys q (y .clear))
+
+  pub sought-found : {a : ℕ ⊎ List ℕ} → Sought p F a → (xs : List ℕ)
+      → (a ≡ inr xs) ↔ ((¬ Refused23 p) × FirstClear p F xs)
+  sought-found (refused-23 x) xs = (λ e. clash cc, λ y. absurd (y .0 x))
+  sought-found (refused-24 n x) xs = (λ e. clash cc, λ y. absurd (x xs (y .1 .clear)))
+  sought-found (found n x) xs = (λ e. (n, rw (list-of e) at x), λ y. ap inr (first-only x (y .1)))
+
+  -- there is one answer only
+  pub sought-only : {a c : ℕ ⊎ List ℕ} → Sought p F a → Sought p F c → a ≡ c
+  sought-only x (refused-23 y) = (sought-23 x) .1 y
+  sought-only x (refused-24 n y) = (sought-24 x) .1 (n, y)
+  sought-only x (found {xs = ys} n y) = (sought-found x ys) .1 (n, y)
 
   -- a refusal is 23 or 24
   pub sought-number : {a : ℕ ⊎ List ℕ} → Sought p F a → (n : ℕ) → a ≡ inl n → (n ≡ 23) ⊎ (n ≡ 24)
@@ -39,7 +61,7 @@ module _ {p : Plan} {F : ℕ → Bool} where
       → (0 < length xs) × (length xs ≤ 7)
   sought-sized ok (refused-23 x) xs e = clash cc
   sought-sized ok (refused-24 k x) xs e = clash cc
-  sought-sized ok (found {xs = ys} k x) xs e = rw (← list-of e) (some ys x, few (decLt 7 (length ys)))
+  sought-sized ok (found {xs = ys} k x) xs e = rw (← list-of e) (some ys (x .clear), few (decLt 7 (length ys)))
     where
       some : (zs : List ℕ) → SerialClear p F zs → 0 < length zs
       some [] y =
@@ -48,11 +70,11 @@ module _ {p : Plan} {F : ℕ → Bool} where
       some (z ∷ zs) y = omega arith
 
       few : Dec (7 < length ys) → length ys ≤ 7
-      few (yes l) = absurd (k (too-many ys l (x .sequence .once) (x .sequence .child)))
+      few (yes l) = absurd (k (too-many ys l (x .clear .sequence .once) (x .clear .sequence .child)))
       few (no n) = omega (arith, n)
 
   pub sought-children : {a : ℕ ⊎ List ℕ} → Sought p F a → (xs : List ℕ) → a ≡ inr xs → (c : ℕ) → Among c xs
       → Child p 0 c
   sought-children (refused-23 x) xs e c i = clash cc
   sought-children (refused-24 k x) xs e c i = clash cc
-  sought-children (found k x) xs e c i = x .sequence .child c (rw (← list-of e) at i)
+  sought-children (found k x) xs e c i = x .clear .sequence .child c (rw (← list-of e) at i)

@@ -9,8 +9,8 @@ use Rattle.runs.specs.Searches.{listed}
 use Rattle.runs.specs.Plan.{all-of, Plan, Child, Before}
 use Rattle.runs.specs.WellFormed.{WellFormed}
 use Rattle.runs.specs.Model.Trees.{childB, everyChildB}
-use Rattle.sequences.specs.Sequences.{Refused23, not-all-of, too-many, SerialClear}
-use Rattle.sequences.specs.Sequences.{Sought, refused-23, refused-24, found}
+use Rattle.sequences.specs.Sequences.{Refused23, not-all-of, too-many, SerialClear, FirstClear, Sought}
+use Rattle.sequences.specs.Sequences.{refused-23, refused-24, found}
 use Rattle.sequences.specs.Model.{AllSeen, MayFollow, Rest, all-seen, then, DeadEnd, FirstRest, first-rest}
 use Rattle.sequences.specs.Model.{no-rest}
 use Rattle.sequences.specs.Model.{Calm, MayBeTrue, Safe, startB, nextB, calmB, unless, prefixed, orNext}
@@ -51,11 +51,6 @@ precedes-nothing : {xs ys : List ℕ} → Lexᴰ _<_ xs ys → ys ≡ [] → ⊥
 precedes-nothing Lexᴰ·nil e = clash cc
 precedes-nothing (Lexᴰ·rel l) e = clash cc
 precedes-nothing (Lexᴰ·cons d q) e = clash cc
-
--- the first sequence in dictionary order under which the plan is CLEAR
-pub record FirstClear (p : Plan) (F : ℕ → Bool) (xs : List ℕ) : Type 0 where
-  pub clear : SerialClear p F xs
-  pub first : (ys : List ℕ) → Lexᴰ _<_ ys xs → ¬ SerialClear p F ys
 
 -- A search tries the children one after another. What is found behind one of them is told of the rests that begin with
 -- it; code that searches can be proved by these laws, in any shape.
@@ -244,7 +239,7 @@ module _ (p : Plan) (w : WellFormed p) (F : ℕ → Bool) where
   r-23 = r-map (refused-is p w) (r-either _ _ (r-negate _ (r-kind _ _)) (r-lt _ _))
 
   pub searched-sought : ¬ Refused23 p → {o : Option (List ℕ)} → Searched o → Sought p F (foundOr24 o)
-  searched-sought n (first-clear x) = found n (x .clear)
+  searched-sought n (first-clear x) = found n x
   searched-sought n (none-clear x) = refused-24 n x
 
   pub sought : Sought p F (sequenceOf p F)

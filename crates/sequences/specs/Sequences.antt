@@ -1,8 +1,9 @@
--- 02's sequence of the root's children (101): the plan under it, and which sequence is asked for. Definitions only.
+-- 02's sequence of the root's children (101, 109): the plan under it, and which sequence is asked for. Definitions
+-- only.
 use mathlib.Core.Path.{_≡_}
 use mathlib.Core.Logic.{_≢_, _⊎_, inl, inr, _↔_}
 use mathlib.Core.Bool.{Bool}
-use mathlib.Core.List.{List, _∷_, List·Memᴰ as Among}
+use mathlib.Core.List.{List, _∷_, List·Memᴰ as Among, Lexᴰ}
 use Prim.Native.Nat.{ℕ, _<_}
 use lib.Dec.{T}
 use lib.ListN.{length}
@@ -44,8 +45,14 @@ module _ (p : Plan) (F : ℕ → Bool) where
     pub ordered : InSequence p xs plan
     pub clear : Clear plan F
 
-  -- the answer for an accepted plan: 23; 24, "when no such sequence exists"; or "any one such sequence"
+  -- "the first one in dictionary order of node numbers: no sequence that precedes it, and meets #101's conditions, is
+  -- CLEAR" (109)
+  pub record FirstClear (xs : List ℕ) : Type 0 where
+    pub clear : SerialClear xs
+    pub first : (ys : List ℕ) → Lexᴰ _<_ ys xs → ¬ SerialClear ys
+
+  -- the answer for an accepted plan: 23; 24, "when no such sequence exists"; or the first such sequence
   pub data Sought : ℕ ⊎ List ℕ → Type 0 where
     refused-23 : Refused23 p → Sought (inl 23)
     refused-24 : ¬ Refused23 p → ((ys : List ℕ) → ¬ SerialClear ys) → Sought (inl 24)
-    found : {xs : List ℕ} → ¬ Refused23 p → SerialClear xs → Sought (inr xs)
+    found : {xs : List ℕ} → ¬ Refused23 p → FirstClear xs → Sought (inr xs)
