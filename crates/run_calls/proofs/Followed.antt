@@ -15,7 +15,6 @@ use Rattle.run_state.specs.Fresh.{freshState, Freshened}
 use Rattle.run_state.proofs.Refused.{room-enough}
 use Rattle.run_state.proofs.Passed.{passed}
 use Rattle.run_state.proofs.Shown.{fresh-started}
-use Rattle.run_monitor.specs.Events.{Called}
 use Rattle.run_monitor.specs.Model.{callState, callReturn}
 use Rattle.run_monitor.proofs.Called.{called}
 use Rattle.run_calls.specs.Lists.{Calls, no-calls, next-call, ListMade}

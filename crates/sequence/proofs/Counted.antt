@@ -21,7 +21,7 @@ use Rattle.sequences.specs.Sequences.{Refused23}
 use Rattle.sequences.specs.Model.{childCount}
 use Rattle.sequences.proofs.Search.{refused-is}
 use Rattle.sequence_search.specs.Search.{CHILDREN, count, childAt, RootChildren}
-use Rattle.sequence_search.proofs.Places.{is-child, place-of, higher}
+use Rattle.sequence_search.proofs.Places.{is-child, place-of, two-nodes}
 
 module _ {p : Plan} {kids : List ℕ} {s : Segment} (w : WellFormed p) (t : RootChildren p kids s) where
   -- c stands at a place below n
@@ -41,7 +41,7 @@ module _ {p : Plan} {kids : List ℕ} {s : Segment} (w : WellFormed p) (t : Root
     where
       not-yet : placedB n (childAt kids s n) ≡ false
       not-yet = not-passed _ (λ e. let (i, k, q) = (r-placed n (childAt kids s n)) .to (true-T _ e) in
-          omega (arith, q, higher t {i = i} {j = n} k (omega (arith, l))))
+          two-nodes t {i = i} {j = n} k (omega (arith, l)) q)
 
       now : placedB (suc n) (childAt kids s n) ≡ true
       now = T-true _ ((r-placed (suc n) (childAt kids s n)) .from (n, omega arith, refl))

@@ -1,6 +1,6 @@
 -- The root's children by their places in a segment. Assumes nothing.
-use mathlib.Core.Path.{_≡_, refl, ap, _∙_}
-use mathlib.Core.Logic.{by-cases}
+use mathlib.Core.Path.{_≡_, refl, sym, ap, _∙_}
+use mathlib.Core.Logic.{_≢_, by-cases}
 use mathlib.Core.List.{List}
 use Prim.Native.Nat.{ℕ, _+_, _<_, _-_}
 use native.Mathlib.Omega.{arith}
@@ -35,18 +35,17 @@ module _ {p : Plan} {kids : List ℕ} {s : Segment} (t : RootChildren p kids s) 
         ap (λ (k : ℕ). getD kids k 0) e ∙ x .is,
       )
 
-  -- lower places have lower numbers, and the other way round
-  pub higher : {i j : ℕ} → i < j → j < count s → childAt kids s i < childAt kids s j
-  higher {i} {j} l m =
-      t .rising (s .start + i) (s .start + j) (place-in (omega (arith, l, m))) (place-in m) (omega arith)
+  -- at two places stand two nodes
+  pub two-nodes : {i j : ℕ} → i < j → j < count s → childAt kids s i ≢ childAt kids s j
+  two-nodes {i} {j} l m e =
+      omega (arith, e, t .rising (s .start + i) (s .start + j) (place-in (omega (arith, l, m))) (place-in m) (omega arith))
 
+  pub same-place : {i j : ℕ} → i < count s → j < count s → childAt kids s j ≡ childAt kids s i → j ≡ i
+  same-place {i} {j} li lj e = by-cases (decLt j i) (λ (l : j < i). absurd (two-nodes l li e))
+      (λ n. by-cases (decLt i j) (λ (l : i < j). absurd (two-nodes l lj (sym e))) (λ m. omega arith))
+
+  -- a lower node stands at a lower place
   pub lower : {i j : ℕ} → i < count s → j < count s → childAt kids s j < childAt kids s i → j < i
   lower {i} {j} li lj l = by-cases (decLt j i) (λ (x : j < i). x) (λ x. by-cases (ℕ-discrete i j)
       (λ (e : i ≡ j). absurd (omega (arith, l, ap (λ (k : ℕ). childAt kids s k) e)))
-      (λ n. absurd (omega (arith, l, higher {i = i} {j = j} (omega arith) lj))))
-
-  pub same-place : {i j : ℕ} → i < count s → j < count s → childAt kids s j ≡ childAt kids s i → j ≡ i
-  same-place {i} {j} li lj e = by-cases (decLt j i)
-      (λ (l : j < i). absurd (omega (arith, higher {i = j} {j = i} l li)))
-      (λ n. by-cases (decLt i j) (λ (l : i < j). absurd (omega (arith, higher {i = i} {j = j} l lj)))
-      (λ m. omega arith))
+      (λ n. absurd (omega (arith, l, t .rising (s .start + i) (s .start + j) (place-in li) (place-in lj) (omega arith)))))
