@@ -146,7 +146,8 @@ fn first_sequence(plan: &[u8]) -> Finding
     first_among(&kids, segment, &order, &rows, start)
 }
 
-// A refusal, 1 to 14, 23 or 24, or a sequence of all the root's children under which the answer is CLEAR.
+// A refusal, 1 to 14, 23 or 24, or the first sequence, in dictionary order, of all the root's children under which the
+// answer is CLEAR.
 pub fn sequence(plan: &[u8]) -> Finding
     ensures { λ r. ⌜ Sequenced (now (plan .entry)) r ⌝ }
 {
