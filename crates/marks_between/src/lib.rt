@@ -24,6 +24,12 @@ use tables::Segment;
 use tables::codes::AFTER;
 use tables::codes::BEFORE;
 
+// Flags of one sign: 0 clear, 1 set.
+pub struct OfSign {
+    pub sign: usize,
+    pub flags: u64,
+}
+
 // b stands after d and before c.
 fn stands_between(order: &Orders, b: usize, c: usize, d: usize) -> bool
     requires { ⌜ (b < NODES) × ((c < NODES) × (d < NODES)) ⌝ }

@@ -8,6 +8,7 @@ ghost use Rattle.tables.specs.Sizes.{NODES};
 ghost use Rattle.marks_must_pairs.specs.MustPairs.{MustPair, WithChildWord, MustPairsWord};
 use base::ALL;
 use base::wide;
+use marks_between::OfSign;
 use marks_between::passing;
 use marks_row::Rows;
 use marks_row::must_post;
@@ -17,12 +18,6 @@ use tables::Nodes;
 use tables::Orders;
 use tables::Segment;
 use tables::codes::AFTER;
-
-// Flags of one sign: 0 clear, 1 set.
-pub struct OfSign {
-    pub sign: usize,
-    pub flags: u64,
-}
 
 // The wanted flags of one sign that the child c and the child at j must clobber.
 fn must_pair_word(

@@ -7,6 +7,7 @@ ghost use Rattle.marks_between.specs.Passing.{PairWord};
 ghost use Rattle.tables.specs.Sizes.{NODES};
 ghost use Rattle.marks_pair.specs.Pairs.{Pair, PairWords, NextPartner};
 use base::wide;
+use marks_between::OfSign;
 use marks_between::passing;
 use marks_row::Rows;
 use marks_row::columns::ASSERTS;
@@ -34,19 +35,19 @@ fn pair_word(
     segment: Segment,
     order: &Orders,
     rows: &Rows,
-    sign: usize,
-    wanted: u64,
+    wanted: OfSign,
     c: usize,
     j: usize,
 ) -> u64
-    requires { ⌜ AtPair (now kids) segment c j × (sign < 2) ⌝ }
-    ensures { λ r. ⌜ PairWord Pair (now (kids .entry)) segment (now (order .entry)) (now (rows .entry)) sign wanted c
-        (getD (now (kids .entry)) j 0) r ⌝ }
+    requires { ⌜ AtPair (now kids) segment c j × (wanted .sign < 2) ⌝ }
+    ensures { λ r. ⌜ PairWord Pair (now (kids .entry)) segment (now (order .entry)) (now (rows .entry))
+        (wanted .sign) (wanted .flags) c (getD (now (kids .entry)) j 0) r ⌝ }
 {
     let d = wide(kids[j]);
+    let sign = wanted.sign;
     if order[d * NODES + c] == BEFORE {
         let passed = word_at(rows, d, MAY_POST + (1 - sign)) & word_at(rows, c, MAY_PRE + sign);
-        let shared = wanted & passed;
+        let shared = wanted.flags & passed;
         if shared == 0 {
             return 0;
         }
@@ -55,7 +56,7 @@ fn pair_word(
     if apart(order, c, d) {
         let required = word_at(rows, c, REQUIRES + sign) & word_at(rows, d, ASSERTS + (1 - sign));
         let left = word_at(rows, c, POSTS + sign) & word_at(rows, d, POSTS + (1 - sign));
-        return wanted & (required | left);
+        return wanted.flags & (required | left);
     }
     0
 }
@@ -74,8 +75,16 @@ pub fn pair_words(
     ensures { λ r. ⌜ PairWords (now (kids .entry)) segment (now (order .entry)) (now (rows .entry)) wanted c
         (getD (now (kids .entry)) j 0) r ⌝ }
 {
-    let clear = pair_word(kids, segment, order, rows, 0, wanted.clear, c, j);
-    let set = pair_word(kids, segment, order, rows, 1, wanted.set, c, j);
+    let wanted_clear = OfSign {
+        sign: 0,
+        flags: wanted.clear,
+    };
+    let wanted_set = OfSign {
+        sign: 1,
+        flags: wanted.set,
+    };
+    let clear = pair_word(kids, segment, order, rows, wanted_clear, c, j);
+    let set = pair_word(kids, segment, order, rows, wanted_set, c, j);
     Literals {
         clear: clear,
         set: set,

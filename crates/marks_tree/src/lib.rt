@@ -14,10 +14,10 @@ ghost use Rattle.marks_tree.specs.Filled.{OfAny, ChildrenTo, Filled, Tas
 use base::kinds::ALL_OF;
 use base::kinds::TASK;
 use base::wide;
+use marks_between::OfSign;
 use marks_group::all_words;
 use marks_group::any_words;
 use marks_may_pairs::clobbering_pairs;
-use marks_must_pairs::OfSign;
 use marks_must_pairs::must_pairs;
 use marks_pair::Literals;
 use marks_row::COLUMNS;
