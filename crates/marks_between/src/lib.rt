@@ -30,6 +30,12 @@ pub struct OfSign {
     pub flags: u64,
 }
 
+// A child of a group, and the position of its partner in the table of children.
+pub struct Partners {
+    pub child: usize,
+    pub at: usize,
+}
+
 // b stands after d and before c.
 fn stands_between(order: &Orders, b: usize, c: usize, d: usize) -> bool
     requires { ⌜ (b < NODES) × ((c < NODES) × (d < NODES)) ⌝ }
@@ -112,8 +118,8 @@ fn passing_part(
     left
 }
 
-// Of the given flags, those that pass from the child at j to the child c. The children after the one at j in the table
-// come first: there the flags are soonest settled.
+// Of the given flags, those that pass to a child from its partner. The children after the partner in the table come
+// first: there the flags are soonest settled.
 pub fn passing(
     kids: &Nodes,
     segment: Segment,
@@ -121,13 +127,14 @@ pub fn passing(
     rows: &Rows,
     always: bool,
     flags: u64,
-    c: usize,
-    j: usize,
+    partners: Partners,
 ) -> u64
-    requires { ⌜ AtPair (now kids) segment c j ⌝ }
-    ensures { λ r. ⌜ PassingWord (now (kids .entry)) segment (now (order .entry)) (now (rows .entry)) always flags c
-        (getD (now (kids .entry)) j 0) r ⌝ }
+    requires { ⌜ AtPair (now kids) segment (partners .child) (partners .at) ⌝ }
+    ensures { λ r. ⌜ PassingWord (now (kids .entry)) segment (now (order .entry)) (now (rows .entry)) always flags
+        (partners .child) (getD (now (kids .entry)) (partners .at) 0) r ⌝ }
 {
+    let c = partners.child;
+    let j = partners.at;
     let d = wide(kids[j]);
     let later = Segment {
         start: j + 1,

@@ -3,6 +3,7 @@
 ghost use Rattle.tables.specs.Segments.{AtSegment};
 ghost use Rattle.marks_may_pairs.specs.Search.{SearchedTo, Search, AllPairs};
 use base::wide;
+use marks_between::Partners;
 use marks_pair::Literals;
 use marks_pair::next_partner;
 use marks_pair::pair_words;
@@ -41,7 +42,8 @@ pub fn clobbering_pair(
         let c = wide(kids[i]);
         j = next_partner(rows, wanted, c, j, segment.end);
         while j < segment.end {
-            let pair = pair_words(kids, segment, order, rows, wanted, c, j);
+            let partners = Partners { child: c, at: j };
+            let pair = pair_words(kids, segment, order, rows, wanted, partners);
             if (pair.clear | pair.set) != 0 {
                 found = pair;
                 break 'search;

@@ -9,6 +9,7 @@ ghost use Rattle.marks_must_pairs.specs.MustPairs.{MustPair, WithChildWo
 use base::ALL;
 use base::wide;
 use marks_between::OfSign;
+use marks_between::Partners;
 use marks_between::passing;
 use marks_row::Rows;
 use marks_row::must_post;
@@ -19,20 +20,22 @@ use tables::Orders;
 use tables::Segment;
 use tables::codes::AFTER;
 
-// The wanted flags of one sign that the child c and the child at j must clobber.
+// The wanted flags of one sign that a child and its partner must clobber.
 fn must_pair_word(
     kids: &Nodes,
     segment: Segment,
     order: &Orders,
     rows: &Rows,
     wanted: OfSign,
-    c: usize,
-    j: usize,
+    partners: Partners,
 ) -> u64
-    requires { ⌜ AtPair (now kids) segment c j × (wanted .sign < 2) ⌝ }
+    requires { ⌜ AtPair (now kids) segment (partners .child) (partners .at) × (wanted .sign < 2) ⌝ }
     ensures { λ r. ⌜ PairWord MustPair (now (kids .entry)) segment (now (order .entry))
-        (now (rows .entry)) (wanted .sign) (wanted .flags) c (getD (now (kids .entry)) j 0) r ⌝ }
+        (now (rows .entry)) (wanted .sign) (wanted .flags) (partners .child)
+        (getD (now (kids .entry)) (partners .at) 0) r ⌝ }
 {
+    let c = partners.child;
+    let j = partners.at;
     let d = wide(kids[j]);
     let sign = wanted.sign;
     if order[c * NODES + d] == AFTER {
@@ -40,7 +43,7 @@ fn must_pair_word(
         if shared == 0 {
             return 0;
         }
-        return passing(kids, segment, order, rows, true, shared, c, j);
+        return passing(kids, segment, order, rows, true, shared, partners);
     }
     0
 }
@@ -70,7 +73,8 @@ fn must_pairs_of(
             sign: sign,
             flags: flags ^ ALL,
         };
-        flags = flags | must_pair_word(kids, segment, order, rows, wanted, c, j);
+        let partners = Partners { child: c, at: j };
+        flags = flags | must_pair_word(kids, segment, order, rows, wanted, partners);
         j += 1;
     }
     flags

@@ -8,6 +8,7 @@ ghost use Rattle.tables.specs.Sizes.{NODES};
 ghost use Rattle.marks_pair.specs.Pairs.{Pair, PairWords, NextPartner};
 use base::wide;
 use marks_between::OfSign;
+use marks_between::Partners;
 use marks_between::passing;
 use marks_row::Rows;
 use marks_row::columns::ASSERTS;
@@ -29,20 +30,21 @@ pub struct Literals {
     pub set: u64,
 }
 
-// The wanted flags of one sign that the child c and the child at j clobber.
+// The wanted flags of one sign that a child and its partner clobber.
 fn pair_word(
     kids: &Nodes,
     segment: Segment,
     order: &Orders,
     rows: &Rows,
     wanted: OfSign,
-    c: usize,
-    j: usize,
+    partners: Partners,
 ) -> u64
-    requires { ⌜ AtPair (now kids) segment c j × (wanted .sign < 2) ⌝ }
+    requires { ⌜ AtPair (now kids) segment (partners .child) (partners .at) × (wanted .sign < 2) ⌝ }
     ensures { λ r. ⌜ PairWord Pair (now (kids .entry)) segment (now (order .entry)) (now (rows .entry))
-        (wanted .sign) (wanted .flags) c (getD (now (kids .entry)) j 0) r ⌝ }
+        (wanted .sign) (wanted .flags) (partners .child) (getD (now (kids .entry)) (partners .at) 0) r ⌝ }
 {
+    let c = partners.child;
+    let j = partners.at;
     let d = wide(kids[j]);
     let sign = wanted.sign;
     if order[d * NODES + c] == BEFORE {
@@ -51,7 +53,7 @@ fn pair_word(
         if shared == 0 {
             return 0;
         }
-        return passing(kids, segment, order, rows, false, shared, c, j);
+        return passing(kids, segment, order, rows, false, shared, partners);
     }
     if apart(order, c, d) {
         let required = word_at(rows, c, REQUIRES + sign) & word_at(rows, d, ASSERTS + (1 - sign));
@@ -61,19 +63,18 @@ fn pair_word(
     0
 }
 
-// The wanted literals that the child c and the child at j clobber.
+// The wanted literals that a child and its partner clobber.
 pub fn pair_words(
     kids: &Nodes,
     segment: Segment,
     order: &Orders,
     rows: &Rows,
     wanted: Literals,
-    c: usize,
-    j: usize,
+    partners: Partners,
 ) -> Literals
-    requires { ⌜ AtPair (now kids) segment c j ⌝ }
-    ensures { λ r. ⌜ PairWords (now (kids .entry)) segment (now (order .entry)) (now (rows .entry)) wanted c
-        (getD (now (kids .entry)) j 0) r ⌝ }
+    requires { ⌜ AtPair (now kids) segment (partners .child) (partners .at) ⌝ }
+    ensures { λ r. ⌜ PairWords (now (kids .entry)) segment (now (order .entry)) (now (rows .entry)) wanted
+        (partners .child) (getD (now (kids .entry)) (partners .at) 0) r ⌝ }
 {
     let wanted_clear = OfSign {
         sign: 0,
@@ -83,8 +84,8 @@ pub fn pair_words(
         sign: 1,
         flags: wanted.set,
     };
-    let clear = pair_word(kids, segment, order, rows, wanted_clear, c, j);
-    let set = pair_word(kids, segment, order, rows, wanted_set, c, j);
+    let clear = pair_word(kids, segment, order, rows, wanted_clear, partners);
+    let set = pair_word(kids, segment, order, rows, wanted_set, partners);
     Literals {
         clear: clear,
         set: set,

@@ -11,7 +11,7 @@ use Rattle.marks_pair.proofs.pair_word.Tie as tie
 
 -- both children are nodes, and the sign is one of two
 small : (w : tie.After-wide) → let a = w .before .before .args in
-    ((a .c < 128) × (w .wide .result < 128)) × (a .wanted .sign < 2)
+    ((a .partners .child < 128) × (w .wide .result < 128)) × (a .wanted .sign < 2)
 small w = let s = w .before .before in (pair-small (s .pre .0) (w .wide .ensures .0), s .pre .1)
 
 returns : tie.Need-returns
