@@ -36,6 +36,18 @@ pub struct Partners {
     pub at: usize,
 }
 
+// Flags, and which of them are asked for: those that may pass, or those that always pass.
+pub struct ToPass {
+    pub always: bool,
+    pub flags: u64,
+}
+
+// The passage from a child d to a child c.
+struct Passage {
+    from: usize,
+    to: usize,
+}
+
 // b stands after d and before c.
 fn stands_between(order: &Orders, b: usize, c: usize, d: usize) -> bool
     requires { ⌜ (b < NODES) × ((c < NODES) × (d < NODES)) ⌝ }
@@ -65,14 +77,14 @@ fn disturbs(order: &Orders, b: usize, c: usize, d: usize) -> bool
 }
 
 // The child b is one of those that the flags have to pass.
-fn in_the_way(order: &Orders, always: bool, b: usize, c: usize, d: usize) -> bool
-    requires { ⌜ (b < NODES) × ((c < NODES) × (d < NODES)) ⌝ }
-    ensures { λ r. ⌜ T r ↔ InTheWay (now (order .entry)) always b c d ⌝ }
+fn in_the_way(order: &Orders, always: bool, b: usize, passage: Passage) -> bool
+    requires { ⌜ (b < NODES) × ((passage .to < NODES) × (passage .from < NODES)) ⌝ }
+    ensures { λ r. ⌜ T r ↔ InTheWay (now (order .entry)) always b (passage .to) (passage .from) ⌝ }
 {
     if always {
-        return disturbs(order, b, c, d);
+        return disturbs(order, b, passage.to, passage.from);
     }
-    stands_between(order, b, c, d)
+    stands_between(order, b, passage.to, passage.from)
 }
 
 // The flags that the child b lets pass.
@@ -94,12 +106,11 @@ fn passing_part(
     rows: &Rows,
     always: bool,
     flags: u64,
-    c: usize,
-    d: usize,
+    passage: Passage,
 ) -> u64
-    requires { ⌜ AtSegment (now kids) segment × ((c < NODES) × (d < NODES)) ⌝ }
+    requires { ⌜ AtSegment (now kids) segment × ((passage .to < NODES) × (passage .from < NODES)) ⌝ }
     ensures { λ r. ⌜ PassingPart (now (kids .entry)) (segment .start) (segment .end) (now (order .entry))
-        (now (rows .entry)) always flags c d r ⌝ }
+        (now (rows .entry)) always flags (passage .to) (passage .from) r ⌝ }
 {
     let mut left = flags;
     let mut i = segment.start;
@@ -110,7 +121,7 @@ fn passing_part(
         let b = wide(kids[i]);
         left = narrowed(
             left,
-            in_the_way(order, always, b, c, d),
+            in_the_way(order, always, b, passage),
             lets_pass(rows, always, b),
         );
         i += 1;
@@ -125,17 +136,18 @@ pub fn passing(
     segment: Segment,
     order: &Orders,
     rows: &Rows,
-    always: bool,
-    flags: u64,
+    given: ToPass,
     partners: Partners,
 ) -> u64
     requires { ⌜ AtPair (now kids) segment (partners .child) (partners .at) ⌝ }
-    ensures { λ r. ⌜ PassingWord (now (kids .entry)) segment (now (order .entry)) (now (rows .entry)) always flags
-        (partners .child) (getD (now (kids .entry)) (partners .at) 0) r ⌝ }
+    ensures { λ r. ⌜ PassingWord (now (kids .entry)) segment (now (order .entry)) (now (rows .entry))
+        (given .always) (given .flags) (partners .child) (getD (now (kids .entry)) (partners .at) 0) r ⌝ }
 {
-    let c = partners.child;
     let j = partners.at;
-    let d = wide(kids[j]);
+    let passage = Passage {
+        from: wide(kids[j]),
+        to: partners.child,
+    };
     let later = Segment {
         start: j + 1,
         end: segment.end,
@@ -144,6 +156,7 @@ pub fn passing(
         start: segment.start,
         end: j + 1,
     };
-    let left = passing_part(kids, later, order, rows, always, flags, c, d);
-    passing_part(kids, earlier, order, rows, always, left, c, d)
+    let always = given.always;
+    let left = passing_part(kids, later, order, rows, always, given.flags, passage);
+    passing_part(kids, earlier, order, rows, always, left, passage)
 }

@@ -10,6 +10,7 @@ use base::ALL;
 use base::wide;
 use marks_between::OfSign;
 use marks_between::Partners;
+use marks_between::ToPass;
 use marks_between::passing;
 use marks_row::Rows;
 use marks_row::must_post;
@@ -43,7 +44,11 @@ fn must_pair_word(
         if shared == 0 {
             return 0;
         }
-        return passing(kids, segment, order, rows, true, shared, partners);
+        let given = ToPass {
+            always: true,
+            flags: shared,
+        };
+        return passing(kids, segment, order, rows, given, partners);
     }
     0
 }

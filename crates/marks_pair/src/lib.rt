@@ -9,6 +9,7 @@ ghost use Rattle.marks_pair.specs.Pairs.{Pair, PairWords, NextPartner};
 use base::wide;
 use marks_between::OfSign;
 use marks_between::Partners;
+use marks_between::ToPass;
 use marks_between::passing;
 use marks_row::Rows;
 use marks_row::columns::ASSERTS;
@@ -53,7 +54,11 @@ fn pair_word(
         if shared == 0 {
             return 0;
         }
-        return passing(kids, segment, order, rows, false, shared, partners);
+        let given = ToPass {
+            always: false,
+            flags: shared,
+        };
+        return passing(kids, segment, order, rows, given, partners);
     }
     if apart(order, c, d) {
         let required = word_at(rows, c, REQUIRES + sign) & word_at(rows, d, ASSERTS + (1 - sign));

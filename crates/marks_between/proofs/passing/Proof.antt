@@ -27,7 +27,7 @@ returns c =
     let s = c .before .before .before .before in
     let j = s .pre .other in
     let e = c .before .before .wide .ensures .0 in
-    passing-says (s .args .always) (parts (omega (arith, j .low)) (omega (arith, j .high))
+    passing-says (s .args .given .always) (parts (omega (arith, j .low)) (omega (arith, j .high))
     (rw e at (c .before .passing-part .ensures)) (rw e at (c .passing-part2 .ensures)))
 
 pub passing-spec : {M : Type 1} → statement M

@@ -10,11 +10,11 @@ use Rattle.marks_between.proofs.passing_part.Statement.{statement}
 use Rattle.marks_between.proofs.passing_part.Tie as tie
 
 abbrev Inv-loop : tie.InvT-loop
-Inv-loop kids segment order rows always flags c d left₀ i₀ left i = Reached segment i
-    × PassingPart kids (segment .start) i order rows always flags c d left
+Inv-loop kids segment order rows always flags passage left₀ i₀ left i = Reached segment i
+    × PassingPart kids (segment .start) i order rows always flags (passage .to) (passage .from) left
 
 abbrev μ-loop : tie.MeasureT-loop
-μ-loop kids segment order rows always flags c d left₀ i₀ left i = segment .end - i
+μ-loop kids segment order rows always flags passage left₀ i₀ left i = segment .end - i
 
 loop-holds : tie.Need-loop-holds Inv-loop μ-loop
 loop-holds c = (first-turn (c .pre .0), part-none)
