@@ -12,6 +12,12 @@ use tables::Nodes;
 use tables::Orders;
 use tables::Segment;
 
+// Where a search stands: the positions of a child and of its partner.
+pub struct Cursor {
+    pub child: usize,
+    pub partner: usize,
+}
+
 // The literals of the pair at which a search stopped, and the positions of its two children; with no literal, the child
 // is past them all.
 pub struct Found {
@@ -20,24 +26,23 @@ pub struct Found {
     pub partner: usize,
 }
 
-// Looks for a pair of children that clobbers a wanted literal, from the pair at two positions on; the search ends as
-// soon as one is found.
+// Looks for a pair of children that clobbers a wanted literal, from where the search stands; it ends as soon as one is
+// found.
 pub fn clobbering_pair(
     kids: &Nodes,
     segment: Segment,
     order: &Orders,
     rows: &Rows,
     wanted: Literals,
-    child: usize,
-    partner: usize,
+    cursor: Cursor,
 ) -> Found
     requires { ⌜ AtSegment (now kids) segment
-        × SearchedTo (now kids) segment (now order) (now rows) wanted child partner ⌝ }
+        × SearchedTo (now kids) segment (now order) (now rows) wanted (cursor .child) (cursor .partner) ⌝ }
     ensures { λ r. ⌜ Search (now (kids .entry)) segment (now (order .entry)) (now (rows .entry)) wanted r ⌝ }
 {
     let mut found = Literals { clear: 0, set: 0 };
-    let mut i = child;
-    let mut j = partner;
+    let mut i = cursor.child;
+    let mut j = cursor.partner;
     'search: while i < segment.end {
         let c = wide(kids[i]);
         j = next_partner(rows, wanted, c, j, segment.end);
@@ -77,7 +82,11 @@ pub fn clobbering_pairs(
     let mut child = segment.start;
     let mut partner = child;
     loop {
-        let next = clobbering_pair(kids, segment, order, rows, left, child, partner);
+        let cursor = Cursor {
+            child: child,
+            partner: partner,
+        };
+        let next = clobbering_pair(kids, segment, order, rows, left, cursor);
         let pair = next.literals;
         if (pair.clear | pair.set) == 0 {
             return found;

@@ -9,18 +9,18 @@ use Rattle.marks_may_pairs.proofs.clobbering_pair.Statement.{statement}
 use Rattle.marks_may_pairs.proofs.clobbering_pair.Tie as tie
 
 abbrev Inv-loop : tie.InvT-loop
-Inv-loop kids segment order rows wanted child partner found₀ i j₀ c found j = ((found .clear ≡ 0) × (found .set ≡ 0))
+Inv-loop kids segment order rows wanted found₀ i j₀ c found j = ((found .clear ≡ 0) × (found .set ≡ 0))
     × SearchedTo kids segment order rows wanted i j
 
 abbrev μ-loop : tie.MeasureT-loop
-μ-loop kids segment order rows wanted child partner found₀ i j₀ c found j = segment .end - j
+μ-loop kids segment order rows wanted found₀ i j₀ c found j = segment .end - j
 
 abbrev Inv-search : tie.InvT-search
-Inv-search kids segment order rows wanted child partner found₀ i₀ j₀ found i j = ((found .clear ≡ 0) × (found .set ≡ 0))
+Inv-search kids segment order rows wanted found₀ i₀ j₀ found i j = ((found .clear ≡ 0) × (found .set ≡ 0))
     × SearchedTo kids segment order rows wanted i j
 
 abbrev μ-search : tie.MeasureT-search
-μ-search kids segment order rows wanted child partner found₀ i₀ j₀ found i j = segment .end - i
+μ-search kids segment order rows wanted found₀ i₀ j₀ found i j = segment .end - i
 
 search-holds : tie.Need-search-holds Inv-loop μ-loop Inv-search μ-search
 search-holds c = ((refl, refl), c .pre .1)
