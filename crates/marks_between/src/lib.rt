@@ -42,7 +42,7 @@ pub struct ToPass {
     pub flags: u64,
 }
 
-// The passage from a child d to a child c.
+// The passage of flags from one child to another.
 struct Passage {
     from: usize,
     to: usize,
