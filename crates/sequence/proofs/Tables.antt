@@ -16,7 +16,6 @@ use Rattle.runs.specs.Plan.{all-of, Plan}
 use Rattle.runs.specs.Numbers.{kindNumber}
 use Rattle.runs.specs.WellFormed.{WellFormed}
 use Rattle.runs.specs.Searches.{listed}
-use Rattle.runs.proofs.Blocked.Branches.{blocks-nothing}
 use Rattle.runs.proofs.Plan.Numbers.{kind-inj}
 use Rattle.tables.specs.declared.Segment.{Segment}
 use Rattle.tables.specs.Segments.{segmentOf}
@@ -24,7 +23,7 @@ use Rattle.tables.specs.Represents.{AtGroup, Represents}
 use Rattle.tables.proofs.Turns.{at-segment}
 use Rattle.marks_tree.specs.Filled.{BelowFilled}
 use Rattle.table_children.proofs.Whole.{whole-tree}
-use Rattle.table_all.specs.Filled.{TablesOf}
+use Rattle.table_all.specs.Filled.{AmongOf}
 use Rattle.sequences.specs.Sequences.{not-all-of, refused-23}
 use Rattle.sequence_search.specs.Search.{CHILDREN, count, InRange, RootChildren}
 use Rattle.sequence.specs.declared.Finding.the-variants as finding
@@ -33,13 +32,13 @@ use Rattle.sequence.proofs.Counted.{too-many-places}
 use Rattle.sequence.proofs.Answers.{refused-exact}
 
 module _ {b standing kind from kids order conds : List ℕ} (ok : refusal b ≡ 0) (all : AllMarked standing)
-    (t : TablesOf b standing kind from kids order conds) where
+    (t : AmongOf b standing kind from kids order conds) where
   well : WellFormed (planOf b)
   well = means-well-formed b ok
 
   represents : Represents kind from kids order conds (nodeCount b) (planOf b)
   represents = subst (λ (p : Plan). Represents kind from kids order conds (nodeCount b) p) (none-under b ok)
-      (t .represents (listed []) (blocks-nothing (planOf b) well) (all-stand b ok standing all))
+      (t .represents (listed []) (all-stand b ok standing all))
 
   pub at-root : {n : ℕ} → n ≡ nodeCount b → AtGroup from kids n 0
   at-root e = record { shaped = rw e (t .children .shaped); below = rw e (clean b ok .fits .limits .some-node) }

@@ -20,7 +20,7 @@ use sequence_search::CHILDREN;
 use sequence_search::Masks;
 use sequence_search::Reach;
 use sequence_search::search;
-use table_all::fill_tables;
+use table_all::fill_among;
 use tables::NODES;
 use tables::Nodes;
 use tables::Orders;
@@ -123,7 +123,7 @@ fn first_sequence(plan: &[u8]) -> Finding
     let mut kids = no_nodes();
     let mut order = no_orders();
     let mut conds = no_conditions();
-    fill_tables(
+    fill_among(
         plan,
         &standing,
         &mut kind,

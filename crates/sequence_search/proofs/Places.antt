@@ -37,8 +37,11 @@ module _ {p : Plan} {kids : List ℕ} {s : Segment} (t : RootChildren p kids s) 
 
   -- at two places stand two nodes
   pub two-nodes : {i j : ℕ} → i < j → j < count s → childAt kids s i ≢ childAt kids s j
-  two-nodes {i} {j} l m e =
-      omega (arith, e, t .rising (s .start + i) (s .start + j) (place-in (omega (arith, l, m))) (place-in m) (omega arith))
+  two-nodes {i} {j} l m e = omega (
+    arith,
+    e,
+    t .rising (s .start + i) (s .start + j) (place-in (omega (arith, l, m))) (place-in m) (omega arith),
+  )
 
   pub same-place : {i j : ℕ} → i < count s → j < count s → childAt kids s j ≡ childAt kids s i → j ≡ i
   same-place {i} {j} li lj e = by-cases (decLt j i) (λ (l : j < i). absurd (two-nodes l li e))
@@ -48,4 +51,8 @@ module _ {p : Plan} {kids : List ℕ} {s : Segment} (t : RootChildren p kids s) 
   pub lower : {i j : ℕ} → i < count s → j < count s → childAt kids s j < childAt kids s i → j < i
   lower {i} {j} li lj l = by-cases (decLt j i) (λ (x : j < i). x) (λ x. by-cases (ℕ-discrete i j)
       (λ (e : i ≡ j). absurd (omega (arith, l, ap (λ (k : ℕ). childAt kids s k) e)))
-      (λ n. absurd (omega (arith, l, t .rising (s .start + i) (s .start + j) (place-in li) (place-in lj) (omega arith)))))
+      (λ n. absurd (omega (
+        arith,
+        l,
+        t .rising (s .start + i) (s .start + j) (place-in li) (place-in lj) (omega arith),
+      ))))

@@ -22,7 +22,7 @@ use denote.Steps.{owned, nothing}
 use denote.Triple.Entry.{Vals}
 use denote.Triple.Walked.{says, Stays, stay-none, stay-none-slice, stay-ref, walkOf, ends-at}
 use denote.Exit.{yes}
-use Rattle.table_all.specs.Filled.{ItemsOf}
+use Rattle.table_all.specs.Filled.{ItemsTo}
 use Rattle.table_all.proofs.Loans.{Kᵀ, Oᵀ, Cᵀ, Loan, ref, ptr, tok, Handed, slice, Own, Kinds, Codes, Words}
 use Rattle.table_all.proofs.fill_items as draw
 
@@ -82,7 +82,7 @@ module _ (g : Handed) where
         (tok p₁) ∷ ‵ (tok p₂) ∷ ‵ (tok p₃) ∷ []
 
     -- it gives back what it promises
-    pub exits : (k o c : List ℕ) → ItemsOf (now (g .bytes)) k o c → ent 𝓤 (⋆ 𝓤 H A (Having k o c)) (Post vunit)
+    pub exits : (k o c : List ℕ) → ItemsTo (now (g .bytes)) n k o c → ent 𝓤 (⋆ 𝓤 H A (Having k o c)) (Post vunit)
     exits k o c e =
         qed W (Having k o c) ∵
         suffices ! _ (ends-at 𝓤 H A draw.ended stayed (draw.clauses 𝓤 H A at-mem run) W

@@ -2,7 +2,7 @@
 use mathlib.Core.Path.{_≡_, refl, sym, subst, _∙_}
 use mathlib.Core.Logic.{by-cases}
 use mathlib.Core.List.{List}
-use Prim.Native.Nat.{ℕ, min, _+_, _-_, _<_}
+use Prim.Native.Nat.{ℕ, min, _+_, _-_, _<_, _≤_}
 use native.Mathlib.Decide.{decLt}
 use native.Mathlib.Omega.{arith}
 use lib.ListN.{length}
@@ -13,11 +13,11 @@ use Rattle.plan_rules.proofs.Causes.{usable}
 use Rattle.plan_check.proofs.Accepted.{Clean}
 use Rattle.plan_check.proofs.Nodes.{node-is}
 use Rattle.table_orders.proofs.Chains.{AnyNode, sorted}
-use Rattle.table_orders.proofs.Table.{Tabled, tabled-none, tabled-more, tabled-all}
+use Rattle.table_orders.proofs.Table.{Tabled, zeros-unlinked, tabled-none, tabled-unlinked, tabled-more, tabled-all}
 use Rattle.plan_reader.specs.Items.{itemCount, itemOf}
 use Rattle.plan_reader.specs.declared.items.Item.{Item}
 use Rattle.plan_reader.proofs.Positions.{item-node, item-condition, item-order}
-use Rattle.table_all.specs.Filled.{ItemFits, Stored, ItemsOf}
+use Rattle.table_all.specs.Filled.{ItemFits, Stored, ItemsTo}
 use Rattle.table_all.proofs.NodeKinds.{Kinds, kinds-none, kinds-more, kinds-all}
 use Rattle.table_all.proofs.Conditions.{Noted, noted-none, noted-more, noted-all}
 
@@ -48,7 +48,8 @@ drawn b k o c i x y z e f g h t n =
 
 pub drawn-none : (b : List ℕ) {k o c : List ℕ} → length k ≡ 128 → Zeros 16384 o → Zeros 768 c → Drawn b k o c 0
 drawn-none b {k} {o} {c} l z w =
-    drawn b k o c 0 0 0 0 (omega arith) (omega arith) (omega arith) (kinds-none l) (tabled-none z) (noted-none w)
+    drawn b k o c 0 0 0 0 (omega arith) (omega arith) (omega arith) (kinds-none l) (tabled-none (zeros-unlinked z))
+    (noted-none w)
 
 -- an item is a node, a condition or an order
 data Kind (b : List ℕ) (i : ℕ) : Type 0 where
@@ -111,15 +112,27 @@ module _ (b : List ℕ) (u : Clean b) {i : ℕ} (r : Item) (e : r ≡ itemOf b i
     pub drawn-more : i < itemCount b → Drawn b k′ o′ c′ (i + 1)
     drawn-more l = more-at (kind-of b i l)
 
-pub drawn-all : (b : List ℕ) {k o c : List ℕ} → refusal b ≡ 0 → Drawn b k o c (itemCount b) → ItemsOf b k o c
+pub drawn-to : (b : List ℕ) {k o c : List ℕ} {n : ℕ} → refusal b ≡ 0 → n ≤ itemCount b → Drawn b k o c n
+    → ItemsTo b n k o c
 unfolding itemCount
-drawn-all b {k} {o} {c} r d =
-    let x : nodesTo b (nodeCount b + condCount b + orderCount b) ≡ nodeCount b = omega arith in
-    let y : ordersTo b (nodeCount b + condCount b + orderCount b) ≡ orderCount b = omega arith in
-    let z : condsTo b (nodeCount b + condCount b + orderCount b) ≡ condCount b = omega arith in
+drawn-to b {k} {o} {c} {n} r m d =
     record {
-      kinds = kinds-all r (subst (λ (n : ℕ). Kinds b k n) x (d .kinds));
-      orders = tabled-all r (node-is b) (λ x y. (λ q. (q, (tt, tt)), λ q. q .0))
-          (subst (λ (n : ℕ). Tabled b AnyNode o n) y (d .codes));
-      conditions = noted-all r (subst (λ (n : ℕ). Noted b c n) z (d .words));
+      kinds = λ l. let e : nodesTo b n ≡ nodeCount b = omega (arith, l) in
+          kinds-all r (subst (λ (j : ℕ). Kinds b k j) e (d .kinds));
+      conditions = λ l. let e : condsTo b n ≡ condCount b = omega (arith, l) in
+          noted-all r (subst (λ (j : ℕ). Noted b c j) e (d .words));
+      no-orders = λ l. let e : ordersTo b n ≡ 0 = omega (arith, l) in
+          tabled-unlinked (subst (λ (j : ℕ). Tabled b AnyNode o j) e (d .codes));
+      orders = λ l. let e : ordersTo b n ≡ orderCount b = omega (arith, l, m) in
+          tabled-all r (node-is b) (λ x y. (λ q. (q, (tt, tt)), λ q. q .0))
+          (subst (λ (j : ℕ). Tabled b AnyNode o j) e (d .codes));
     }
+
+-- the orders come last
+pub before-orders : (b : List ℕ) {n m : ℕ} → n ≡ nodeCount b → m ≡ condCount b → n + m ≤ itemCount b
+unfolding itemCount
+before-orders b e d = omega arith
+
+pub all-items : (b : List ℕ) {n : ℕ} → n ≡ itemCount b → nodeCount b + condCount b ≤ n
+unfolding itemCount
+all-items b e = omega arith

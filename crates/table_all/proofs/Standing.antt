@@ -25,11 +25,10 @@ use Rattle.runs.specs.Model.Blocked.{within, over, stands, without}
 use Rattle.runs.proofs.Reflect.{true-T}
 use Rattle.runs.proofs.Blocked.Standing.{r-stands, r-standing-order}
 use Rattle.runs.proofs.Blocked.Branches.{before-standing}
-use Rattle.tables.specs.Represents.{Represents, RepresentsTree, RepresentsOrder}
+use Rattle.tables.specs.Represents.{Represents, RepresentsKinds, RepresentsTree, RepresentsOrder, RepresentsConditions}
 use Rattle.plan_blocked.specs.Inner.{Standing}
 use Rattle.table_orders.specs.Among.{OrdersAmong}
 use Rattle.table_children.specs.Children.{planWith}
-use Rattle.table_all.specs.Filled.{ItemsOf}
 
 module _ (b : List ℕ) (ok : refusal b ≡ 0) (S : ℕ → Bool) where
   w : WellFormed (planOf b)
@@ -65,19 +64,27 @@ module _ (b : List ℕ) (ok : refusal b ≡ 0) (S : ℕ → Bool) where
       past : (c : ℕ) → ¬ (c < nodeCount b) → stands (planOf b) S c ≡ false
       past c n = not-passed _ (λ y. n (node-is b c ((r-stands (planOf b) w S c) .to (true-T _ y) .node)))
 
-  pub left-represented : Blocks (planOf b) S → {table kind from kids order conds : List ℕ} → Standing b S table
-      → ItemsOf b kind order conds → RepresentsTree from kids (nodeCount b) (planWith b table)
+  -- the orders of a plan are those of what is left, where only choices are blocked: no chain goes through a branch
+  pub orders-blocked : Blocks (planOf b) S → {order : List ℕ} → RepresentsOrder order (planOf b)
+      → RepresentsOrder order (without (planOf b) S)
+  orders-blocked blocks o = record {
+    before = λ a c la lc. Iff·trans (o .before a c (standing la .node) (standing lc .node))
+        (before-standing (planOf b) w S blocks (standing la) (standing lc));
+    after = λ a c la lc. Iff·trans (o .after a c (standing la .node) (standing lc .node))
+        (before-standing (planOf b) w S blocks (standing lc) (standing la));
+  }
+
+  -- kinds and conditions are those of the plan
+  pub left-represented : {table kind from kids order conds : List ℕ} → Standing b S table
+      → RepresentsKinds kind (planOf b) → RepresentsConditions conds (planOf b)
+      → RepresentsTree from kids (nodeCount b) (planWith b table)
+      → RepresentsOrder order (without (planOf b) S)
       → Represents kind from kids order conds (nodeCount b) (without (planOf b) S)
-  left-represented blocks {table} {from = from} {kids} h i t = record {
-    kinds = record { is = λ n l. i .kinds .is n (standing l .node) };
+  left-represented {from = from} {kids} h k c t o = record {
+    kinds = record { is = λ n l. k .is n (standing l .node) };
     tree = record { size = tree .size; children = λ g l. record { child = tree .children g l .child } };
-    orders = record {
-      before = λ a c la lc. Iff·trans (i .orders .before a c (standing la .node) (standing lc .node))
-          (before-standing (planOf b) w S blocks (standing la) (standing lc));
-      after = λ a c la lc. Iff·trans (i .orders .after a c (standing la .node) (standing lc .node))
-          (before-standing (planOf b) w S blocks (standing lc) (standing la));
-    };
-    conditions = record { says = λ n l. i .conditions .says n (standing l .node) };
+    orders = o;
+    conditions = record { says = λ n l. c .says n (standing l .node) };
   }
     where
       tree : RepresentsTree from kids (nodeCount b) (over (planOf b) (within (planOf b .tree) (stands (planOf b) S))

@@ -13,8 +13,8 @@ use Rattle.plan_rules.specs.Rules.{refusal}
 use Rattle.plan_check.proofs.Accepted.{clean}
 use Rattle.plan_reader.specs.Items.{itemCount, itemOf}
 use Rattle.plan_reader.specs.declared.items.Item.{Item}
-use Rattle.table_all.specs.Filled.{ItemFits, Stored, ItemsOf}
-use Rattle.table_all.proofs.Drawn.{Drawn, drawn-none, drawn-fits, drawn-more, drawn-all}
+use Rattle.table_all.specs.Filled.{ItemFits, Stored, ItemsTo}
+use Rattle.table_all.proofs.Drawn.{Drawn, drawn-none, drawn-fits, drawn-more, drawn-to}
 
 -- a position not past n, the tables there, and that they have the items up to it
 pub record State (b : List ℕ) (n : ℕ) : Type 0 where
@@ -32,21 +32,21 @@ Nearer b n j i = n - j .at < n - i .at
 pub nearer-wf : (b : List ℕ) (n : ℕ) → WellFounded (Nearer b n)
 nearer-wf b n = InvImage·wf (λ (i : State b n). n - i .at) (Nat·lt-wfRel .wf)
 
--- an accepted plan with n items
-module _ (b : List ℕ) (n : ℕ) (ok : refusal b ≡ 0) (all : n ≡ itemCount b) where
+-- n items of an accepted plan
+module _ (b : List ℕ) (n : ℕ) (ok : refusal b ≡ 0) (has : n ≤ itemCount b) where
   abbrev pub first-state : (k o c : List ℕ) → length k ≡ 128 → Zeros 16384 o → Zeros 768 c → State b n
   first-state k o c l z w =
       record { at = 0; low = zero-le; kinds = k; codes = o; words = c; drawn = drawn-none b l z w }
 
-  pub last-state : (i : State b n) → n ≤ i .at → ItemsOf b (i .kinds) (i .codes) (i .words)
+  pub last-state : (i : State b n) → n ≤ i .at → ItemsTo b n (i .kinds) (i .codes) (i .words)
   last-state i l =
-      let e : i .at ≡ itemCount b = omega (arith, i .low) in
-      drawn-all b ok (subst (λ (j : ℕ). Drawn b (i .kinds) (i .codes) (i .words) j) e (i .drawn))
+      let e : i .at ≡ n = omega (arith, i .low) in
+      drawn-to b ok has (subst (λ (j : ℕ). Drawn b (i .kinds) (i .codes) (i .words) j) e (i .drawn))
 
   -- x is the item at a state that is not the last
   module _ (i : State b n) (less : i .at < n) where
     pub an-item : i .at < itemCount b
-    an-item = omega arith
+    an-item = omega (arith, less, has)
 
     module _ (x : Item) (e : x ≡ itemOf b (i .at)) where
       pub item-fits : ItemFits (i .at) x

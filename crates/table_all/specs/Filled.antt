@@ -6,13 +6,14 @@ use Prim.Native.Nat.{ℕ, _+_, _*_, _/_, _%_, _^_, _<_, _≤_}
 use lib.Bits.{bitOr}
 use lib.ListN.{getD, set}
 use Rattle.base.specs.Zeros.{Zeros}
-use Rattle.plan_format.specs.Format.{nodeCount}
+use Rattle.plan_format.specs.Format.{nodeCount, condCount}
 use Rattle.plan_check.specs.Meaning.{planOf}
 use Rattle.tables.specs.Represents.{Represents, RepresentsKinds, RepresentsOrder, RepresentsConditions}
 use Rattle.runs.specs.Branches.{Blocks}
 use Rattle.runs.specs.Model.Blocked.{without}
 use Rattle.plan_blocked.specs.Inner.{Standing}
-use Rattle.table_orders.specs.Links.{Linked, Leading}
+use Rattle.plan_reader.specs.Items.{itemCount}
+use Rattle.table_orders.specs.Links.{Unlinked, Linked, Leading}
 use Rattle.table_children.specs.Children.{TreeIn, planWith}
 use Rattle.plan_reader.specs.declared.items.Item.{Item}
 use Rattle.plan_reader.specs.declared.items.Item.the-variants as item
@@ -33,6 +34,12 @@ pub record TablesOf (b standing kind from kids order conds : List ℕ) : Type 0 
   pub represents : (S : ℕ → Bool) → Blocks (planOf b) S → Standing b S standing
       → Represents kind from kids order conds (nodeCount b) (without (planOf b) S)
 
+-- the same of any nodes S, with the orders between nodes that stand
+pub record AmongOf (b standing kind from kids order conds : List ℕ) : Type 0 where
+  pub children : TreeIn (planWith b standing) (nodeCount b) from kids
+  pub represents : (S : ℕ → Bool) → Standing b S standing
+      → Represents kind from kids order conds (nodeCount b) (without (planOf b) S)
+
 -- an item that has a place in the tables
 unfoldable pub ItemFits : ℕ → Item → Type 0
 ItemFits at (item.Node x) = at < NODES
@@ -47,8 +54,9 @@ Stored at (item.Condition x) k k′ o o′ c c′ =
     × ((k′ ≡ k) × (o′ ≡ o))
 Stored at (item.Order x) k k′ o o′ c c′ = Linked o o′ (x .later) (Leading o (x .earlier)) × ((k′ ≡ k) × (c′ ≡ c))
 
--- the tables that are filled from the items
-pub record ItemsOf (b kind order conds : List ℕ) : Type 0 where
-  pub kinds : RepresentsKinds kind (planOf b)
-  pub orders : RepresentsOrder order (planOf b)
-  pub conditions : RepresentsConditions conds (planOf b)
+-- the tables with the first n items: nodes, then conditions, then orders
+pub record ItemsTo (b : List ℕ) (n : ℕ) (kind order conds : List ℕ) : Type 0 where
+  pub kinds : nodeCount b ≤ n → RepresentsKinds kind (planOf b)
+  pub conditions : nodeCount b + condCount b ≤ n → RepresentsConditions conds (planOf b)
+  pub no-orders : n ≤ nodeCount b + condCount b → Unlinked order
+  pub orders : itemCount b ≤ n → RepresentsOrder order (planOf b)

@@ -14,7 +14,7 @@ use Rattle.plan_rules.specs.Rules.{refusal}
 use Rattle.plan_check.specs.Meaning.{planOf}
 use Rattle.plan_check.proofs.Accepted.{clean}
 use Rattle.runs.specs.Plan.{Plan, Node}
-use Rattle.table_orders.specs.Links.{Linked, Leading}
+use Rattle.table_orders.specs.Links.{Unlinked, Linked, Leading}
 use Rattle.table_orders.proofs.Chains.{OrderTo, ChainTo, Sorted, chain-none, chain-weaken, chain-skip}
 use Rattle.table_orders.proofs.Chains.{chain-rises, chain-split, chain-ends, chains-before, orders-in}
 
@@ -27,17 +27,30 @@ pub record Tabled (b : List ℕ) (P : ℕ → Type 0) (order : List ℕ) (i : �
   pub long : length order ≡ 16384
   pub coded : (x y : ℕ) → x < 128 → y < 128 → Coded b P i (code order x y) x y
 
-pub tabled-none : {b order : List ℕ} {P : ℕ → Type 0} → Zeros 16384 order → Tabled b P order 0
-tabled-none {b} {order} {P} h =
-    record {
-      long = h .long;
-      coded = λ x y l m.
-          let z : code order x y ≡ 0 = h .zero (x * 128 + y) (omega arith) in
-          record {
-            before = (λ e. absurd (omega arith), λ q. absurd (chain-none b P q));
-            after = (λ e. absurd (omega arith), λ q. absurd (chain-none b P q));
-          };
-    }
+-- without orders
+pub zeros-unlinked : {order : List ℕ} → Zeros 16384 order → Unlinked order
+zeros-unlinked {order} h = record {
+  long = h .long;
+  free = λ x y l m. let z : code order x y ≡ 0 = h .zero (x * 128 + y) (omega arith) in
+      (λ e. omega arith, λ e. omega arith);
+}
+
+module _ {b order : List ℕ} {P : ℕ → Type 0} where
+  pub tabled-none : Unlinked order → Tabled b P order 0
+  tabled-none h = record {
+    long = h .long;
+    coded = λ x y l m. let (n, k) = h .free x y l m in record {
+      before = (λ e. absurd (n e), λ q. absurd (chain-none b P q));
+      after = (λ e. absurd (k e), λ q. absurd (chain-none b P q));
+    };
+  }
+
+  pub tabled-unlinked : Tabled b P order 0 → Unlinked order
+  tabled-unlinked t = record {
+    long = t .long;
+    free = λ x y l m. let d = t .coded x y l m in
+        (λ e. chain-none b P ((d .before) .0 e), λ e. chain-none b P ((d .after) .0 e));
+  }
 
 module _ (b : List ℕ) (P : ℕ → Type 0) (i : ℕ) (s : Sorted b) (k : i ≤ orderCount b) where
   coded-before : {v x y : ℕ} → v ≡ 1 → ChainTo b P i x y → Coded b P i v x y

@@ -3,11 +3,10 @@ ghost use mathlib.Core.Path.{_≡_};
 ghost use mathlib.Core.Bool.{_&&_};
 ghost use Prim.Native.Nat.{_<_};
 ghost use lib.ListN.{length};
-ghost use Rattle.base.specs.Zeros.{Zeros};
 ghost use Rattle.tables.specs.Sizes.{NODES, PAIRS};
 ghost use Rattle.node_sets.specs.Sets.{marked};
 ghost use Rattle.plan_rules.specs.Rules.{refusal};
-ghost use Rattle.table_orders.specs.Links.{Linked, Leading};
+ghost use Rattle.table_orders.specs.Links.{Unlinked, Linked, Leading};
 ghost use Rattle.table_orders.specs.Among.{OrdersAmong};
 use base::wide;
 use plan_format::fields::earlier;
@@ -52,10 +51,10 @@ fn both_stand(standing: &Nodes, a: usize, b: usize) -> bool
     (standing[a] == 1) & (standing[b] == 1)
 }
 
-// Puts the orders of an accepted plan into a blank table, those between nodes that stand. An order of which a node does
-// not stand puts nothing before anything.
+// Puts the orders of an accepted plan into a table without any, those between nodes that stand. An order of which a
+// node does not stand puts nothing before anything.
 pub fn fill_orders(plan: &[u8], standing: &Nodes, order: &mut Orders)
-    requires { ⌜ (refusal (now plan) ≡ 0) × Zeros PAIRS (now order) ⌝ }
+    requires { ⌜ (refusal (now plan) ≡ 0) × Unlinked (now order) ⌝ }
     ensures { λ r. ⌜ OrdersAmong (now (plan .entry)) (now (standing .entry)) (now (order .exit)) ⌝ }
 {
     let n = orders(plan);

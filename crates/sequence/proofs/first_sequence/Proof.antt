@@ -7,13 +7,13 @@ use Rattle.sequence.proofs.first_sequence.Statement.{statement}
 use Rattle.sequence.proofs.first_sequence.Tie as tie
 
 -- what the call was given, the tables, the root's segment, the rows
-abbrev standing : tie.After-fill-tables → tie.After-all-nodes
+abbrev standing : tie.After-fill-among → tie.After-all-nodes
 standing c = c .before .before .before .before .before .before .before .before .before .before .before .before
 
-abbrev entry : tie.After-fill-tables → tie.Start
+abbrev entry : tie.After-fill-among → tie.Start
 entry c = standing c .before .before
 
-abbrev filled : tie.After-children → tie.After-fill-tables
+abbrev filled : tie.After-children → tie.After-fill-among
 filled c = c .before .before
 
 abbrev counted : tie.After-rows-below → tie.After-nodes
@@ -25,19 +25,19 @@ segment c = c .before .before .before .before
 returns : tie.Need-returns
 returns c =
     let t = filled (c .before) in
-    not-all (entry t .pre) (standing t .all-nodes .ensures) (t .fill-tables .ensures) (c .if1 .taken)
+    not-all (entry t .pre) (standing t .all-nodes .ensures) (t .fill-among .ensures) (c .if1 .taken)
 
 sub-if2 : tie.Need-sub-if2
 sub-if2 c =
     let s = c .before .before in
     let t = filled s in
-    in-order (entry t .pre) (standing t .all-nodes .ensures) (t .fill-tables .ensures) (s .children .ensures)
+    in-order (entry t .pre) (standing t .all-nodes .ensures) (t .fill-among .ensures) (s .children .ensures)
 
 returns-2 : tie.Need-returns-2
 returns-2 c =
     let s = c .before .before .before in
     let t = filled s in
-    too-many (entry t .pre) (standing t .all-nodes .ensures) (t .fill-tables .ensures) (s .children .ensures)
+    too-many (entry t .pre) (standing t .all-nodes .ensures) (t .fill-among .ensures) (s .children .ensures)
     (c .if2 .taken)
 
 nodes-requires : tie.Need-nodes-requires
@@ -47,7 +47,7 @@ rows-below-requires : tie.Need-rows-below-requires
 rows-below-requires c κs =
     let n = c .before .before .before .before .before .before .before in
     let t = filled (segment n) in (
-      at-root (entry t .pre) (standing t .all-nodes .ensures) (t .fill-tables .ensures) (n .nodes .ensures),
+      at-root (entry t .pre) (standing t .all-nodes .ensures) (t .fill-among .ensures) (n .nodes .ensures),
       c .before .before .before .before .before .before .no-rows .ensures,
     )
 
@@ -59,7 +59,7 @@ first-among-requires c κs =
     let n = counted (c .before .before .before .before) in
     let s = segment n in
     let t = filled s in
-    in-range (entry t .pre) (standing t .all-nodes .ensures) (t .fill-tables .ensures) (s .children .ensures)
+    in-range (entry t .pre) (standing t .all-nodes .ensures) (t .fill-among .ensures) (s .children .ensures)
     (n .before .if2 .left)
 
 returns-3 : tie.Need-returns-3
@@ -69,7 +69,7 @@ returns-3 c =
     let n = counted rows in
     let s = segment n in
     let t = filled s in
-    c .first-among .ensures _ _ (below (entry t .pre) (standing t .all-nodes .ensures) (t .fill-tables .ensures)
+    c .first-among .ensures _ _ (below (entry t .pre) (standing t .all-nodes .ensures) (t .fill-among .ensures)
     (s .children .ensures) (n .before .before .before .if1 .left) (n .nodes .ensures) (rows .rows-below .ensures))
     (word .start-word .ensures)
 
