@@ -12,14 +12,24 @@ use relation::Before;
 
 /// The marks at every node, for each the literals in the order of a summary's entries.
 pub fn marks(plan: &Plan) -> Vec<Vec<Marks>> {
-    let before = Before::new(plan);
     let mut found = vec![Vec::new(); plan.nodes.len()];
-    for flag in 0..plan.flags {
-        for (node, pair) in of_flag(plan, &before, flag).into_iter().enumerate() {
+    for nodes in by_flag(plan) {
+        for (node, pair) in nodes.into_iter().enumerate() {
             found[node].extend(pair.map(|facts| facts.marks));
         }
     }
     found
+}
+
+/// The marks at the root, in the same order, each flag's worked out when they are asked for.
+pub fn root_marks(plan: &Plan) -> impl Iterator<Item = Marks> + '_ {
+    by_flag(plan).flat_map(|nodes| nodes[0].map(|facts| facts.marks))
+}
+
+/// For one flag after another the facts about it at every node.
+fn by_flag(plan: &Plan) -> impl Iterator<Item = Vec<Pair>> + '_ {
+    let before = Before::new(plan);
+    (0..plan.flags).map(move |flag| of_flag(plan, &before, flag))
 }
 
 /// The facts about one flag at every node. Children have higher numbers than their parent.
