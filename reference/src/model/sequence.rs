@@ -1,46 +1,37 @@
-//! Sequences of the root's children (02, 101: a serial order), with refusals 23 and 24.
-//!
-//! 02 lets any one of them be answered. So what a call returned is judged here, and which one is
-//! found first is of no account.
+//! Sequences of the root's children (02, 101: a serial order), with refusals 23 and 24, and which
+//! of them is answered (109).
 
 use crate::model::format::{Order, Plan};
 use crate::model::marks::marks;
 use crate::model::rules::accept;
-use crate::model::verdict::{verdict, Verdict};
+use crate::model::verdict::is_clear;
 
 /// So many children the root may have.
 pub const MOST_CHILDREN: usize = 7;
 
-/// Whether the call may return this on these bytes: the first of refusals 1 to 14, 23 and 24 that
-/// applies, or else the word of any sequence under which the plan is CLEAR.
-pub fn may_return(bytes: &[u8], word: u64) -> bool {
-    let refusal = match accept(bytes) {
-        Ok(plan) if read(word).is_some_and(|list| is_found(&plan, &list)) => return true,
-        Ok(plan) => sequence(&plan).err(),
-        Err(number) => Some(number),
-    };
-    refusal.is_some_and(|number| word == u64::from(number))
+/// What the call is to return on these bytes: the first of refusals 1 to 14, 23 and 24 that
+/// applies, or else the word of the sequence.
+pub fn answer(bytes: &[u8]) -> u64 {
+    match accept(bytes).and_then(|plan| sequence(&plan)) {
+        Ok(sequence) => word(&sequence),
+        Err(number) => u64::from(number),
+    }
 }
 
-/// Some sequence under which the plan is CLEAR, or refusal 23 or 24.
+/// The first admitted sequence in dictionary order of node numbers, or refusal 23 or 24.
 pub fn sequence(plan: &Plan) -> Result<Vec<usize>, u32> {
     let children = children(plan)?;
     if some_child_clobbers(plan, &children) {
         return Err(24);
     }
-    let mut sequences = arrangements(&children).filter(|list| agrees(plan, list));
-    let found = sequences.find(|list| verdict(&under(plan, list)) == Verdict::Clear);
-    found.ok_or(24)
+    let mut all = in_dictionary_order(&children).into_iter();
+    all.find(|list| admits(plan, list)).ok_or(24)
 }
 
-/// Whether the list has all the root's children, each once, agrees with the plan's orders, and the
-/// plan is CLEAR under it.
-pub fn is_found(plan: &Plan, list: &[usize]) -> bool {
-    let mut sorted = list.to_vec();
-    sorted.sort_unstable();
-    children(plan) == Ok(sorted)
-        && agrees(plan, list)
-        && verdict(&under(plan, list)) == Verdict::Clear
+/// Whether this arrangement of the root's children meets 101's conditions: it agrees with the
+/// plan's orders, and the plan is CLEAR under it.
+pub fn admits(plan: &Plan, list: &[usize]) -> bool {
+    agrees(plan, list) && is_clear(&under(plan, list))
 }
 
 /// The root's children, or 23: the root is not an all-of group or has more than seven.
@@ -60,8 +51,16 @@ fn some_child_clobbers(plan: &Plan, children: &[usize]) -> bool {
     children.iter().any(clobbers)
 }
 
-/// Every list of these nodes that has each of them once.
-pub fn arrangements(nodes: &[usize]) -> impl Iterator<Item = Vec<usize>> + '_ {
+/// Every list that has each of these nodes once. Of two lists the one precedes that has the lower
+/// number at the first place where they differ, as Rust compares lists.
+pub fn in_dictionary_order(nodes: &[usize]) -> Vec<Vec<usize>> {
+    let mut lists: Vec<Vec<usize>> = arrangements(nodes).collect();
+    lists.sort();
+    lists
+}
+
+/// The same lists, in no order that matters.
+fn arrangements(nodes: &[usize]) -> impl Iterator<Item = Vec<usize>> + '_ {
     let count: usize = (1..=nodes.len()).product();
     // The digits of a number, to falling bases, say which of the nodes left comes next.
     (0..count).map(|mut number| {
@@ -114,6 +113,10 @@ pub fn read(word: u64) -> Option<Vec<usize>> {
 #[cfg(test)]
 mod tests {
     use super::*;
+    use crate::model::format::{
+        Condition, Node, ALL_OF, CLEAR, NO_PARENT, POSTCONDITION, PRECONDITION, SET, TASK,
+    };
+    use crate::model::verdict::{verdict, Verdict};
     use std::collections::HashSet;
 
     #[test]
@@ -130,6 +133,76 @@ mod tests {
         ];
         assert_eq!(of(&[1, 2, 5]), three.map(Vec::from).into());
         assert_eq!(of(&[1, 2, 3, 4, 5, 6, 7]).len(), 5_040);
+    }
+
+    /// Numbers are compared, not their digits.
+    #[test]
+    fn dictionary_order() {
+        let of_three = [
+            [2, 10, 127],
+            [2, 127, 10],
+            [10, 2, 127],
+            [10, 127, 2],
+            [127, 2, 10],
+            [127, 10, 2],
+        ];
+        assert_eq!(in_dictionary_order(&[2, 10, 127]), of_three);
+        assert_eq!(in_dictionary_order(&[127, 10, 2]), of_three);
+        let seven = in_dictionary_order(&[1, 2, 3, 4, 5, 6, 7]);
+        let precedes = |one: &Vec<usize>, other: &Vec<usize>| {
+            let mut places = one.iter().zip(other);
+            places.find(|(a, b)| a != b).is_some_and(|(a, b)| a < b)
+        };
+        assert!(seven.len() == 5_040 && seven.is_sorted_by(precedes));
+    }
+
+    /// A task under the root, or the root.
+    fn node(parent: u8, kind: u8) -> Node {
+        Node {
+            name: *b"NODE",
+            parent,
+            kind,
+            minutes: 0,
+        }
+    }
+
+    /// Four tasks, each of which needs the flag clear, or set, or not, and leaves it so: digits of
+    /// a number to base 9.
+    fn four_tasks(mut number: usize) -> Plan {
+        let mut conditions = Vec::new();
+        for task in 1..=4 {
+            let (needs, leaves) = (number % 3, number / 3 % 3);
+            for (place, sign) in [(PRECONDITION, needs), (POSTCONDITION, leaves)] {
+                let signs = [None, Some(CLEAR), Some(SET)][sign].into_iter();
+                conditions.extend(signs.map(|sign| Condition::new(task, place, 0, sign)));
+            }
+            number /= 9;
+        }
+        let nodes = [node(NO_PARENT, ALL_OF)].into_iter();
+        Plan {
+            flags: 1,
+            start: [0; 8],
+            nodes: nodes.chain([node(0, TASK); 4]).collect(),
+            conditions,
+            orders: vec![Order::new(2, 4)],
+        }
+    }
+
+    /// Of all arrangements that agree and are CLEAR the least is answered.
+    #[test]
+    fn least_of_all() {
+        let mut several = 0;
+        for number in 0..9_usize.pow(4) {
+            let plan = four_tasks(number);
+            let clear: Vec<Vec<usize>> = arrangements(&[1, 2, 3, 4])
+                .filter(|list| agrees(&plan, list))
+                .filter(|list| verdict(&under(&plan, list)) == Verdict::Clear)
+                .collect();
+            let least = clear.iter().min().cloned();
+            assert_eq!(sequence(&plan), least.ok_or(24), "{plan:?}");
+            several += usize::from(clear.len() > 1);
+        }
+        assert!(several > 1_000, "{several}");
     }
 
     #[test]

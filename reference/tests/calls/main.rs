@@ -19,7 +19,7 @@ use reference::tools::scenario::tally::Tally;
 
 type Topic = (&'static str, fn(&mut Tally));
 
-const TOPICS: [Topic; 39] = [
+const TOPICS: [Topic; 40] = [
     ("summaries of small plans, by runs", summaries::small),
     ("summaries of large plans, by rules", summaries::large),
     ("summaries of the samples", summaries::samples),
@@ -86,7 +86,11 @@ const TOPICS: [Topic; 39] = [
     ("sequences of every small plan", sequences::every),
     ("sequences, places changed", sequences::places_changed),
     ("sequences of large plans", sequences::large),
-    ("sequences, by verdicts", sequences::by_verdicts),
+    (
+        "the first sequence, by verdicts",
+        sequences::first::by_verdicts,
+    ),
+    ("the first sequence, by pairs", sequences::first::kept_back),
     ("plans with damaged bytes", damage::bytes),
     ("plans with damaged fields", damage::fields),
 ];

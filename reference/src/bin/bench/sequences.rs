@@ -4,7 +4,7 @@
 use std::hint::black_box;
 
 use reference::model::format::{Node, Plan, CLEAR, NO_PARENT, SET};
-use reference::model::sequence::may_return;
+use reference::model::sequence::answer;
 use reference::tools::archive;
 use reference::tools::generate::clear::clear_plan;
 use reference::tools::generate::disordered::disordered;
@@ -111,14 +111,13 @@ fn opposed(plan: Plan) -> Plan {
 fn check(Shaped { name, plan }: &Shaped) {
     let bytes = plan.bytes();
     let (by_plain, _) = plain::sequence(&bytes);
-    let found = archive::sequence(&mut bytes.clone());
-    let right = match by_plain {
-        24 => found == 24,
-        _ => [found, by_plain]
-            .iter()
-            .all(|&word| may_return(&bytes, word)),
+    let want = match by_plain {
+        24 => 24,
+        _ => answer(&bytes),
     };
-    assert!(right && by_plain > 23, "{name}: {found:#x}");
+    let found = archive::sequence(&mut bytes.clone());
+    assert_eq!([found, by_plain], [want; 2], "{name}");
+    assert!(want > 23, "{name}");
 }
 
 fn times(Shaped { plan, .. }: &Shaped) -> Times {

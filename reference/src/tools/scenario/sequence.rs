@@ -1,21 +1,20 @@
-//! The sequence call (02, 101). It may return the word of any sequence that 02 admits, so its
-//! returns are judged, not compared.
+//! The sequence call (02, 101 and 109), which alone returns a word of 64 bits.
 
-use crate::model::sequence::may_return;
+use crate::model::sequence::answer;
 use crate::tools::memory::{hex, Lent};
 
-/// What the call returns on these bytes, which it must leave as they are; or how it may not return
-/// that.
-pub fn judged(plan: &[u8], call: impl FnOnce(&mut [u8]) -> u64) -> Result<u64, String> {
+/// What the call returns on these bytes, which it must leave as they are; or how it differs from
+/// the reference.
+pub fn compared(plan: &[u8], call: impl FnOnce(&mut [u8]) -> u64) -> Result<u64, String> {
     let mut lent = Lent::new(plan);
-    let word = call(lent.items());
+    let (found, want) = (call(lent.items()), answer(plan));
     let after = lent.back();
-    let wrong = if !may_return(plan, word) {
-        format!("returns {word:#x}")
+    let wrong = if found != want {
+        format!("returns {found:#x}, not {want:#x}")
     } else if after != plan {
         format!("leaves the plan as {}", hex(&after))
     } else {
-        return Ok(word);
+        return Ok(found);
     };
     Err(format!("the sequence call {wrong}; lent was {}", hex(plan)))
 }

@@ -3,7 +3,7 @@
 use std::collections::BTreeMap;
 use std::fmt;
 
-use super::sequence::judged;
+use super::sequence::compared;
 use super::{After, Case};
 use crate::model::calls::{Answers, Call};
 use crate::tools::archive;
@@ -42,10 +42,10 @@ impl Tally {
         }
     }
 
-    /// The archive returns a sequence that the reference admits, or its refusal.
+    /// Archive and reference agree on the sequence or the refusal that these bytes meet.
     #[track_caller]
     pub fn sequence(&mut self, plan: &[u8]) -> u64 {
-        match judged(plan, archive::sequence) {
+        match compared(plan, archive::sequence) {
             Ok(word) => {
                 self.count("sequence", u32::try_from(word).unwrap_or(256));
                 word

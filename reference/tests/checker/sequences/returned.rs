@@ -1,11 +1,11 @@
-//! Refusals and their order, and what the judge of returns does not admit.
+//! Refusals and their order, and wrong returns, which the comparison finds.
 
 use reference::model::format::{Plan, ANY_OF, OPTIONAL};
-use reference::model::sequence::{may_return, word};
+use reference::model::sequence::word;
 use reference::tools::archive;
-use reference::tools::scenario::sequence::judged;
+use reference::tools::scenario::sequence::compared;
 
-use super::returned;
+use super::{admitted, returned};
 use crate::{fields, plan, sample};
 
 /// 23: the root is a task, an any-of or an optional group, or has more than seven children.
@@ -64,36 +64,45 @@ fn refused_bytes() {
     }
 }
 
-/// A, then C, then Z, in which only Z, C, A and C, Z, A pass, and 1 is before no other.
+/// A, C and Z, of which Z has to come before A: 2, 3, 1; 3, 1, 2; 3, 2, 1.
 const PLAN: &str = "flags 1\n0 ROOT all-of\n1 A--- task 0 under 0 leaves 0-set\n\
     2 C--- task 0 under 0\n3 Z--- task 0 under 0 needs 0-clear\n";
 
-/// Words that no call may return, by what is wrong with them.
-#[test]
-fn judged_words() {
-    let free = plan(PLAN);
-    for right in [[3, 2, 1], [2, 3, 1], [3, 1, 2]] {
-        assert!(may_return(&free, word(&right)), "{right:?}");
+/// A call that returns this word is right, and no call that returns one of the others is.
+#[track_caller]
+fn only(plan: &[u8], right: u64, wrong: &[u64]) {
+    assert_eq!(compared(plan, |_| right), Ok(right));
+    for &wrong in wrong {
+        let differs = compared(plan, |_| wrong);
+        assert!(differs.is_err(), "{wrong:#x}");
     }
-    let lists: [&[usize]; 10] = [
+}
+
+/// Words that are not to be returned, by what is wrong with them.
+#[test]
+fn wrong_words() {
+    let free = plan(PLAN);
+    let right = word(&[2, 3, 1]);
+    let lists: [&[usize]; 13] = [
+        // Admitted, but not the first.
+        &[3, 1, 2],
+        &[3, 2, 1],
         // OPEN, or DOOMED, under it.
         &[1, 2, 3],
+        &[1, 3, 2],
         &[2, 1, 3],
         // A child forgotten, twice, or another node.
-        &[3, 2],
-        &[3],
+        &[2, 3],
+        &[2],
         &[],
-        &[3, 2, 1, 1],
-        &[3, 3, 1],
-        &[3, 2, 0],
-        &[4, 3, 2, 1],
-        &[3, 2, 129],
+        &[2, 3, 1, 1],
+        &[2, 2, 1],
+        &[2, 3, 0],
+        &[4, 2, 3, 1],
+        &[2, 3, 129],
     ];
-    for wrong in lists {
-        assert!(!may_return(&free, word(wrong)), "{wrong:?}");
-    }
-    let right = word(&[3, 2, 1]);
-    for wrong in [
+    only(&free, right, &lists.map(word));
+    let others = [
         0,
         14,
         23,
@@ -103,38 +112,51 @@ fn judged_words() {
         right + (1 << 56),
         right - (1 << 56),
         right - (3 << 56),
-        0x0302_0100_0000_0000,
+        0x0301_0302_0000_0000,
+        0x0302_0301_0000_0000,
         u64::MAX,
-    ] {
-        assert!(!may_return(&free, wrong), "{wrong:#x}");
-    }
-    // One of them breaks an order.
-    let ordered = plan(&format!("{PLAN}order 2 3\n"));
-    assert!(may_return(&ordered, word(&[2, 3, 1])));
-    assert!(!may_return(&ordered, right) && !may_return(&ordered, 24));
+    ];
+    only(&free, right, &others);
+    // The first one breaks an order, so that the next is the first.
+    let ordered = plan(&format!("{PLAN}order 1 2\n"));
+    only(&ordered, word(&[3, 1, 2]), &[right, word(&[3, 2, 1]), 24]);
     let none = plan(&format!("{PLAN}order 1 3\n"));
-    assert!(may_return(&none, 24));
-    for wrong in [23, right, word(&[1, 2, 3]), word(&[1, 3, 2])] {
-        assert!(!may_return(&none, wrong), "{wrong:#x}");
-    }
+    only(&none, 24, &[23, right, word(&[1, 2, 3]), word(&[1, 3, 2])]);
     // Of a refused plan its refusal alone, of an any-of root 23.
     let b = sample("b");
-    for wrong in [0, 1, 23, 24, word(&[1, 2])] {
-        assert!(!may_return(&b[..20], wrong));
-    }
+    only(&b[..20], 3, &[0, 1, 23, 24, word(&[1, 2])]);
     let choice = plan(&PLAN.replace("all-of", "any-of"));
-    assert!(may_return(&choice, 23) && !may_return(&choice, right) && !may_return(&choice, 24));
+    only(&choice, 23, &[24, right]);
+}
+
+/// Every other admitted sequence is wrong: the second, and so on to the last, which may be the
+/// first one reversed.
+#[test]
+fn all_but_the_first() {
+    for (bytes, count) in [
+        (plan(PLAN), 3),
+        (sample("b-without-order"), 2),
+        (sample("restored-unordered"), 2),
+        (sample("sequence-found"), 2),
+        (sample("branch-blocked"), 6),
+        (Plan::flat(1, 6).bytes(), 120),
+    ] {
+        let words: Vec<u64> = admitted(&bytes).iter().map(|list| word(list)).collect();
+        assert_eq!(words.len(), count);
+        only(&bytes, words[0], &words[1..]);
+    }
 }
 
 #[test]
 fn a_byte_of_the_plan_written() {
     let b = sample("b");
-    assert_eq!(judged(&b, archive::sequence), Ok(word(&[1, 2])));
-    let written = judged(&b, |plan| {
+    assert_eq!(compared(&b, archive::sequence), Ok(word(&[1, 2])));
+    let written = compared(&b, |plan| {
         plan[16] = b'N';
         word(&[1, 2])
     });
     assert!(written.is_err_and(|message| message.contains("leaves the plan as 82 bytes")));
-    let other = judged(&b, |_| 24);
-    assert!(other.is_err_and(|message| message.contains("returns 0x18")));
+    let other = compared(&b, |_| 24);
+    let message = "returns 0x18, not 0x200000000000201";
+    assert!(other.is_err_and(|told| told.contains(message)));
 }

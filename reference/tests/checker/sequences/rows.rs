@@ -3,32 +3,9 @@
 use reference::model::format::{Plan, CLEAR, NO_PARENT, SET};
 use reference::model::sequence::read;
 
-use super::{admitted, check, returned, NONE};
+use super::{admitted, below, check, returned};
+use super::{ANY_OF_THREE, BARE, CLEARS, NEEDS, NONE, SETS};
 use crate::{plan, sample};
-
-/// A plan with an all-of root and these lines below it.
-#[track_caller]
-fn below(lines: &str) -> Vec<u8> {
-    plan(&format!(
-        "flags 2\n0 ROOT all-of\n{}\n",
-        lines.replace("; ", "\n")
-    ))
-}
-
-const SETS: &str = "SETS task 0 under 0 leaves 0-set";
-const CLEARS: &str = "CLEA task 0 under 0 leaves 0-clear";
-const NEEDS: &str = "NEED task 0 under 0 needs 0-clear";
-const BARE: &str = "BARE task 0 under 0";
-
-/// Every sequence of the children 1, 2 and 3.
-const ANY_OF_THREE: [[usize; 3]; 6] = [
-    [1, 2, 3],
-    [1, 3, 2],
-    [2, 1, 3],
-    [2, 3, 1],
-    [3, 1, 2],
-    [3, 2, 1],
-];
 
 /// A leaves the flag set, Z needs it clear: only Z before A, against the numbers.
 #[test]
@@ -149,15 +126,14 @@ fn may_is_not_must() {
         check(&below(&in_order), NONE);
     }
     // With both branches restoring it an any-of group must, an optional one still need not.
-    for (kind, restored) in [("any-of", true), ("optional", false)] {
+    let must = [[1, 2, 5], [2, 5, 1], [5, 1, 2], [5, 2, 1]];
+    for (kind, free, in_order) in [
+        ("any-of", &must[..], &must[..1]),
+        ("optional", &must[1..], &[]),
+    ] {
         let both = group(kind, "clear").replace("2; 5", "2 leaves 0-clear; 5");
-        let mut want = vec![[2, 5, 1], [5, 1, 2], [5, 2, 1]];
-        if restored {
-            want.push([1, 2, 5]);
-        }
-        check(&below(&both), &want);
-        let in_order = format!("{both}; order 1 2; order 2 5");
-        check(&below(&in_order), &want[3..]);
+        check(&below(&both), free);
+        check(&below(&format!("{both}; order 1 2; order 2 5")), in_order);
     }
 }
 
@@ -230,7 +206,8 @@ fn seven_children() {
     for children in 1..=7 {
         factorial *= children;
         assert_eq!(admitted(&bare(children)).len(), factorial);
-        assert_eq!(returned(&bare(children)) >> 56, children as u64);
+        let rising: Vec<usize> = (1..=children).collect();
+        assert_eq!(read(returned(&bare(children))), Some(rising));
         let falling = falling(children as u8).bytes();
         let want: Vec<usize> = (1..=children).rev().collect();
         assert_eq!(read(returned(&falling)), Some(want));
@@ -288,9 +265,8 @@ fn as_many_orders_as_may_be() {
         plan = plan.order(earlier, later);
     }
     assert_eq!(plan.orders.len(), 512);
-    let found = read(returned(&plan.bytes())).unwrap();
-    let place = |node| found.iter().position(|&other| other == node);
-    assert!(found.len() == 7 && place(41) < place(1), "{found:?}");
+    let found = read(returned(&plan.bytes()));
+    assert_eq!(found, Some(vec![36, 37, 38, 39, 40, 41, 1]));
 }
 
 /// Flags that the plan does not have count as clear, whatever their number is.

@@ -1,5 +1,5 @@
-//! The verdict, and a sequence, in plain Rust, by the shortcuts that the proved crates take: rules
-//! in passes over the bytes, words whose bit f speaks of flag f, the children of a group as a
+//! The verdict, and the sequence, in plain Rust, by the shortcuts that the proved crates take:
+//! rules in passes over the bytes, words whose bit f speaks of flag f, the children of a group as a
 //! segment of one array, chains of orders filled backwards, pairs each looked at once and only for
 //! literals that a pair can clobber, children passed over that require and leave nothing wanted,
 //! and shared literals narrowed until none is left.
@@ -37,7 +37,7 @@ pub fn verdict(bytes: &[u8]) -> u32 {
     judged(&fields, rows::root(&tables))
 }
 
-/// What `knowetop_sequence` may return, and how many prefixes were gone on from.
+/// What `knowetop_sequence` is to return, and how many prefixes were gone on from.
 pub fn sequence(bytes: &[u8]) -> (u64, usize) {
     let fields = match check::accept(bytes) {
         Ok(fields) => fields,
@@ -77,7 +77,7 @@ mod tests {
     use super::{sequence, verdict};
     use reference::model::calls::{make, Call};
     use reference::model::format::{Plan, Sizes};
-    use reference::model::sequence::may_return;
+    use reference::model::sequence::answer;
     use reference::tools::edit::edit;
     use reference::tools::generate::clear::shaken_plan;
     use reference::tools::generate::disordered::disordered;
@@ -129,7 +129,7 @@ mod tests {
                 let plan = dense_plan(&mut random, nodes);
                 let bytes = disordered(&mut random, &plan).bytes();
                 let (word, _) = sequence(&bytes);
-                assert!(may_return(&bytes, word), "{word:#x} of {plan:?}");
+                assert_eq!(word, answer(&bytes), "{plan:?}");
                 counts[word.saturating_sub(23).min(2) as usize] += 1;
             }
         }

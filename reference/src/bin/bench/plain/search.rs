@@ -1,6 +1,6 @@
-//! The search for a sequence of the root's children: rows below the root once, then depth first,
-//! with the literals that may be true after a prefix. A prefix that a child cannot follow is left
-//! at once.
+//! The search for the first sequence of the root's children: rows below the root once, then depth
+//! first, lower numbers first, with the literals that may be true after a prefix. A prefix that a
+//! child cannot follow is left at once.
 
 use super::row::Rows;
 use super::tables::{place, Tables, AFTER};
@@ -36,7 +36,7 @@ struct Search<'a> {
 }
 
 impl Search<'_> {
-    /// The rest of a sequence after the children at these places, if there is one.
+    /// The first rest of a sequence after the children at these places, if there is one.
     fn after(&mut self, seen: u64, may_be: Literals) -> Option<u64> {
         self.prefixes += 1;
         if seen.count_ones() as usize == self.children.len() {

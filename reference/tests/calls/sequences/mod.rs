@@ -1,16 +1,16 @@
 //! Sequences of the root's children.
 
+pub mod first;
+
 use std::iter::repeat_with;
 
 use reference::model::format::{Plan, Sizes, ALL_OF, NO_PARENT};
-use reference::model::sequence::{agrees, arrangements, children, read, under, word};
+use reference::model::sequence::read;
 use reference::tools::generate::clear::{clear_plan, shaken_plan};
-use reference::tools::generate::disordered::{disordered, numbered_by};
+use reference::tools::generate::disordered::disordered;
 use reference::tools::generate::{any_plan, dense_plan, Shape, LIMITS};
 use reference::tools::random::Random;
 use reference::tools::scenario::tally::Tally;
-
-use crate::blocked::promises::{verdict, CLEAR};
 
 /// Plans of up to 13 nodes with roots of every kind: the more children, the fewer.
 pub fn small(tally: &mut Tally) {
@@ -89,15 +89,19 @@ fn all_of_kinds(kinds: usize, children: usize) -> Vec<Plan> {
 
 /// The plan with those orders between the root's children that the bits of this number name.
 fn with_orders(plan: &Plan, bits: usize) -> Plan {
-    let children: Vec<u8> = plan.children(0).map(|child| child as u8).collect();
-    let pairs = children.iter().enumerate().flat_map(|(at, &earlier)| {
-        let later = children[at + 1..].iter();
-        later.map(move |&later| (earlier, later))
-    });
-    let named = pairs.enumerate().filter(|(at, _)| bits >> at & 1 == 1);
+    let children: Vec<usize> = plan.children(0).collect();
+    let pairs = pairs(&children).into_iter().enumerate();
+    let named = pairs.filter(|(at, _)| bits >> at & 1 == 1);
     named.fold(plan.clone(), |plan, (_, (earlier, later))| {
-        plan.order(earlier, later)
+        plan.order(earlier as u8, later as u8)
     })
+}
+
+/// Any two of the list, the one ahead in it first.
+fn pairs(list: &[usize]) -> Vec<(usize, usize)> {
+    let places = list.iter().enumerate();
+    let behind = |(at, &ahead)| list[at + 1..].iter().map(move |&other| (ahead, other));
+    places.flat_map(behind).collect()
 }
 
 /// Draws a plan of these sizes and this shape.
@@ -134,8 +138,8 @@ pub fn places_changed(tally: &mut Tally) {
     assert!(not_rising >= 100);
 }
 
-/// Plans of 128 nodes and 64 flags. Of those that were CLEAR a sequence is found; near misses have
-/// few children, since 24 says that there is none among all.
+/// Plans of 128 nodes and 64 flags. Of those that were CLEAR a sequence is found. Few have seven
+/// children, and near misses few, since the reference tries one sequence after another.
 pub fn large(tally: &mut Tally) {
     let mut random = Random::new(214);
     for conditions in [100, 400, 1_024] {
@@ -143,57 +147,21 @@ pub fn large(tally: &mut Tally) {
             conditions,
             ..LIMITS
         };
-        for _ in 0..30 {
-            let plan = hidden(&mut random, clear_plan, sizes, Shape::SEVEN);
-            let found = tally.sequence(&plan.bytes());
-            assert!(read(found).is_some_and(|list| list.len() == 7), "{plan:?}");
-            let plan = hidden(&mut random, shaken_plan, sizes, Shape::DEEP);
-            tally.sequence(&plan.bytes());
+        let mut drawn = |draw, shape| {
+            let plan = hidden(&mut random, draw, sizes, shape);
+            (tally.sequence(&plan.bytes()), plan)
+        };
+        for at in 0..30 {
+            if at % 10 == 0 {
+                let (word, plan) = drawn(clear_plan, Shape::SEVEN);
+                assert_eq!(word >> 56, 7, "{plan:?}");
+            }
+            let (word, plan) = drawn(clear_plan, Shape::DEEP);
+            assert!(word > 24, "{plan:?}");
+            drawn(shaken_plan, Shape::DEEP);
         }
     }
     for _ in 0..60 {
         tally.sequence(&any_plan(&mut random, LIMITS).bytes());
     }
-}
-
-/// By the archive's own verdicts: the plan with the orders of a sequence, numbered by it so that
-/// they rise, is CLEAR for the sequence that is found, and for none if none is.
-pub fn by_verdicts(tally: &mut Tally) {
-    let mut random = Random::new(215);
-    for nodes in 2..=10 {
-        for at in 0..100 {
-            let sizes = Sizes {
-                nodes,
-                conditions: 9 * nodes,
-                orders: nodes,
-                flags: random.within(1, 3),
-            };
-            let plan = match at % 2 {
-                0 => dense_plan(&mut random, nodes),
-                _ => hidden(&mut random, shaken_plan, sizes, Shape::EVEN),
-            };
-            match children(&plan) {
-                Ok(children) if children.len() <= 5 => judge_by_verdicts(tally, &plan, &children),
-                _ => {}
-            }
-        }
-    }
-}
-
-fn judge_by_verdicts(tally: &mut Tally, plan: &Plan, children: &[usize]) {
-    let agreeing = arrangements(children).filter(|list| agrees(plan, list));
-    let mut is_clear = |list: &Vec<usize>| {
-        let mut rising = numbered_by(&under(plan, list), list);
-        rising.orders.dedup();
-        verdict(tally, &rising, &[]) == CLEAR
-    };
-    let mut clear: Vec<u64> = agreeing
-        .filter(|list| is_clear(list))
-        .map(|list| word(&list))
-        .collect();
-    if clear.is_empty() {
-        clear.push(24);
-    }
-    let found = tally.sequence(&plan.bytes());
-    assert!(clear.contains(&found), "{found:#x} of {clear:x?}: {plan:?}");
 }
