@@ -3,6 +3,7 @@ use mathlib.Core.Bool.{Bool}
 use mathlib.Core.List.{List}
 use Prim.Native.Nat.{ℕ}
 use Rattle.runs.specs.Plan.{Node}
+use Rattle.runs.specs.WellFormed.{WellFormed}
 use Rattle.runs.specs.Branches.{Blocks}
 use Rattle.runs.specs.Model.Blocked.{without}
 use Rattle.plan_check.specs.Meaning.{planOf}
@@ -20,3 +21,8 @@ LeftWords b standing n words = (S : ℕ → Bool) → Blocks (planOf b) S → St
 pub record WordsAndTree (b standing from kids : List ℕ) (n : ℕ) (words : List ℕ) : Type 0 where
   pub marks : LeftWords b standing n words
   pub children : TreeIn (planWith b standing) (nodeCount b) from kids
+
+-- of any nodes S without which the plan is well formed, if a table marks the nodes that stand
+abbrev pub AmongWords : List ℕ → List ℕ → ℕ → List ℕ → Type 0
+AmongWords b standing n words = (S : ℕ → Bool) → WellFormed (without (planOf b) S) → Standing b S standing
+    → Node (without (planOf b) S) n → MarkWords (without (planOf b) S) n words

@@ -5,10 +5,11 @@ ghost use Rattle.plan_format.specs.Format.{nodeCount};
 ghost use Rattle.plan_rules.specs.Rules.{refusal};
 ghost use Rattle.base.specs.Zeros.{Zeros};
 ghost use Rattle.tables.specs.Sizes.{NODES, STARTS};
-ghost use Rattle.table_marks.specs.Marks.{LeftWords, WordsAndTree};
+ghost use Rattle.table_marks.specs.Marks.{LeftWords, WordsAndTree, AmongWords};
 use marks_words::Marks;
 use marks_words::node_words;
 use plan_format::fields::nodes;
+use table_all::fill_among;
 use table_all::fill_tables;
 use tables::Nodes;
 use tables::Starts;
@@ -55,4 +56,27 @@ pub fn node_marks(plan: &[u8], standing: &Nodes, node: usize) -> Marks
     let mut from = no_starts();
     let mut kids = no_nodes();
     marks_and_children(plan, standing, &mut from, &mut kids, node)
+}
+
+// The marks of a node as words, of any plan of which the marked nodes stand: orders are those between nodes that stand.
+pub fn marks_among(plan: &[u8], standing: &Nodes, node: usize) -> Marks
+    requires { ⌜ (refusal (now plan) ≡ 0) × (node < nodeCount (now plan)) ⌝ }
+    ensures { λ r. ⌜ AmongWords (now (plan .entry)) (now (standing .entry)) node r ⌝ }
+{
+    let mut kind = no_nodes();
+    let mut from = no_starts();
+    let mut kids = no_nodes();
+    let mut order = no_orders();
+    let mut conds = no_conditions();
+    fill_among(
+        plan,
+        standing,
+        &mut kind,
+        &mut from,
+        &mut kids,
+        &mut order,
+        &mut conds,
+    );
+    let n = nodes(plan);
+    node_words(&kind, &from, &kids, &order, &conds, n, node)
 }

@@ -1,0 +1,106 @@
+-- What a call answers, and what a list of calls does: what computes is it, and nothing else is.
+use Rattle.runs.proofs.Base.{_≡_, refl, sym, ap, _∙_, _≢_, _⊎_, inl, inr, _↔_, Bool, true, false, List, []}
+use Rattle.runs.proofs.Base.{_∷_, ℕ, cond}
+use Rattle.base.specs.Answers.{refusedOr}
+use Rattle.runs.specs.Plan.{all-of, Plan, Node, Child}
+use Rattle.runs.specs.WellFormed.{WellFormed}
+use Rattle.runs.specs.Verdict.{Verdict, Judged}
+use Rattle.runs.specs.Model.Verdicts.{verdict}
+use Rattle.members.specs.Members.{MembersJudged, MemberCall, changed, Refused31, other-root, no-child}
+use Rattle.members.specs.Members.{MemberAnswered, refused-17, refused-31, refused-32, accepted, MembersWorked}
+use Rattle.members.specs.Members.{no-calls, next-call}
+use Rattle.members.specs.Model.{membersOf, keptOr, refused31B, memberRefusal, memberAnswer, membersAfter}
+use Rattle.members.specs.Model.{memberAnswers, membersAfterAll}
+use Rattle.runs.proofs.Reflect.{Reflects, decided, force, r-map, r-either, r-negate, r-T, r-same}
+use Rattle.runs.proofs.Plan.Reflect.{r-kind, r-child}
+use Rattle.runs.proofs.Verdict.Exact.{verdict-exact}
+use Rattle.members.proofs.Parts.{members-judged, members-well-formed}
+
+module _ (p : Plan) (w : WellFormed p) (F : ℕ → Bool) where
+  pub r-31 : (n : ℕ) → Reflects (refused31B p n) (Refused31 p n)
+  unfolding refused31B
+  r-31 n = r-map (to, from) (r-either _ _ (r-negate _ (r-kind _ _)) (r-negate _ (r-child p 0 n)))
+    where
+      to : (p .tree .kind 0 ≢ all-of) ⊎ (¬ Child p 0 n) → Refused31 p n
+      to (inl k) = other-root k
+      to (inr k) = no-child k
+
+      from : Refused31 p n → (p .tree .kind 0 ≢ all-of) ⊎ (¬ Child p 0 n)
+      from (other-root k) = inl k
+      from (no-child k) = inr k
+
+  pub all-of-root : {n : ℕ} → ¬ Refused31 p n → p .tree .kind 0 ≡ all-of
+  all-of-root k = force (decided (r-kind _ _)) (λ n. k (other-root n))
+
+  pub is-child : {n : ℕ} → ¬ Refused31 p n → Child p 0 n
+  is-child {n} k = force (decided (r-child p 0 n)) (λ h. k (no-child h))
+
+  is-node : (n : ℕ) → ¬ ¬ Node p n → Node p n
+  is-node n k = force (decided (r-T (p .tree .here n))) k
+
+  -- the verdict for members is computed
+  module _ (A : ℕ → Bool) (kr : p .tree .kind 0 ≡ all-of) where
+    pub judged-is : (v : Verdict) → MembersJudged p A F v ↔ (verdict (membersOf p A) F ≡ v)
+    judged-is v = (
+      λ j. (exact v) .1 ((members-judged p w A) .0 j),
+      λ e. (members-judged p w A) .1 ((exact v) .0 e),
+    )
+      where
+        exact : (v : Verdict) → (verdict (membersOf p A) F ≡ v) ↔ Judged (membersOf p A) F v
+        exact v = verdict-exact (membersOf p A) (members-well-formed p w A kr) F v
+
+  -- one call
+  module _ (A : ℕ → Bool) (c : MemberCall) where
+    abbrev refusing : Bool → Bool → Bool → ℕ
+    refusing a b d = cond a 17 (cond b 31 (cond d 32 0))
+
+    abbrev result : ℕ → ℕ ⊎ Verdict
+    result r = refusedOr r (verdict (membersOf p (changed A c)) F)
+
+    -- the tests tell which refusal applies first
+    settled : (a b d : Bool) → Reflects a (¬ Node p (c .node)) → Reflects b (Refused31 p (c .node))
+        → Reflects d (A (c .node) ≡ c .joins)
+        → MemberAnswered p F A c (result (refusing a b d)) (keptOr (refusing a b d) A (changed A c))
+    settled true b d ra rb rd = refused-17 (ra .to tt)
+    settled false true d ra rb rd = refused-31 (is-node (c .node) (ra .from)) (rb .to tt)
+    settled false false true ra rb rd = refused-32 (is-node (c .node) (ra .from)) (rb .from) (rd .to tt)
+    settled false false false ra rb rd = accepted (is-node (c .node) (ra .from)) (rb .from) (rd .from)
+        ((judged-is (changed A c) (all-of-root (rb .from)) _) .1 refl)
+
+    -- there is one answer only
+    pub answered-only : {r s : ℕ ⊎ Verdict} {B C : ℕ → Bool} → MemberAnswered p F A c r B → MemberAnswered p F A c s C
+        → (r ≡ s) × (B ≡ C)
+    answered-only (refused-17 k) (refused-17 l) = (refl, refl)
+    answered-only (refused-17 k) (refused-31 l x) = absurd (k l)
+    answered-only (refused-17 k) (refused-32 l x e) = absurd (k l)
+    answered-only (refused-17 k) (accepted l x e j) = absurd (k l)
+    answered-only (refused-31 n x) (refused-17 l) = absurd (l n)
+    answered-only (refused-31 n x) (refused-31 l y) = (refl, refl)
+    answered-only (refused-31 n x) (refused-32 l y e) = absurd (y x)
+    answered-only (refused-31 n x) (accepted l y e j) = absurd (y x)
+    answered-only (refused-32 n x e) (refused-17 l) = absurd (l n)
+    answered-only (refused-32 n x e) (refused-31 l y) = absurd (x y)
+    answered-only (refused-32 n x e) (refused-32 l y d) = (refl, refl)
+    answered-only (refused-32 n x e) (accepted l y d j) = absurd (d e)
+    answered-only (accepted n x e j) (refused-17 l) = absurd (l n)
+    answered-only (accepted n x e j) (refused-31 l y) = absurd (x y)
+    answered-only (accepted n x e j) (refused-32 l y d) = absurd (e d)
+    answered-only (accepted {v = v} n x e j) (accepted {v = u} l y d k) =
+        let is = judged-is (changed A c) (all-of-root x) in (ap inr (sym ((is v) .0 j) ∙ (is u) .0 k), refl)
+
+    pub member-answered : MemberAnswered p F A c (memberAnswer p F A c) (membersAfter p A c)
+    unfolding memberAnswer membersAfter memberRefusal
+    member-answered = settled _ _ _ (r-negate _ (r-T _)) (r-31 _) (r-same _ _)
+
+  -- and over lists
+  pub members-worked : (A : ℕ → Bool) (cs : List MemberCall)
+      → MembersWorked p F A cs (memberAnswers p F A cs) (membersAfterAll p A cs)
+  unfolding memberAnswers membersAfterAll
+  members-worked A [] = no-calls
+  members-worked A (c ∷ cs) = next-call (member-answered A c) (members-worked (membersAfter p A c) cs)
+
+  pub worked-only : {A Y Z : ℕ → Bool} {cs : List MemberCall} {rs qs : List (ℕ ⊎ Verdict)} → MembersWorked p F A cs rs Y
+      → MembersWorked p F A cs qs Z → (rs ≡ qs) × (Y ≡ Z)
+  worked-only no-calls no-calls = (refl, refl)
+  worked-only {A} (next-call {c = c} x y) (next-call z u) =
+      let (e, d) = answered-only A c x z in let (f, g) = worked-only y (rw (← d) at u) in (rw (e, f), g)
