@@ -67,7 +67,7 @@ uint32_t knowetop_status(const uint8_t *plan, size_t plan_len, const size_t *blo
 uint32_t knowetop_listing(const uint8_t *plan, size_t plan_len, uint8_t *out, size_t out_len);
 
 /* Looks for the first sequence of all the root's children, each once and each wholly before the next, that agrees with the plan's orders and under which the answer for the plan is CLEAR:
-   for an OPEN plan, in what order its parts may be done. First is in dictionary order of node numbers, so a plan has one answer. Returns count * 2^56 + the sum of node i * 2^(8 i), i from
+   for an OPEN plan, in what order its parts may be done. The first is so in dictionary order of node numbers: a plan has one answer. Returns count * 2^56 + the sum of node i * 2^(8 i), i from
    0, the first node in the lowest byte; bytes without a node are 0. So word >> 56 is the count, 1 to 7, and word >> 8 * i & 255 is node i. Or a refusal, in which the count is 0: 1 to 14,
    23 (the root is not an all-of group, or has more than seven children) or 24 (there is no such sequence). 24 is never returned for a CLEAR plan, nor a sequence for a DOOMED one. Nothing
    is written. It takes no list of blocked nodes. */

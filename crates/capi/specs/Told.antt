@@ -54,7 +54,7 @@ pub record ListingNumber (b out : List ℕ) (r : ℕ) (out′ : List ℕ) : Type
 abbrev pub toldBy : ℕ → ℕ ⊎ List ℕ
 toldBy r = cond (ltb r (2 ^ 56)) (inl r) (inr (sequenceIn r))
 
--- r is the number of the answer; what it tells is the answer in 02's words, and it tells nothing else
+-- r is the number of the answer; what it tells is the answer in 02's words, and r has nothing else
 pub record SequenceNumber (b : List ℕ) (r : ℕ) : Type 0 where
   pub returns : r ≡ sequenceNumber (sequenceAnswer b)
   pub sought : SoughtOf b (toldBy r)

@@ -7,7 +7,7 @@ use Rattle.runs.specs.WellFormed.{WellFormed}
 use Rattle.runs.specs.Verdict.{Verdict, Judged}
 use Rattle.runs.specs.Model.Verdicts.{verdict}
 use Rattle.members.specs.Members.{MembersJudged, MemberCall, changed, Refused31, other-root, no-child}
-use Rattle.members.specs.Members.{MemberAnswered, refused-17, refused-31, refused-32, accepted, MembersWorked}
+use Rattle.members.specs.Members.{MemberAnswered, refused-17, refused-31, refused-32, changes, MembersWorked}
 use Rattle.members.specs.Members.{no-calls, next-call}
 use Rattle.members.specs.Model.{membersOf, keptOr, refused31B, memberRefusal, memberAnswer, membersAfter}
 use Rattle.members.specs.Model.{memberAnswers, membersAfterAll}
@@ -32,8 +32,8 @@ module _ (p : Plan) (w : WellFormed p) (F : ℕ → Bool) where
   pub all-of-root : {n : ℕ} → ¬ Refused31 p n → p .tree .kind 0 ≡ all-of
   all-of-root k = force (decided (r-kind _ _)) (λ n. k (other-root n))
 
-  pub is-child : {n : ℕ} → ¬ Refused31 p n → Child p 0 n
-  is-child {n} k = force (decided (r-child p 0 n)) (λ h. k (no-child h))
+  pub called-child : {n : ℕ} → ¬ Refused31 p n → Child p 0 n
+  called-child {n} k = force (decided (r-child p 0 n)) (λ h. k (no-child h))
 
   is-node : (n : ℕ) → ¬ ¬ Node p n → Node p n
   is-node n k = force (decided (r-T (p .tree .here n))) k
@@ -64,28 +64,28 @@ module _ (p : Plan) (w : WellFormed p) (F : ℕ → Bool) where
     settled true b d ra rb rd = refused-17 (ra .to tt)
     settled false true d ra rb rd = refused-31 (is-node (c .node) (ra .from)) (rb .to tt)
     settled false false true ra rb rd = refused-32 (is-node (c .node) (ra .from)) (rb .from) (rd .to tt)
-    settled false false false ra rb rd = accepted (is-node (c .node) (ra .from)) (rb .from) (rd .from)
+    settled false false false ra rb rd = changes (is-node (c .node) (ra .from)) (rb .from) (rd .from)
         ((judged-is (changed A c) (all-of-root (rb .from)) _) .1 refl)
 
     -- there is one answer only
-    pub answered-only : {r s : ℕ ⊎ Verdict} {B C : ℕ → Bool} → MemberAnswered p F A c r B → MemberAnswered p F A c s C
+    pub member-only : {r s : ℕ ⊎ Verdict} {B C : ℕ → Bool} → MemberAnswered p F A c r B → MemberAnswered p F A c s C
         → (r ≡ s) × (B ≡ C)
-    answered-only (refused-17 k) (refused-17 l) = (refl, refl)
-    answered-only (refused-17 k) (refused-31 l x) = absurd (k l)
-    answered-only (refused-17 k) (refused-32 l x e) = absurd (k l)
-    answered-only (refused-17 k) (accepted l x e j) = absurd (k l)
-    answered-only (refused-31 n x) (refused-17 l) = absurd (l n)
-    answered-only (refused-31 n x) (refused-31 l y) = (refl, refl)
-    answered-only (refused-31 n x) (refused-32 l y e) = absurd (y x)
-    answered-only (refused-31 n x) (accepted l y e j) = absurd (y x)
-    answered-only (refused-32 n x e) (refused-17 l) = absurd (l n)
-    answered-only (refused-32 n x e) (refused-31 l y) = absurd (x y)
-    answered-only (refused-32 n x e) (refused-32 l y d) = (refl, refl)
-    answered-only (refused-32 n x e) (accepted l y d j) = absurd (d e)
-    answered-only (accepted n x e j) (refused-17 l) = absurd (l n)
-    answered-only (accepted n x e j) (refused-31 l y) = absurd (x y)
-    answered-only (accepted n x e j) (refused-32 l y d) = absurd (e d)
-    answered-only (accepted {v = v} n x e j) (accepted {v = u} l y d k) =
+    member-only (refused-17 k) (refused-17 l) = (refl, refl)
+    member-only (refused-17 k) (refused-31 l x) = absurd (k l)
+    member-only (refused-17 k) (refused-32 l x e) = absurd (k l)
+    member-only (refused-17 k) (changes l x e j) = absurd (k l)
+    member-only (refused-31 n x) (refused-17 l) = absurd (l n)
+    member-only (refused-31 n x) (refused-31 l y) = (refl, refl)
+    member-only (refused-31 n x) (refused-32 l y e) = absurd (y x)
+    member-only (refused-31 n x) (changes l y e j) = absurd (y x)
+    member-only (refused-32 n x e) (refused-17 l) = absurd (l n)
+    member-only (refused-32 n x e) (refused-31 l y) = absurd (x y)
+    member-only (refused-32 n x e) (refused-32 l y d) = (refl, refl)
+    member-only (refused-32 n x e) (changes l y d j) = absurd (d e)
+    member-only (changes n x e j) (refused-17 l) = absurd (l n)
+    member-only (changes n x e j) (refused-31 l y) = absurd (x y)
+    member-only (changes n x e j) (refused-32 l y d) = absurd (e d)
+    member-only (changes {v = v} n x e j) (changes {v = u} l y d k) =
         let is = judged-is (changed A c) (all-of-root x) in (ap inr (sym ((is v) .0 j) ∙ (is u) .0 k), refl)
 
     pub member-answered : MemberAnswered p F A c (memberAnswer p F A c) (membersAfter p A c)
@@ -103,4 +103,4 @@ module _ (p : Plan) (w : WellFormed p) (F : ℕ → Bool) where
       → MembersWorked p F A cs qs Z → (rs ≡ qs) × (Y ≡ Z)
   worked-only no-calls no-calls = (refl, refl)
   worked-only {A} (next-call {c = c} x y) (next-call z u) =
-      let (e, d) = answered-only A c x z in let (f, g) = worked-only y (rw (← d) at u) in (rw (e, f), g)
+      let (e, d) = member-only A c x z in let (f, g) = worked-only y (rw (← d) at u) in (rw (e, f), g)

@@ -18,11 +18,11 @@ use Rattle.runs.proofs.Blocked.Standing.{Cuts, r-stands, r-standing-order, stan
 use Rattle.runs.proofs.Blocked.Standing.{without-well-formed, nothing-absent}
 
 -- a plan from its parts
-abbrev made : ℕ → (ℕ → Bool) → (ℕ → Kind) → (ℕ → ℕ) → Conditions → (ℕ → ℕ → Bool) → Plan
-made n h k u c o = record { tree = record { size = n; here = h; kind = k; parent = u }; conditions = c; order = o }
+abbrev planFrom : ℕ → (ℕ → Bool) → (ℕ → Kind) → (ℕ → ℕ) → Conditions → (ℕ → ℕ → Bool) → Plan
+planFrom n h k u c o = record { tree = record { size = n; here = h; kind = k; parent = u }; conditions = c; order = o }
 
 same-plan : {n n′ : ℕ} {h h′ : ℕ → Bool} {k k′ : ℕ → Kind} {u u′ : ℕ → ℕ} {c c′ : Conditions} {o o′ : ℕ → ℕ → Bool}
-    → n ≡ n′ → h ≡ h′ → k ≡ k′ → u ≡ u′ → c ≡ c′ → o ≡ o′ → made n h k u c o ≡ made n′ h′ k′ u′ c′ o′
+    → n ≡ n′ → h ≡ h′ → k ≡ k′ → u ≡ u′ → c ≡ c′ → o ≡ o′ → planFrom n h k u c o ≡ planFrom n′ h′ k′ u′ c′ o′
 same-plan a b d e f g = rw (a, b, d, e, f, g) refl
 
 module _ (p : Plan) (w : WellFormed p) (A : ℕ → Bool) where
@@ -69,8 +69,8 @@ module _ (p : Plan) (w : WellFormed p) (A : ℕ → Bool) where
 
   pub members-judged : {F : ℕ → Bool} {v : Verdict} → MembersJudged p A F v ↔ Judged (membersOf p A) F v
   members-judged = (
-    λ x. rw (only-members (x .left)) at (x .judged),
-    λ j. record { plan = membersOf p A; left = of-members; judged = j },
+    λ x. rw (only-members (x .members)) at (x .judged),
+    λ j. record { plan = membersOf p A; members = of-members; judged = j },
   )
 
   -- everybody aboard
@@ -103,18 +103,18 @@ module _ (p : Plan) (w : WellFormed p) (A : ℕ → Bool) where
       abbrev q : Plan
       q = membersOf p A
 
-      childless : {c : ℕ} → ¬ Child q 0 c
-      childless {c} h = let (hc, y) = child-stands p w (outsider p A) h in
+      no-children : {c : ℕ} → ¬ Child q 0 c
+      no-children {c} h = let (hc, y) = child-stands p w (outsider p A) h in
           y .outside c ((r-outsider c) .from (hc, none c)) itself
 
       no-event : {e : Event} {h : History} → Execution q 0 (e ∷ h) → ⊥
       no-event {e} {h} x =
-          childless (branch-of q members-well-formed (statusAfter h) kr
+          no-children (branch-of q members-well-formed (statusAfter h) kr
           (execution-last q members-well-formed x) .child)
 
       no-two : {t u : ℕ} → ¬ Concurrent q t u 0
-      no-two (at-group k c d hc hd un ut uu) = childless hc
-      no-two (deeper c hc x) = childless hc
+      no-two (at-group k c d hc hd un ut uu) = no-children hc
+      no-two (deeper c hc x) = no-children hc
 
       pub nobody-clear : (F : ℕ → Bool) → Clear q F
       nobody-clear F = record {

@@ -30,7 +30,7 @@ unfolding computing stands standingOrder outsider changed refused31B memberRefus
     memberAnswers
 coming = tt
 
--- C goes: A and Z are then unordered, and the answer is OPEN, not DOOMED; C comes back; all go
+-- without C, A and Z are unordered: OPEN, not DOOMED; C comes, and goes; then all go
 trio-members : memberAnswers (trio all-of) (λ f. false) nobody
     (include 1 ∷ include 3 ∷ include 2 ∷ include 2 ∷ exclude 2 ∷ exclude 2 ∷ exclude 1 ∷ exclude 3 ∷ [])
     ≡ inr CLEAR ∷ inr OPEN ∷ inr CLEAR ∷ inl 32 ∷ inr OPEN ∷ inl 32 ∷ inr CLEAR ∷ inr CLEAR ∷ []

@@ -29,7 +29,7 @@ module _ (p : Plan) (A : ℕ → Bool) where
   -- "the answer worked out afresh" (02): the verdict on that plan, the flags being F at the start
   pub record MembersJudged (F : ℕ → Bool) (v : Verdict) : Type 0 where
     pub plan : Plan
-    pub left : OfMembers plan
+    pub members : OfMembers plan
     pub judged : Judged plan F v
 
 -- 02's "nobody aboard"
@@ -63,7 +63,7 @@ module _ (p : Plan) where
     refused-17 : ¬ Node p (c .node) → MemberAnswered F A c (inl 17) A
     refused-31 : Node p (c .node) → Refused31 (c .node) → MemberAnswered F A c (inl 31) A
     refused-32 : Node p (c .node) → ¬ Refused31 (c .node) → A (c .node) ≡ c .joins → MemberAnswered F A c (inl 32) A
-    accepted : {v : Verdict} → Node p (c .node) → ¬ Refused31 (c .node) → A (c .node) ≢ c .joins
+    changes : {v : Verdict} → Node p (c .node) → ¬ Refused31 (c .node) → A (c .node) ≢ c .joins
         → MembersJudged p (changed A c) F v → MemberAnswered F A c (inr v) (changed A c)
 
   -- a list of calls, the first call first: what each answers, and the members after all

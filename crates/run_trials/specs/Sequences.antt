@@ -52,7 +52,7 @@ of-sequences =
     -- three that have to go in falling order
     ∷ finds (rooted all-of (a-task (leaves 0 on ∷ []) ∷ work 0 (short C) 3 (needs 0 off ∷ leaves 1 on ∷ []) ∷ z-task
     (needs 1 off ∷ []) ∷ [])) (3 ∷ 2 ∷ 1 ∷ [])
-    -- 1 goes first, but 2 not after it: the search goes back one turn
+    -- 1 goes first, but 2 not next: the search goes back one turn
     ∷ finds (under-root (bare ∷ a-task (leaves 0 on ∷ []) ∷ z-task (needs 0 off ∷ []) ∷ []) []) (1 ∷ 3 ∷ 2 ∷ [])
     -- an optional group may be skipped, so it restores nothing for Z; of three sequences the first
     ∷ finds (under-root (a-task (leaves 0 on ∷ []) ∷ group optional 0 (short O) ∷ work 2 (short C) 3 (leaves 0 off ∷ [])

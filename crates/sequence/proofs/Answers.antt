@@ -178,7 +178,7 @@ module _ {p : Plan} {kids order rows : List ℕ} {s : Segment} (g : InRange kids
 
               bytes : (c : ℕ) → Among c xs → c < 256
               bytes c i =
-                  let (j, lj, r) = place-of (b .root) (fc .clear .sequence .child c i) in
+                  let (j, lj, r) = place-of (b .root) (fc .serial .sequence .child c i) in
                   omega (arith, child-small g lj, r)
 
               back : sequenceIn w ≡ xs
@@ -190,9 +190,9 @@ module _ {p : Plan} {kids order rows : List ℕ} {s : Segment} (g : InRange kids
 
 -- ---- the whole answer
 -- it is the one computed, since there is no other
-refused-is : (b : List ℕ) {r : ℕ} → r ≡ refusal b → (r ≡ 0 → ⊥) → inl r ≡ sequenceAnswer b
+refusal-is : (b : List ℕ) {r : ℕ} → r ≡ refusal b → (r ≡ 0 → ⊥) → inl r ≡ sequenceAnswer b
 unfolding sequenceAnswer
-refused-is b e k = ap inl e ∙ else-some (refusal b) _ (λ z. k (e ∙ z))
+refusal-is b e k = ap inl e ∙ else-some (refusal b) _ (λ z. k (e ∙ z))
 
 sought-is : (b : List ℕ) {a : ℕ ⊎ List ℕ} → refusal b ≡ 0 → Sought (planOf b) (startOf b) a → a ≡ sequenceAnswer b
 unfolding sequenceAnswer
@@ -200,7 +200,7 @@ sought-is b ok x = sought-only x (sought (planOf b) (means-well-formed b ok) (st
 
 pub answered-refused : (b : List ℕ) {r : ℕ} → r ≡ refusal b → (r ≡ 0 → ⊥) → Sequenced b (finding.Refused r)
 answered-refused b e k = record {
-  returns = refused-is b e k;
+  returns = refusal-is b e k;
   sought = record {
     refused = λ n. ap inl e;
     sought = λ ok. absurd (k (e ∙ ok));

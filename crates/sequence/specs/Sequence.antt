@@ -20,6 +20,7 @@ abbrev pub foundIn : Finding → ℕ ⊎ List ℕ
 foundIn (Refused n) = inl n
 foundIn (Found w) = inr (sequenceIn w)
 
+-- the answer computed
 unfoldable pub sequenceAnswer : List ℕ → ℕ ⊎ List ℕ
 sequenceAnswer b = refusedElse (refusal b) (sequenceOf (planOf b) (startOf b))
 

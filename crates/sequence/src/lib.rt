@@ -1,4 +1,5 @@
-// A sequence of the root's children, each wholly before the next, under which the answer is CLEAR (02: a serial order).
+// The first sequence of the root's children, each wholly before the next, under which the answer is CLEAR (02: a serial
+// order).
 ghost use mathlib.Core.Path.{_≡_};
 ghost use Prim.Native.Nat.{_<_};
 ghost use Rattle.plan_rules.specs.Rules.{refusal};

@@ -27,21 +27,21 @@ module _ {p : Plan} {F : ℕ → Bool} where
       → (a ≡ inl 24) ↔ ((¬ Refused23 p) × ((xs : List ℕ) → ¬ SerialClear p F xs))
   sought-24 (refused-23 x) = (λ e. clash cc, λ y. absurd (y .0 x))
   sought-24 (refused-24 n x) = (λ e. (n, x), λ y. refl)
-  sought-24 (found {xs = xs} n x) = (λ e. clash cc, λ y. absurd (y .1 xs (x .clear)))
+  sought-24 (found {xs = xs} n x) = (λ e. clash cc, λ y. absurd (y .1 xs (x .serial)))
 
   -- two lists that are first are the same
   first-only : {xs ys : List ℕ} → FirstClear p F xs → FirstClear p F ys → xs ≡ ys
   first-only {xs} {ys} x y = at (compare xs ys)
     where
       at : Compared xs ys → xs ≡ ys
-      at (inl q) = absurd (y .first xs q (x .clear))
+      at (inl q) = absurd (y .none-before xs q (x .serial))
       at (inr (inl e)) = e
-      at (inr (inr q)) = absurd (x .first ys q (y .clear))
+      at (inr (inr q)) = absurd (x .none-before ys q (y .serial))
 
   pub sought-found : {a : ℕ ⊎ List ℕ} → Sought p F a → (xs : List ℕ)
       → (a ≡ inr xs) ↔ ((¬ Refused23 p) × FirstClear p F xs)
   sought-found (refused-23 x) xs = (λ e. clash cc, λ y. absurd (y .0 x))
-  sought-found (refused-24 n x) xs = (λ e. clash cc, λ y. absurd (x xs (y .1 .clear)))
+  sought-found (refused-24 n x) xs = (λ e. clash cc, λ y. absurd (x xs (y .1 .serial)))
   sought-found (found n x) xs = (λ e. (n, rw (list-of e) at x), λ y. ap inr (first-only x (y .1)))
 
   -- there is one answer only
@@ -61,7 +61,7 @@ module _ {p : Plan} {F : ℕ → Bool} where
       → (0 < length xs) × (length xs ≤ 7)
   sought-sized ok (refused-23 x) xs e = clash cc
   sought-sized ok (refused-24 k x) xs e = clash cc
-  sought-sized ok (found {xs = ys} k x) xs e = rw (← list-of e) (some ys (x .clear), few (decLt 7 (length ys)))
+  sought-sized ok (found {xs = ys} k x) xs e = rw (← list-of e) (some ys (x .serial), few (decLt 7 (length ys)))
     where
       some : (zs : List ℕ) → SerialClear p F zs → 0 < length zs
       some [] y =
@@ -70,11 +70,11 @@ module _ {p : Plan} {F : ℕ → Bool} where
       some (z ∷ zs) y = omega arith
 
       few : Dec (7 < length ys) → length ys ≤ 7
-      few (yes l) = absurd (k (too-many ys l (x .clear .sequence .once) (x .clear .sequence .child)))
+      few (yes l) = absurd (k (too-many ys l (x .serial .sequence .once) (x .serial .sequence .child)))
       few (no n) = omega (arith, n)
 
   pub sought-children : {a : ℕ ⊎ List ℕ} → Sought p F a → (xs : List ℕ) → a ≡ inr xs → (c : ℕ) → Among c xs
       → Child p 0 c
   sought-children (refused-23 x) xs e c i = clash cc
   sought-children (refused-24 k x) xs e c i = clash cc
-  sought-children (found k x) xs e c i = x .clear .sequence .child c (rw (← list-of e) at i)
+  sought-children (found k x) xs e c i = x .serial .sequence .child c (rw (← list-of e) at i)

@@ -12,7 +12,8 @@ pub mod Prefixes
 pub mod Search
 -- A CLEAR plan has a sequence (`clear-found`), a DOOMED one has none (`doomed-unfound`).
 pub mod Rising
--- The cases of an answer (`sought-23`, `sought-24`), and a sequence as a word (`read-back`).
+-- The cases of an answer (`sought-23`, `sought-24`, `sought-found`), of which there is one (`sought-only`), and a
+-- sequence as a word (`read-back`).
 pub mod Cases
 pub mod Word
 -- Small plans, computed.

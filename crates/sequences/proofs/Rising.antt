@@ -127,4 +127,4 @@ pub doomed-unfound : (p : Plan) → WellFormed p → (F : ℕ → Bool) → Doom
 doomed-unfound p w F d (refused-23 y) xs e = clash cc
 doomed-unfound p w F d (refused-24 n y) xs e = clash cc
 doomed-unfound p w F d (found {xs = ys} n y) xs e =
-    let (sq, cl) = (serial-clears p ys) .0 (y .clear) in doomed-serial p w F (root-all-of n) ys sq d cl
+    let (sq, cl) = (serial-clears p ys) .0 (y .serial) in doomed-serial p w F (root-all-of n) ys sq d cl

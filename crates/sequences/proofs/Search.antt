@@ -213,8 +213,8 @@ module _ (p : Plan) (w : WellFormed p) (F : ℕ → Bool) where
     pub calm-searched : Calm p → {o : Option (List ℕ)} → FirstRest p F [] o → Searched o
     calm-searched calm (no-rest n) = none-clear (λ ys x. n ys (clear-rest x))
     calm-searched calm (first-rest {xs = xs} r n) = let (sq, ps) = (sequence-rest p F xs) .0 r in first-clear (record {
-      clear = (serial-clears p xs) .1 (sq, (serial-clear p w F kr xs sq) .1 (calm, ps));
-      first = λ ys q x. n ys (clear-rest x) q;
+      serial = (serial-clears p xs) .1 (sq, (serial-clear p w F kr xs sq) .1 (calm, ps));
+      none-before = λ ys q x. n ys (clear-rest x) q;
     })
 
     pub restless-searched : ¬ Calm p → Searched none

@@ -48,8 +48,8 @@ module _ (p : Plan) (F : ℕ → Bool) where
   -- "the first one in dictionary order of node numbers: no sequence that precedes it, and meets #101's conditions, is
   -- CLEAR" (109)
   pub record FirstClear (xs : List ℕ) : Type 0 where
-    pub clear : SerialClear xs
-    pub first : (ys : List ℕ) → Lexᴰ _<_ ys xs → ¬ SerialClear ys
+    pub serial : SerialClear xs
+    pub none-before : (ys : List ℕ) → Lexᴰ _<_ ys xs → ¬ SerialClear ys
 
   -- the answer for an accepted plan: 23; 24, "when no such sequence exists"; or the first such sequence
   pub data Sought : ℕ ⊎ List ℕ → Type 0 where

@@ -95,7 +95,7 @@ module _ (T : RattleType) (i : ℕ) (p : Loan) where
 abbrev pub Ready : List ℕ → List ℕ → List ℕ → List ℕ → ℕ → Type 0
 Ready b k o c n = (refusal b ≡ 0) × (n ≤ itemCount b) × (length k ≡ 128) × Zeros 16384 o × Zeros 768 c
 
--- ---- what the call was given: the bytes, lent for `lft`; the tables; how many items there are
+-- ---- what the call was given: the bytes, lent for `lft`; the tables; how many items are read
 pub record Handed : Type 0 where
   pub lft : Lft
   pub share : Share

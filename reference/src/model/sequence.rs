@@ -166,8 +166,8 @@ mod tests {
         }
     }
 
-    /// Four tasks, each of which needs the flag clear, or set, or not, and leaves it so: digits of
-    /// a number to base 9.
+    /// Four tasks, each of which needs the flag clear, or set, or not, and leaves it clear, or set,
+    /// or not: digits of a number to base 9.
     fn four_tasks(mut number: usize) -> Plan {
         let mut conditions = Vec::new();
         for task in 1..=4 {

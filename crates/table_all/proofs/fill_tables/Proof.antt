@@ -1,7 +1,7 @@
 -- `fill_tables` meets its contract. Assumes nothing.
+use native.Mathlib.Omega.{arith}
 use borrow.Author.Needs.{needs}
 use Rattle.plan_check.proofs.Accepted.{clean}
-use native.Mathlib.Omega.{arith}
 use Rattle.table_all.proofs.Drawn.{all-items}
 use Rattle.table_all.proofs.Standing.{orders-blocked, left-represented}
 use Rattle.table_all.proofs.fill_tables.Statement.{statement}

@@ -121,6 +121,7 @@ impl Met {
 
     fn at_least(&self, least: usize, name: &str) {
         println!("{name}, others than the first sequence: {:?}", self.0);
+        assert_eq!(self.0.len(), 2 + OTHER_KEYS.len());
         assert!(self.0.values().all(|&count| count >= least));
     }
 }
