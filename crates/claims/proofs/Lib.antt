@@ -2,6 +2,6 @@
 pub mod Left
 -- `blocking-promise` and `orders-promise`: 02's two promises hold.
 pub mod Promises
--- `sequences-agree`: a CLEAR plan meets 23 or has a sequence (101), a DOOMED one has none; `sequences-same`: of one plan
--- there is one answer (109).
+-- `sequences-agree`: a CLEAR plan meets 23 or has a sequence (101), a DOOMED one has none; `sequences-same`: a plan has
+-- one answer (109).
 pub mod Sequences
