@@ -7,8 +7,8 @@ pub mod Drawn
 pub mod Stores
 pub mod Standing
 -- The walk of `fill_items`: its states, of which the last has the first n items (`last-state`); the tables lent on,
--- which come back at their last values (`comes-home`); what `next` and `put_item` ask (`goes`, `puts`); what the call gives back
--- (`exits`).
+-- which come back at their last values (`comes-home`); what `next` and `put_item` ask (`goes`, `puts`); what the call
+-- gives back (`exits`).
 pub mod States
 pub mod Loans
 pub mod Reading
