@@ -1,8 +1,8 @@
 -- The first of two refusals. Assumes nothing.
-use mathlib.Core.Path.{_≡_, refl}
-use mathlib.Core.Logic.{_⊎_, inl, inr}
+use mathlib.Core.Path.{_≡_, refl, ap}
+use mathlib.Core.Logic.{_⊎_, inl, inr, _↔_}
 use mathlib.Core.Bool.{Bool, true, false, cond}
-use Prim.Native.Nat.{ℕ, zero, suc}
+use Prim.Native.Nat.{ℕ, zero, suc, _<_, _≤_}
 use native.Mathlib.Omega.{arith}
 use Rattle.base.specs.Answers.{first, refusedOr, refusedElse}
 
@@ -35,3 +35,22 @@ else-none r a e = rw e
 pub else-some : {A : Type 0} (r : ℕ) (a : ℕ ⊎ A) → (r ≡ 0 → ⊥) → inl r ≡ refusedElse r a
 else-some zero a n = absurd (n refl)
 else-some (suc r) a n = refl
+
+-- the number that an answer tells
+abbrev pub number-in : {A : Type 0} → ℕ ⊎ A → ℕ
+number-in (inl n) = n
+number-in (inr x) = 0
+
+pub answer-tells : {A : Type 0} (r k : ℕ) (x : A) → (refusedOr r x ≡ inl (suc k)) ↔ (r ≡ suc k)
+answer-tells zero k x = (λ e. let z : 0 ≡ suc k = ap number-in e in absurd (omega arith), λ e. absurd (omega arith))
+answer-tells (suc r) k x = (λ e. ap number-in e, λ e. ap inl e)
+
+pub answer-given : {A : Type 0} (r : ℕ) (x y : A) → refusedOr r x ≡ inr y → r ≡ 0
+answer-given zero x y e = refl
+answer-given (suc r) x y e = ap number-in e
+
+-- a check with no number below k decides none of them
+pub first-below : (r s k n : ℕ) → (s ≡ 0) ⊎ (k ≤ s) → 0 < n → n < k → (first r s ≡ n) ↔ (r ≡ n)
+first-below zero s k n (inl e) z l = (λ q. absurd (omega (arith, e, q, z)), λ q. absurd (omega (arith, q, z)))
+first-below zero s k n (inr m) z l = (λ q. absurd (omega (arith, m, q, l)), λ q. absurd (omega (arith, q, z)))
+first-below (suc r) s k n h z l = (λ q. q, λ q. q)

@@ -1,8 +1,9 @@
 -- What a call answers, and what a list of calls does: what computes is it, and nothing else is.
 use Rattle.runs.proofs.Base.{_≡_, refl, sym, ap, _∙_, _≢_, _⊎_, inl, inr, _↔_, Bool, true, false, List, []}
-use Rattle.runs.proofs.Base.{_∷_, ℕ, cond}
+use Rattle.runs.proofs.Base.{_∷_, ℕ, cond, _≤_, T, arith}
 use Rattle.base.specs.Answers.{refusedOr}
 use Rattle.runs.specs.Plan.{all-of, Plan, Node, Child}
+use Rattle.runs.specs.Tests.{negate, sameB}
 use Rattle.runs.specs.WellFormed.{WellFormed}
 use Rattle.runs.specs.Verdict.{Verdict, Judged}
 use Rattle.runs.specs.Model.Verdicts.{verdict}
@@ -15,6 +16,36 @@ use Rattle.runs.proofs.Reflect.{Reflects, decided, force, r-map, r-either, r-ne
 use Rattle.runs.proofs.Plan.Reflect.{r-kind, r-child}
 use Rattle.runs.proofs.Verdict.Exact.{verdict-exact}
 use Rattle.members.proofs.Parts.{members-judged, members-well-formed}
+
+-- 17, 31 and 32, one after another
+abbrev refusing : Bool → Bool → Bool → ℕ
+refusing a b d = cond a 17 (cond b 31 (cond d 32 0))
+
+module _ (p : Plan) (A : ℕ → Bool) (c : MemberCall) where
+  abbrev Tested : (ℕ → Type 0) → Type 0
+  Tested P = (a b d : Bool) → P (refusing a b d)
+
+  tested : (P : ℕ → Type 0) → Tested P → P (memberRefusal p A c)
+  unfolding memberRefusal
+  tested P h = h (negate (p .tree .here (c .node))) (refused31B p (c .node)) (sameB (A (c .node)) (c .joins))
+
+  pub number-least : (memberRefusal p A c ≡ 0) ⊎ (17 ≤ memberRefusal p A c)
+  number-least = tested (λ r. (r ≡ 0) ⊎ (17 ≤ r)) at
+    where
+      at : (a b d : Bool) → (refusing a b d ≡ 0) ⊎ (17 ≤ refusing a b d)
+      at true b d = inr (omega arith)
+      at false true d = inr (omega arith)
+      at false false true = inr (omega arith)
+      at false false false = inl refl
+
+  pub number-limit : memberRefusal p A c ≤ 32
+  number-limit = tested (λ r. r ≤ 32) at
+    where
+      at : (a b d : Bool) → refusing a b d ≤ 32
+      at true b d = omega arith
+      at false true d = omega arith
+      at false false true = omega arith
+      at false false false = omega arith
 
 module _ (p : Plan) (w : WellFormed p) (F : ℕ → Bool) where
   pub r-31 : (n : ℕ) → Reflects (refused31B p n) (Refused31 p n)
@@ -51,9 +82,6 @@ module _ (p : Plan) (w : WellFormed p) (F : ℕ → Bool) where
 
   -- one call
   module _ (A : ℕ → Bool) (c : MemberCall) where
-    abbrev refusing : Bool → Bool → Bool → ℕ
-    refusing a b d = cond a 17 (cond b 31 (cond d 32 0))
-
     abbrev result : ℕ → ℕ ⊎ Verdict
     result r = refusedOr r (verdict (membersOf p (changed A c)) F)
 
@@ -91,6 +119,17 @@ module _ (p : Plan) (w : WellFormed p) (F : ℕ → Bool) where
     pub member-answered : MemberAnswered p F A c (memberAnswer p F A c) (membersAfter p A c)
     unfolding memberAnswer membersAfter memberRefusal
     member-answered = settled _ _ _ (r-negate _ (r-T _)) (r-31 _) (r-same _ _)
+
+    -- an accepted call is one of a child of an all-of root
+    pub of-a-child : memberRefusal p A c ≡ 0 → ¬ Refused31 p (c .node)
+    unfolding memberRefusal
+    of-a-child e x = at (negate (p .tree .here (c .node))) (refused31B p (c .node)) (sameB (A (c .node)) (c .joins)) e
+        ((r-31 (c .node)) .from x)
+      where
+        at : (a b d : Bool) → refusing a b d ≡ 0 → ¬ T b
+        at true b d q t = omega (arith, q)
+        at false true d q t = omega (arith, q)
+        at false false d q t = absurd t
 
   -- and over lists
   pub members-worked : (A : ℕ → Bool) (cs : List MemberCall)

@@ -8,8 +8,7 @@ use native.Mathlib.Omega.{arith}
 use Rattle.base.specs.Words.{Says}
 use Rattle.base.proofs.Words.{no-bits}
 use Rattle.base.proofs.Says.{no-flag}
-use Rattle.base.specs.Answers.{refusedOr}
-use Rattle.base.proofs.First.{first-none, answer-none, answer-some}
+use Rattle.base.proofs.First.{first-none, answer-none, answer-some, answer-tells}
 use Rattle.plan_rules.specs.Rules.{refusal}
 use Rattle.plan_check.specs.Meaning.{planOf, startOf}
 use Rattle.plan_check.proofs.Accepted.{clean}
@@ -116,23 +115,13 @@ abbrev word-in : verdicts.Verdict → ℕ ⊎ verdicts.Verdict → verdicts.Verd
 word-in other (inl n) = other
 word-in other (inr v) = v
 
-abbrev number-in : ℕ ⊎ verdicts.Verdict → ℕ
-number-in (inl n) = n
-number-in (inr v) = 0
-
--- a number that an answer tells is its refusal
-told : (a : ℕ ⊎ verdicts.Verdict) (r k : ℕ) (v : verdicts.Verdict) → a ≡ refusedOr r v → (a ≡ inl (suc k)) ↔ (r ≡ suc k)
-told a zero k v e =
-    (λ q. let z : 0 ≡ suc k = ap number-in (sym e ∙ q) in absurd (omega arith), λ q. absurd (omega arith))
-told a (suc r) k v e = (λ q. ap number-in (sym e ∙ q), λ q. e ∙ ap inl q)
-
 module _ (b xs : List ℕ) where
   -- 28 and 29
   numbers : (a : Answer) → said a ≡ answerOf b xs → (k : ℕ) → refusal b ≡ 0
       → (said a ≡ inl (suc k)) ↔ (blockedRefusal (planOf b) xs ≡ suc k)
   unfolding answerOf refusalUnder
   numbers a e k ok = let z = first-none (refusal b) (blockedRefusal (planOf b) xs) ok in
-      Iff·trans (told (said a) _ k _ e) (λ q. z ∙ q, λ q. sym z ∙ q)
+      Iff·trans (Iff·trans (λ q. sym e ∙ q, λ q. e ∙ q) (answer-tells _ k _)) (λ q. z ∙ q, λ q. sym z ∙ q)
 
   pub assessed-refused : {r : ℕ} → r ≡ refusalUnder b xs → (r ≡ 0 → ⊥) → Assessed b xs (Refused r)
   unfolding answerOf
