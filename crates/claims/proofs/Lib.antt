@@ -5,3 +5,6 @@ pub mod Promises
 -- `sequences-agree`: a CLEAR plan meets 23 or has a sequence (101), a DOOMED one has none; `sequences-same`: a plan has
 -- one answer (109).
 pub mod Sequences
+-- `members-claim`: after every list of calls that include and exclude members, from nobody, the last answer is the
+-- verdict for the members, and the bytes show them (111).
+pub mod Members

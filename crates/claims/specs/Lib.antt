@@ -2,3 +2,4 @@
 pub mod Left
 pub mod Promises
 pub mod Sequences
+pub mod Members
