@@ -5,13 +5,13 @@ use mathlib.Core.Logic.{_⊎_, inl, inr, _↔_}
 use mathlib.Core.Bool.{cond}
 use mathlib.Core.List.{List}
 use Prim.Native.Nat.{ℕ, _^_}
-use lib.Dec.{ltb}
+use lib.Dec.{eqb, ltb}
 use Rattle.plan_rules.specs.Rules.{refusal}
 use Rattle.plan_check.specs.Meaning.{planOf, startOf}
 use Rattle.plan_blocked.specs.Blocked.{planUnder, refusalUnder}
 use Rattle.runs.specs.Blocked.{Refused28, Refused29}
 use Rattle.runs.specs.Execution.{Complete}
-use Rattle.runs.specs.Verdict.{Verdict, CLEAR, DOOMED, Judged}
+use Rattle.runs.specs.Verdict.{Verdict, CLEAR, DOOMED, OPEN, Judged}
 use Rattle.runs.specs.Searches.{listed}
 use Rattle.runs.specs.Violations.{NeverViolates, NeverCompletes}
 use Rattle.run_state.specs.State.{statusIn, stateRefusalUnder}
@@ -22,6 +22,8 @@ use Rattle.text_listing.specs.Sentences.{IsListing}
 use Rattle.listing.specs.Listing.{listedOf, listingLeft}
 use Rattle.sequences.specs.Word.{sequenceIn}
 use Rattle.sequence.specs.Sequence.{sequenceAnswer, SoughtOf}
+use Rattle.members.specs.Members.{MemberCall}
+use Rattle.member_calls.specs.Calls.{memberReturn, MemberCalled}
 use Rattle.capi_numbers.specs.Numbers.{verdictNumber, statusNumber, writtenNumber, sequenceNumber}
 
 -- r is the number of the answer for the plan and the list xs of blocked nodes: 28 and 29 in 02's words; accepted, it is
@@ -59,3 +61,13 @@ pub record SequenceNumber (b : List ℕ) (r : ℕ) : Type 0 where
   pub returns : r ≡ sequenceNumber (sequenceAnswer b)
   pub sought : SoughtOf b (toldBy r)
   pub exact : r ≡ sequenceNumber (toldBy r)
+
+-- what the number of a verdict or a refusal tells
+abbrev pub verdictBy : ℕ → ℕ ⊎ Verdict
+verdictBy r = cond (eqb r 128) (inr CLEAR) (cond (eqb r 129) (inr DOOMED) (cond (eqb r 130) (inr OPEN) (inl r)))
+
+-- r is the number of the answer of a call that includes or excludes a member; what it tells is the answer in 02's
+-- words, and ms′ has every byte of the list after it
+pub record MemberNumber (b ms : List ℕ) (c : MemberCall) (r : ℕ) (ms′ : List ℕ) : Type 0 where
+  pub returns : r ≡ verdictNumber (memberReturn b ms c)
+  pub called : MemberCalled b ms c (verdictBy r) ms′

@@ -6,7 +6,8 @@ ghost use Rattle.runs.specs.Execution as execution;
 ghost use Rattle.runs.specs.Calls.{one, together};
 ghost use Rattle.run_state.specs.Fresh.{Freshened};
 ghost use Rattle.run_monitor.specs.Events.{Called};
-ghost use Rattle.capi.specs.Told.{VerdictNumber, StatusNumber, ListingNumber, SequenceNumber};
+ghost use Rattle.members.specs.Members.{include, exclude};
+ghost use Rattle.capi.specs.Told.{VerdictNumber, StatusNumber, ListingNumber, SequenceNumber, MemberNumber};
 use capi_numbers::sequence_number;
 use capi_numbers::status_number;
 use capi_numbers::verdict_number;
@@ -122,4 +123,20 @@ pub extern "C" fn knowetop_sequence(plan: &[u8]) -> u64
 {
     let answer = sequence::sequence(plan);
     sequence_number(answer)
+}
+
+#[no_mangle]
+pub extern "C" fn knowetop_include(plan: &[u8], members: &mut [u8], node: usize) -> u32
+    ensures { λ r. ⌜ MemberNumber (now (plan .entry)) (now (members .entry)) (include node) r (now (members .exit)) ⌝ }
+{
+    let answer = member_calls::include(plan, members, node);
+    verdict_number(answer)
+}
+
+#[no_mangle]
+pub extern "C" fn knowetop_exclude(plan: &[u8], members: &mut [u8], node: usize) -> u32
+    ensures { λ r. ⌜ MemberNumber (now (plan .entry)) (now (members .entry)) (exclude node) r (now (members .exit)) ⌝ }
+{
+    let answer = member_calls::exclude(plan, members, node);
+    verdict_number(answer)
 }
