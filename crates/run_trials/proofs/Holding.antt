@@ -30,12 +30,19 @@ use Rattle.run_trials.specs.Starred.{starred}
 use Rattle.run_trials.specs.Requested.{of-starts, of-places, of-skips, of-groups, of-words, of-finishes}
 use Rattle.run_trials.specs.Blocked.{of-branches, of-lists, of-absent, of-roots}
 use Rattle.run_trials.specs.Sequences.{of-sequences, AllSequenced}
+use Rattle.run_trials.specs.Members.{of-members, AllCalled}
 use Rattle.run_trials.specs.Checked.{AllChecked, AllWorded, AllRefused}
 use Rattle.run_trials.proofs.Tests.{showsB, leftB, holdsB, allHoldB, all-hold}
 use Rattle.run_trials.proofs.Checks.{allCheckedB, all-checked, completeIs, allWordedB, all-worded}
 use Rattle.run_trials.proofs.Checks.{allRefusedB, all-refused}
 use Rattle.sequence.specs.Sequence.{sequenceAnswer}
-use Rattle.run_trials.proofs.Sequences.{sameAnswer, allSequencedB, all-sequenced}
+use Rattle.run_trials.proofs.Sequences.{sameAnswer, sequenceB, allSequencedB, all-sequenced}
+use Rattle.members.proofs.Tried.{coming}
+use Rattle.member_list.specs.Members.{memberIn}
+use Rattle.member_list.specs.Model.{badMember, membersRefusal}
+use Rattle.member_calls.specs.Calls.{callRefusal, memberReturn, membersLeft}
+use Rattle.run_trials.proofs.Members.{answersOf, listAfter, sameVerdict, sameAnswers, memberB, allCalledB}
+use Rattle.run_trials.proofs.Members.{all-called}
 
 -- the plans, their bytes and their meaning, and the bytes of states, under one name
 unfoldable pub bytes : Unit {0}
@@ -111,5 +118,11 @@ roots-told = all-worded of-roots tt
 
 -- every row for 02's sequence of the root's children
 pub sequences-told : AllSequenced of-sequences
-unfolding bytes startOf seeking sequenceAnswer sameAnswer allSequencedB
+unfolding bytes startOf seeking sequenceAnswer sameAnswer sequenceB allSequencedB
 sequences-told = all-sequenced of-sequences tt
+
+-- every row for 02's members
+pub members-called : AllCalled of-members
+unfolding bytes startOf coming memberIn badMember membersRefusal callRefusal memberReturn membersLeft answersOf listAfter
+    sameVerdict sameAnswer sameAnswers memberB allCalledB
+members-called = all-called of-members tt

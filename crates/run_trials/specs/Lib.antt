@@ -6,3 +6,4 @@ pub mod Starred
 pub mod Requested
 pub mod Blocked
 pub mod Sequences
+pub mod Members

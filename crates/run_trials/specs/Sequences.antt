@@ -33,10 +33,10 @@ abbrev needy : List Order → PlanPieces
 needy os = under-root (a-task (leaves 0 on ∷ []) ∷ z-task (needs 0 off ∷ []) ∷ []) os
 
 -- a root of the kind k with these nodes, 2 flags
-abbrev rooted : Kind → List Entry → PlanPieces
+abbrev pub rooted : Kind → List Entry → PlanPieces
 rooted k l = record { flags = 2; start = none-set; entries = group k 255 (short R) ∷ l; orders = [] }
 
-abbrev bare : Entry
+abbrev pub bare : Entry
 bare = work 0 (short A) 1 []
 
 abbrev pub of-sequences : List SequenceRow

@@ -48,11 +48,11 @@ abbrev pub holder : PlanPieces
 holder = under-root (a-task (holds 0 on ∷ leaves 0 off ∷ []) ∷ z-task (leaves 0 off ∷ []) ∷ []) []
 
 -- A and Z each need flag 0 clear and leave it set
-abbrev twins : List Order → PlanPieces
+abbrev pub twins : List Order → PlanPieces
 twins os = under-root (a-task (needs 0 off ∷ leaves 0 on ∷ []) ∷ z-task (needs 0 off ∷ leaves 0 on ∷ []) ∷ []) os
 
 -- A leaves flag 0 set, C leaves it clear, Z needs it clear
-abbrev three : List Order → PlanPieces
+abbrev pub three : List Order → PlanPieces
 three os = under-root (a-task (leaves 0 on ∷ []) ∷ work 0 (short C) 3 (leaves 0 off ∷ []) ∷ z-task
     (needs 0 off ∷ []) ∷ []) os
 
