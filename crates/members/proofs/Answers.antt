@@ -21,32 +21,6 @@ use Rattle.members.proofs.Parts.{members-judged, members-well-formed}
 abbrev refusing : Bool → Bool → Bool → ℕ
 refusing a b d = cond a 17 (cond b 31 (cond d 32 0))
 
-module _ (p : Plan) (A : ℕ → Bool) (c : MemberCall) where
-  abbrev Tested : (ℕ → Type 0) → Type 0
-  Tested P = (a b d : Bool) → P (refusing a b d)
-
-  tested : (P : ℕ → Type 0) → Tested P → P (memberRefusal p A c)
-  unfolding memberRefusal
-  tested P h = h (negate (p .tree .here (c .node))) (refused31B p (c .node)) (sameB (A (c .node)) (c .joins))
-
-  pub number-least : (memberRefusal p A c ≡ 0) ⊎ (17 ≤ memberRefusal p A c)
-  number-least = tested (λ r. (r ≡ 0) ⊎ (17 ≤ r)) at
-    where
-      at : (a b d : Bool) → (refusing a b d ≡ 0) ⊎ (17 ≤ refusing a b d)
-      at true b d = inr (omega arith)
-      at false true d = inr (omega arith)
-      at false false true = inr (omega arith)
-      at false false false = inl refl
-
-  pub number-limit : memberRefusal p A c ≤ 32
-  number-limit = tested (λ r. r ≤ 32) at
-    where
-      at : (a b d : Bool) → refusing a b d ≤ 32
-      at true b d = omega arith
-      at false true d = omega arith
-      at false false true = omega arith
-      at false false false = omega arith
-
 module _ (p : Plan) (w : WellFormed p) (F : ℕ → Bool) where
   pub r-31 : (n : ℕ) → Reflects (refused31B p n) (Refused31 p n)
   unfolding refused31B
@@ -143,3 +117,27 @@ module _ (p : Plan) (w : WellFormed p) (F : ℕ → Bool) where
   worked-only no-calls no-calls = (refl, refl)
   worked-only {A} (next-call {c = c} x y) (next-call z u) =
       let (e, d) = member-only A c x z in let (f, g) = worked-only y (rw (← d) at u) in (rw (e, f), g)
+
+-- the numbers are 17 to 32
+module _ (p : Plan) (A : ℕ → Bool) (c : MemberCall) where
+  tested : (P : ℕ → Type 0) → ((a b d : Bool) → P (refusing a b d)) → P (memberRefusal p A c)
+  unfolding memberRefusal
+  tested P h = h (negate (p .tree .here (c .node))) (refused31B p (c .node)) (sameB (A (c .node)) (c .joins))
+
+  pub number-least : (memberRefusal p A c ≡ 0) ⊎ (17 ≤ memberRefusal p A c)
+  number-least = tested (λ r. (r ≡ 0) ⊎ (17 ≤ r)) at
+    where
+      at : (a b d : Bool) → (refusing a b d ≡ 0) ⊎ (17 ≤ refusing a b d)
+      at true b d = inr (omega arith)
+      at false true d = inr (omega arith)
+      at false false true = inr (omega arith)
+      at false false false = inl refl
+
+  pub number-limit : memberRefusal p A c ≤ 32
+  number-limit = tested (λ r. r ≤ 32) at
+    where
+      at : (a b d : Bool) → refusing a b d ≤ 32
+      at true b d = omega arith
+      at false true d = omega arith
+      at false false true = omega arith
+      at false false false = omega arith

@@ -75,7 +75,7 @@ mark-members-spec =
     (λ c κs. tt)
     (λ c. omega (arith, c .before .before .before .before .before .before .before .before .before .before .pre .1))
     (λ c. node-small (c .before .before .before .before))
-    (λ c. small (c .before))
+    (λ c. omega (arith, small (c .before)))
     (λ c. node-small (c .before .before .before))
     (λ c. omega arith)
     (λ c. omega arith)
