@@ -21,7 +21,8 @@ use Rattle.members.specs.Model.{memberRefusal}
 use Rattle.members.proofs.Answers.{number-limit}
 use Rattle.member_list.specs.Members.{memberIn}
 use Rattle.member_list.specs.Model.{badMember, membersRefusal}
-use Rattle.member_calls.specs.Calls.{callRefusal, memberReturn, MemberCalled}
+use Rattle.member_calls.specs.Calls.{MemberCalled}
+use Rattle.member_calls.specs.Model.{callRefusal, memberReturn}
 use Rattle.capi_numbers.specs.Numbers.{verdictNumber}
 use Rattle.capi.specs.Told.{verdictBy, MemberNumber}
 

@@ -23,7 +23,8 @@ use Rattle.listing.specs.Listing.{listedOf, listingLeft}
 use Rattle.sequences.specs.Word.{sequenceIn}
 use Rattle.sequence.specs.Sequence.{sequenceAnswer, SoughtOf}
 use Rattle.members.specs.Members.{MemberCall}
-use Rattle.member_calls.specs.Calls.{memberReturn, MemberCalled}
+use Rattle.member_calls.specs.Calls.{MemberCalled}
+use Rattle.member_calls.specs.Model.{memberReturn}
 use Rattle.capi_numbers.specs.Numbers.{verdictNumber, statusNumber, writtenNumber, sequenceNumber}
 
 -- r is the number of the answer for the plan and the list xs of blocked nodes: 28 and 29 in 02's words; accepted, it is

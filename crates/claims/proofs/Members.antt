@@ -1,6 +1,6 @@
 -- The claim over lists of calls that include and exclude members holds. Assumes nothing.
 use mathlib.Core.Path.{_≡_, refl, sym, ap, _∙_, fun-ext, subst}
-use mathlib.Core.Logic.{_≢_, _⊎_, inl, inr, _↔_, by-cases, Iff·trans}
+use mathlib.Core.Logic.{_≢_, _⊎_, inl, inr, _↔_, by-cases}
 use mathlib.Core.Bool.{Bool, true, false}
 use mathlib.Core.Option.{none, some}
 use mathlib.Core.List.{List, [], _∷_, _++_}
@@ -9,7 +9,7 @@ use native.Mathlib.Decide.{ℕ-discrete, decLt}
 use native.Mathlib.Omega.{arith}
 use lib.Dec.{T, eqb}
 use lib.ListN.{length, getD}
-use borrow.Author.Tests.{eq-eqb, ne-eqb, lt-ltb, le-ltb}
+use borrow.Author.Tests.{ne-eqb, lt-ltb, le-ltb}
 use Rattle.base.specs.Count.{num}
 use Rattle.plan_format.specs.Format.{nodeCount}
 use Rattle.plan_rules.specs.Rules.{refusal}
@@ -21,22 +21,21 @@ use Rattle.plan_blocked.proofs.Refused.{none-under, list-passes}
 use Rattle.runs.specs.Plan.{Plan, Child}
 use Rattle.runs.specs.WellFormed.{WellFormed}
 use Rattle.runs.specs.Calls.{empty}
-use Rattle.runs.specs.Verdict.{Verdict, CLEAR, Judged}
-use Rattle.runs.specs.Model.Verdicts.{verdict}
+use Rattle.runs.specs.Verdict.{Verdict, Judged}
 use Rattle.runs.proofs.Reflect.{clash}
 use Rattle.runs.proofs.Blocked.Branches.{blocks-nothing}
 use Rattle.verdict.specs.declared.Answer.{Answer}
 use Rattle.verdict.specs.Verdict.{said, Assessed}
 use Rattle.members.specs.Members.{MembersJudged, nobody, MemberCall, MemberAnswered, refused-17, refused-31}
 use Rattle.members.specs.Members.{refused-32, changes, MembersWorked, no-calls, next-call, lastVerdict}
-use Rattle.members.specs.Model.{membersOf}
 use Rattle.members.proofs.Answers.{called-child, judged-is, worked-only}
 use Rattle.members.proofs.Lists.{Along, at-first, along-after, last-clear, last-whole}
 use Rattle.member_list.specs.Members.{memberIn, BadMembers, other-byte, stray-one, MembersPass}
-use Rattle.member_calls.specs.Calls.{memberReturn, membersLeft, MemberCalled}
+use Rattle.member_calls.specs.Calls.{MemberCalled}
+use Rattle.member_calls.specs.Model.{memberReturn, membersLeft}
 use Rattle.member_calls.proofs.Calls.{member-called}
-use Rattle.claims.specs.Members.{MemberCalls, none-made, next-made, NobodyIn, MembersShown, MembersFollow}
-use Rattle.claims.specs.Members.{MembersClaimOf, MembersClaim}
+use Rattle.claims.specs.Members.{MemberCalls, none-made, next-made, NobodyIn, MembersFollow}
+use Rattle.claims.specs.Members.{MembersClaim}
 
 zero-or-one : (j : Bool) {k : ℕ} → num j ≡ k → k ≢ 0 → k ≢ 1 → ⊥
 zero-or-one true e z o = o (sym e)

@@ -23,7 +23,8 @@ use Rattle.members.proofs.Answers.{member-answered, number-least}
 use Rattle.member_list.specs.Members.{memberIn, MembersPass}
 use Rattle.member_list.specs.Model.{membersRefusal}
 use Rattle.member_list.proofs.Bytes.{plan-refused, is-15, is-16, members-pass}
-use Rattle.member_calls.specs.Calls.{callRefusal, memberReturn, membersLeft, MemberCalled}
+use Rattle.member_calls.specs.Calls.{MemberCalled}
+use Rattle.member_calls.specs.Model.{callRefusal, memberReturn, membersLeft}
 use Rattle.member_calls.proofs.Checks.{list-refused}
 use Rattle.member_calls.proofs.Ends.{byte-is, in-list, shows-changed, as-judged, as-written, as-refused, as-kept}
 

@@ -20,7 +20,7 @@ use Rattle.members.specs.Members.{MemberCall}
 use Rattle.members.specs.Model.{refused31B, memberRefusal}
 use Rattle.member_list.specs.Members.{memberIn}
 use Rattle.member_list.specs.Model.{membersRefusal}
-use Rattle.member_calls.specs.Calls.{callRefusal}
+use Rattle.member_calls.specs.Model.{callRefusal}
 
 -- 31, by the tests of the bytes
 root-kind : (b : List ℕ) → 0 < nodeCount b → isKind b 0 1 ≡ kindB (planOf b .tree .kind 0) all-of

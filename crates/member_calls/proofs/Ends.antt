@@ -26,7 +26,7 @@ use Rattle.members.proofs.Answers.{of-a-child, all-of-root, called-child}
 use Rattle.member_list.specs.Members.{memberIn, MembersPass}
 use Rattle.member_list.specs.Model.{membersRefusal}
 use Rattle.member_list.proofs.Bytes.{members-pass}
-use Rattle.member_calls.specs.Calls.{callRefusal, memberReturn, membersLeft}
+use Rattle.member_calls.specs.Model.{callRefusal, memberReturn, membersLeft}
 
 -- the byte that a call writes
 pub byte-is : (j : Bool) → boolByte j ≡ num j

@@ -2,33 +2,17 @@
 -- aboard and take one off", 111). Definitions only.
 use mathlib.Core.Path.{_≡_}
 use mathlib.Core.Logic.{_≢_, _⊎_, inl, inr, _↔_}
-use mathlib.Core.Bool.{cond}
 use mathlib.Core.List.{List}
 use Prim.Native.Nat.{ℕ, _<_, _≤_}
-use lib.Dec.{eqb}
-use lib.ListN.{length, getD, set}
-use Rattle.base.specs.Answers.{first, refusedOr}
+use lib.ListN.{length, getD}
 use Rattle.base.specs.Count.{num}
 use Rattle.plan_format.specs.Format.{nodeCount}
 use Rattle.plan_rules.specs.Rules.{refusal}
 use Rattle.plan_check.specs.Meaning.{planOf, startOf}
 use Rattle.runs.specs.Verdict.{Verdict}
-use Rattle.runs.specs.Model.Verdicts.{verdict}
-use Rattle.members.specs.Members.{MemberCall, changed, MemberAnswered}
-use Rattle.members.specs.Model.{membersOf, memberRefusal}
+use Rattle.members.specs.Members.{MemberCall, MemberAnswered}
 use Rattle.member_list.specs.Members.{memberIn, BadMembers, MembersPass}
-use Rattle.member_list.specs.Model.{membersRefusal}
-
--- what is computed: 1 to 16, then 17, 31 and 32, or 0; the answer; the bytes after the call
-unfoldable pub callRefusal : List ℕ → List ℕ → MemberCall → ℕ
-callRefusal b ms c = first (membersRefusal b ms) (memberRefusal (planOf b) (memberIn b ms) c)
-
-unfoldable pub memberReturn : List ℕ → List ℕ → MemberCall → ℕ ⊎ Verdict
-memberReturn b ms c =
-    refusedOr (callRefusal b ms c) (verdict (membersOf (planOf b) (changed (memberIn b ms) c)) (startOf b))
-
-unfoldable pub membersLeft : List ℕ → List ℕ → MemberCall → List ℕ
-membersLeft b ms c = cond (eqb (callRefusal b ms c) 0) (set ms (c .node) (num (c .joins))) ms
+use Rattle.member_calls.specs.Model.{memberReturn, membersLeft}
 
 -- the call c on the plan b and the list ms: a is its answer, ms′ the list after it
 pub record MemberCalled (b ms : List ℕ) (c : MemberCall) (a : ℕ ⊎ Verdict) (ms′ : List ℕ) : Type 0 where

@@ -1,3 +1,4 @@
--- What a call that includes or excludes a member promises; inner contracts.
+-- What a call that includes or excludes a member promises; the same computed; inner contracts.
 pub mod Calls
+pub mod Model
 pub mod Inner

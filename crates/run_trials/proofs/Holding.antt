@@ -40,7 +40,7 @@ use Rattle.run_trials.proofs.Sequences.{sameAnswer, sequenceB, allSeque
 use Rattle.members.proofs.Tried.{coming}
 use Rattle.member_list.specs.Members.{memberIn}
 use Rattle.member_list.specs.Model.{badMember, membersRefusal}
-use Rattle.member_calls.specs.Calls.{callRefusal, memberReturn, membersLeft}
+use Rattle.member_calls.specs.Model.{callRefusal, memberReturn, membersLeft}
 use Rattle.run_trials.proofs.Members.{answersOf, listAfter, sameVerdict, sameAnswers, memberB, allCalledB}
 use Rattle.run_trials.proofs.Members.{all-called}
 

@@ -1,5 +1,5 @@
 -- What calls that include and exclude members answer and leave, as one test that computes. Assumes nothing.
-use mathlib.Core.Path.{_≡_, refl, ap, _∙_}
+use mathlib.Core.Path.{_≡_, refl, _∙_}
 use mathlib.Core.Logic.{_⊎_}
 use mathlib.Core.Bool.{Bool, true, false, decide}
 use mathlib.Core.List.{List, [], _∷_}
@@ -9,7 +9,7 @@ use Rattle.runs.specs.Tests.{both, sameList}
 use Rattle.runs.specs.Verdict.{Verdict, Verdict-discrete}
 use Rattle.runs.proofs.Reflect.{Reflects, r-both, r-T, r-list, r-decide}
 use Rattle.members.specs.Members.{MemberCall}
-use Rattle.member_calls.specs.Calls.{memberReturn, membersLeft}
+use Rattle.member_calls.specs.Model.{memberReturn, membersLeft}
 use Rattle.claims.specs.Members.{MemberCalls, none-made, next-made}
 use Rattle.run_trials.specs.Written.{bytesOf}
 use Rattle.run_trials.specs.Members.{MemberRow, RowCalled, AllCalled}

@@ -4,7 +4,7 @@ use Prim.Native.Nat.{ℕ}
 use mathlib.Core.Path.{_≡_}
 use mathlib.Core.Logic.{_⊎_, inl, inr}
 use mathlib.Core.List.{List, [], _∷_}
-use Rattle.runs.specs.Plan.{Kind, all-of, any-of, optional}
+use Rattle.runs.specs.Plan.{all-of, any-of, optional}
 use Rattle.runs.specs.Verdict.{Verdict, CLEAR, DOOMED, OPEN}
 use Rattle.members.specs.Members.{MemberCall, include, exclude}
 use Rattle.claims.specs.Members.{MemberCalls}

@@ -3,7 +3,7 @@ use mathlib.Core.Path.{_≡_, refl, sym, _∙_}
 use borrow.Author.Needs.{needs}
 use lib.ListN.{length-set}
 use denote.Ref.{now}
-use Rattle.member_calls.specs.Calls.{callRefusal}
+use Rattle.member_calls.specs.Model.{callRefusal}
 use Rattle.member_calls.specs.Inner.{call}
 use Rattle.member_calls.proofs.Ends.{in-list, list-passes, root-all-of}
 use Rattle.member_calls.proofs.Calls.{refused-call, accepted-call}

@@ -1,7 +1,6 @@
 -- `check_members` meets its contract. Assumes nothing.
 use mathlib.Core.Path.{_≡_, sym, _∙_}
 use native.Mathlib.Omega.{arith}
-use borrow.Author.Needs.{needs}
 use denote.Ref.{now}
 use Rattle.plan_rules.specs.Rules.{refusal}
 use Rattle.plan_check.proofs.Accepted.{clean}

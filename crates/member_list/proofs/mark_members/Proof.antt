@@ -5,7 +5,6 @@ use Prim.Native.Nat.{_-_, _≤_, _<_}
 use native.Mathlib.Omega.{arith}
 use denote.Ref.{now}
 use Rattle.plan_format.specs.Format.{nodeCount, parentOf}
-use Rattle.plan_rules.specs.Rules.{refusal}
 use Rattle.plan_check.proofs.Accepted.{clean}
 use Rattle.plan_blocked.proofs.Standing.{parent-lower}
 use Rattle.member_list.proofs.Standing.{Placed, placed-first, placed-member, placed-below, placed-all}
