@@ -123,6 +123,6 @@ sequences-told = all-sequenced of-sequences tt
 
 -- every row for 02's members
 pub members-called : AllCalled of-members
-unfolding bytes startOf coming memberIn badMember membersRefusal callRefusal memberReturn membersLeft answersOf listAfter
-    sameVerdict sameAnswer sameAnswers memberB allCalledB
+unfolding bytes startOf coming memberIn badMember membersRefusal callRefusal memberReturn membersLeft answersOf
+    listAfter sameVerdict sameAnswer sameAnswers memberB allCalledB
 members-called = all-called of-members tt

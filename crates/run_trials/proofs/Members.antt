@@ -81,5 +81,6 @@ pub all-called : (l : List MemberRow) → T (allCalledB l) → AllCalled l
 unfolding allCalledB
 all-called [] t = tt
 all-called (w ∷ l) t =
-    let r : Reflects (both (memberB w) (λ u. allCalledB l)) (T (memberB w) × T (allCalledB l)) = r-both _ _ (r-T _) (r-T _) in
+    let r : Reflects (both (memberB w) (λ u. allCalledB l)) (T (memberB w) × T (allCalledB l))
+    = r-both _ _ (r-T _) (r-T _) in
     let (x, y) = r .to t in (row-called w x, all-called l y)

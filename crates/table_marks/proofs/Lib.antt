@@ -1,0 +1,2 @@
+-- Tables filled in either way.
+pub mod Filled

@@ -61,7 +61,7 @@ pub fn write_listing(plan: &[u8], out: &mut [u8]) -> usize
     let standing = all_nodes();
     let mut from = no_starts();
     let mut kids = no_nodes();
-    let words = marks_and_children(plan, &standing, &mut from, &mut kids, 0);
+    let words = marks_and_children(plan, &standing, false, &mut from, &mut kids, 0);
     let start = start_word(plan);
     let verdict = of_words(&words, start);
     write_text(plan, &from, &kids, verdict, out)

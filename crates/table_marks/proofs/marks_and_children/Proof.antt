@@ -1,24 +1,38 @@
 -- `marks_and_children` meets its contract. Assumes nothing.
+use mathlib.Core.Logic.{⊎-elim}
 use native.Mathlib.Omega.{arith}
 use borrow.Author.Needs.{needs}
-use Rattle.runs.proofs.Blocked.Branches.{blocked-well-formed}
+use denote.Ref.{now}
 use Rattle.plan_check.proofs.Accepted.{clean}
 use Rattle.plan_check.proofs.Meaning.{means-well-formed}
+use Rattle.runs.proofs.Blocked.Branches.{blocked-well-formed}
+use Rattle.table_marks.proofs.Filled.{FilledBy, by-tables, by-among}
 use Rattle.table_marks.proofs.marks_and_children.Statement.{statement}
 use Rattle.table_marks.proofs.marks_and_children.Tie as tie
 
+-- what the call was given
+abbrev entry : tie.Joined1 → tie.Start
+entry c = c .before .before .before .before .before
+
+filled : (c : tie.Joined1) → let a = entry c .args in
+    FilledBy (now (a .plan)) (now (a .standing)) (a .among) (c .if1 .kind) (c .if1 .from) (c .if1 .kids) (c .if1 .order)
+    (c .if1 .conds)
+filled c = ⊎-elim
+    (λ z. by-among (z .9) (z .7) (z .8) (z .10) (z .11) (z .0 .taken) (z .6 .ensures))
+    (λ z. by-tables (z .9) (z .7) (z .8) (z .10) (z .11) (z .0 .left) (z .6 .ensures))
+    (c .if1 .came)
+
 nodes-requires : tie.Need-nodes-requires
-nodes-requires c κs = let p = c .before .before .before .before .before .before .before .before .before .before .pre in
-    clean _ (p .0) .fits .limits .long
+nodes-requires c κs = clean _ (entry c .pre .0) .fits .limits .long
 
 node-words-requires : tie.Need-node-words-requires
 node-words-requires c κs =
     let counted = c .before .before .before .before .before in
-    let filled = counted .before in
-    let p = filled .before .before .before .before .before .before .before .before .before .before .pre in
+    let j = counted .before in
+    let p = entry j .pre in
     let n = counted .nodes .ensures in (
       record {
-        shaped = rw n (filled .fill-tables .ensures .children .shaped);
+        shaped = rw n (filled j .children .shaped);
         below = rw n (clean _ (p .0) .fits .limits .some-node);
       },
       omega (arith, p .1, clean _ (p .0) .fits .limits .nodes),
@@ -27,12 +41,14 @@ node-words-requires c κs =
 returns : tie.Need-returns
 returns c =
     let counted = c .before .before .before .before .before .before in
-    let filled = counted .before in
-    let p = filled .before .before .before .before .before .before .before .before .before .before .pre in
+    let j = counted .before in
+    let ok = entry j .pre .0 in
+    let n = counted .nodes .ensures in
     record {
-      marks = λ S k h l. c .node-words .ensures _ (blocked-well-formed _ (means-well-formed _ (p .0)) S k)
-          (rw (counted .nodes .ensures) (filled .fill-tables .ensures .represents S k h)) l;
-      children = filled .fill-tables .ensures .children;
+      left = λ e S k h l. c .node-words .ensures _ (blocked-well-formed _ (means-well-formed _ ok) S k)
+          (rw n (filled j .left e S k h)) l;
+      any = λ e S w h l. c .node-words .ensures _ w (rw n (filled j .any e S h)) l;
+      children = filled j .children;
     }
 
 pub marks-and-children-spec : {M : Type 1} → statement M
@@ -42,6 +58,7 @@ marks-and-children-spec =
     (λ c κs. tt)
     (λ c κs. tt)
     (λ c κs. tt)
+    (λ c κs. search needs)
     (λ c κs. search needs)
     nodes-requires
     node-words-requires

@@ -1,4 +1,5 @@
 -- `node_marks` meets its contract. Assumes nothing.
+use mathlib.Core.Path.{refl}
 use borrow.Author.Needs.{needs}
 use Rattle.table_marks.proofs.node_marks.Statement.{statement}
 use Rattle.table_marks.proofs.node_marks.Tie as tie
@@ -8,4 +9,4 @@ node-marks-spec = tie.close (tie.spec
     (λ c κs. tt)
     (λ c κs. tt)
     (λ c κs. search needs)
-    (λ c. c .marks-and-children .ensures .marks))
+    (λ c. c .marks-and-children .ensures .left refl))

@@ -1,4 +1,5 @@
 -- `write_listing` meets its contract: every node is marked, so what is left is the whole plan. Assumes nothing.
+use mathlib.Core.Path.{refl}
 use borrow.Author.Needs.{needs}
 use Rattle.plan_check.proofs.Accepted.{clean}
 use Rattle.table_children.proofs.Whole.{whole-tree}
@@ -24,7 +25,7 @@ write-text-requires c κs =
     let f = filled .marks-and-children .ensures in (
       p .0,
       whole-verdict _ (p .0) _ all (judged .of-words .result)
-          (of-marks (judged .of-words .result) (p .0) (f .marks) (started .start-word .ensures)
+          (of-marks (judged .of-words .result) (p .0) (f .left refl) (started .start-word .ensures)
           (judged .of-words .ensures)),
       p .1,
       whole-tree _ _ (p .0) all (f .children),
