@@ -7,6 +7,7 @@ use crate::model::events::Event;
 use crate::model::format::Plan;
 use crate::model::listing::listing;
 use crate::model::marks::{marks, Marks};
+use crate::model::members::{change, Change};
 use crate::model::monitor::{finish_together, fresh, happen, status, Progress};
 use crate::model::rules::accept;
 use crate::model::runs;
@@ -27,6 +28,8 @@ pub enum Call {
     FinishTogether(Vec<usize>),
     Status,
     Listing,
+    /// Include or exclude a child of the root.
+    Change(Change),
 }
 
 impl Call {
@@ -42,6 +45,8 @@ impl Call {
             Call::FinishTogether(_) => "finish together",
             Call::Status => "status",
             Call::Listing => "listing",
+            Call::Change(Change::Include(_)) => "include",
+            Call::Change(Change::Exclude(_)) => "exclude",
         }
     }
 }
@@ -106,12 +111,16 @@ impl Answers {
         &self.blocked
     }
 
-    /// Makes the call. It is lent an output or a state, which calls that use neither leave alone.
+    /// Makes the call. It is lent an output, a state or a list of members, which calls that use none
+    /// leave alone.
     pub fn make(&self, call: &Call, lent: &mut [u8]) -> u32 {
         let done = match (call, &self.plan, &self.remaining) {
             (_, Err(number), _) => Err(*number),
             (Call::Refusal, Ok(_), _) => Ok(0),
             (Call::Listing, Ok(plan), _) => self.listing(plan, lent),
+            (Call::Change(call), Ok(plan), _) => {
+                change(plan, |plan| self.verdict_on(plan), *call, lent).map(code_of_verdict)
+            }
             (_, Ok(_), Err(number)) => Err(*number),
             (_, Ok(_), Ok(remaining)) => self.on_remaining(remaining, call, lent),
         };
@@ -125,7 +134,9 @@ impl Answers {
     fn on_remaining(&self, plan: &Remaining, call: &Call, lent: &mut [u8]) -> Result<u32, u32> {
         let marks = || self.of_remaining(plan);
         match call {
-            Call::Refusal | Call::Listing => unreachable!("{call:?} takes no list"),
+            Call::Refusal | Call::Listing | Call::Change(_) => {
+                unreachable!("{call:?} takes no list")
+            }
             Call::Verdict => Ok(code_of_verdict(from_marks(&plan.whole, &marks()[0]))),
             Call::Summary(node) => summary(&plan.whole, marks, *node, lent).map(|()| 0),
             Call::Fresh => fresh(plan, lent).map(|()| 0),
@@ -139,10 +150,15 @@ impl Answers {
     fn listing(&self, plan: &Plan, lent: &mut [u8]) -> Result<u32, u32> {
         let whole = || match &self.remaining {
             Ok(same) if self.blocked.is_empty() => from_marks(plan, &self.of_remaining(same)[0]),
-            _ => from_marks(plan, &(self.work_out)(plan)[0]),
+            _ => self.verdict_on(plan),
         };
         let len = listing(plan, || *self.verdict.get_or_init(whole), lent)?;
         Ok(256 + len as u32)
+    }
+
+    /// Of a plan with nothing blocked.
+    fn verdict_on(&self, plan: &Plan) -> Verdict {
+        from_marks(plan, &(self.work_out)(plan)[0])
     }
 
     /// The marks at every node, or the refusal of the plan or the list.

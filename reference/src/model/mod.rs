@@ -15,6 +15,7 @@ pub mod runs;
 pub mod verdict;
 
 pub mod blocked;
+pub mod members;
 
 pub mod monitor;
 pub mod sequence;

@@ -7,6 +7,7 @@
 
 use crate::model::calls::Call;
 use crate::model::events::Event;
+use crate::model::members::Change;
 use crate::tools::memory::Lent;
 
 mod c {
@@ -87,11 +88,25 @@ mod c {
             out_len: usize,
         ) -> u32;
         pub fn knowetop_sequence(plan: *const u8, plan_len: usize) -> u64;
+        pub fn knowetop_include(
+            plan: *const u8,
+            plan_len: usize,
+            members: *mut u8,
+            members_len: usize,
+            node: usize,
+        ) -> u32;
+        pub fn knowetop_exclude(
+            plan: *const u8,
+            plan_len: usize,
+            members: *mut u8,
+            members_len: usize,
+            node: usize,
+        ) -> u32;
     }
 }
 
-/// Makes the call. What it is lent is an output or a state; some calls take neither. The lists of
-/// blocked nodes and of tasks are lent too, and must stay as they are.
+/// Makes the call. What it is lent is an output, a state or a list of members; some calls take none.
+/// The lists of blocked nodes and of tasks are lent too, and must stay as they are.
 pub fn make(call: &Call, plan: &mut [u8], blocked: &[usize], lent: &mut [u8]) -> u32 {
     let tasks: &[usize] = match call {
         Call::FinishTogether(tasks) => tasks,
@@ -154,6 +169,12 @@ pub fn make_with(call: &Call, plan: &mut [u8], lent: &mut [u8], lists: [&mut [us
                 c::knowetop_status(plan, plan_len, blocked, blocked_len, lent, lent_len)
             }
             Call::Listing => c::knowetop_listing(plan, plan_len, lent, lent_len),
+            Call::Change(Change::Include(node)) => {
+                c::knowetop_include(plan, plan_len, lent, lent_len, node)
+            }
+            Call::Change(Change::Exclude(node)) => {
+                c::knowetop_exclude(plan, plan_len, lent, lent_len, node)
+            }
         }
     }
 }

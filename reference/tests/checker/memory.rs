@@ -59,6 +59,7 @@ fn accepted(plan: &Plan, case: &Case, after: &After) {
             assert_eq!(after.returned as usize, 256 + text.len());
             want[..text.len()].copy_from_slice(text.as_bytes());
         }
+        Call::Change(change) => want[change.node()] = change.byte(),
     }
     assert_eq!(after.lent, want, "{:?}", case.call);
     if let Call::Event(_) | Call::FinishTogether(_) = case.call {

@@ -27,7 +27,7 @@ pub struct History {
 /// The histories of all executions of the graph's node, each once.
 pub fn histories(plan: &Plan, graph: &Graph, literal: Literal) -> HashSet<History> {
     let empty = History {
-        completed: false,
+        completed: graph.points[0].completed,
         last: None,
         exposed: false,
         held: false,
