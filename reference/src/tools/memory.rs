@@ -35,7 +35,13 @@ impl<T: Copy + PartialEq + From<u8> + Into<usize>> Lent<T> {
 
     /// What the items are may decide nothing until they are written. Only valgrind notices.
     pub fn forget(self) -> Lent<T> {
-        valgrind::forget(&self.memory[self.middle.clone()]);
+        self.forget_after(0)
+    }
+
+    /// The same of those after the first so many.
+    pub fn forget_after(mut self, kept: usize) -> Lent<T> {
+        let later = self.items().get(kept..).unwrap_or_default();
+        valgrind::forget(later);
         self
     }
 

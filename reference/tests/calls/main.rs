@@ -4,6 +4,7 @@ mod blocked;
 mod damage;
 mod listings;
 mod lists;
+mod members;
 mod sequences;
 mod summaries;
 mod together;
@@ -19,7 +20,7 @@ use reference::tools::scenario::tally::Tally;
 
 type Topic = (&'static str, fn(&mut Tally));
 
-const TOPICS: [Topic; 40] = [
+const TOPICS: [Topic; 47] = [
     ("summaries of small plans, by runs", summaries::small),
     ("summaries of large plans, by rules", summaries::large),
     ("summaries of the samples", summaries::samples),
@@ -91,12 +92,19 @@ const TOPICS: [Topic; 40] = [
         sequences::first::by_verdicts,
     ),
     ("the first sequence, by pairs", sequences::first::kept_back),
+    ("members who come and go", members::small),
+    ("members of every small plan", members::every),
+    ("members of large plans", members::large),
+    ("every list of members, every number", members::lists::every),
+    ("lists of members of every length", members::lists::lengths),
+    ("lists of members, every byte", members::lists::bytes),
+    ("members by other rules", members::rules::told_apart),
     ("plans with damaged bytes", damage::bytes),
     ("plans with damaged fields", damage::fields),
 ];
 
 /// What each call returned at least so often.
-const MET: [(&str, usize, &[RangeInclusive<u32>]); 10] = [
+const MET: [(&str, usize, &[RangeInclusive<u32>]); 12] = [
     ("verdict", 20, &[1..=14, 28..=29, 128..=130]),
     ("summary", 20, &[0..=15, 17..=17, 28..=29]),
     ("fresh", 20, &[0..=15, 28..=29]),
@@ -107,6 +115,8 @@ const MET: [(&str, usize, &[RangeInclusive<u32>]); 10] = [
     ("status", 20, &[1..=16, 28..=29, 128..=129]),
     ("listing", 20, &[1..=15, 256..=256]),
     ("sequence", 20, &[1..=14, 23..=24, 256..=256]),
+    ("include", 20, &[1..=17, 31..=32, 128..=130]),
+    ("exclude", 20, &[1..=17, 31..=32, 128..=130]),
 ];
 
 /// The topics that one thread takes, each once it is done with the last: their comparisons and seconds.

@@ -116,7 +116,7 @@ fn changed_bytes() {
             counts[check(&case).min(256) as usize] += 1;
         }
     }
-    for returned in (15..=22).chain([0, 25, 26, 27, 128, 129, 130, 256]) {
+    for returned in (15..=22).chain([0, 25, 26, 27, 31, 32, 128, 129, 130, 256]) {
         assert!(counts[returned] > 50, "{returned}: {}", counts[returned]);
     }
 }

@@ -2,6 +2,7 @@
 
 use super::blocked::{malformed, spread};
 use super::lists::any_event;
+use super::members::{any_change, any_list, passing};
 use super::states::{any_state, bytes, reached_state, reordered_state};
 use super::together::any_tasks;
 use super::{any_number, Case};
@@ -10,6 +11,7 @@ use crate::model::calls::Call;
 use crate::model::events::Event;
 use crate::model::format::Plan;
 use crate::model::listing::LISTING_LEN;
+use crate::model::members::Change;
 use crate::model::monitor::{places_begin, state_len, State};
 use crate::model::rules::accept;
 use crate::model::summary::summary_len;
@@ -61,11 +63,13 @@ fn on_refused(random: &mut Random) -> Vec<Lending> {
         Call::Listing,
     ];
     let events = Event::each(number).map(Call::Event);
+    let changes = Change::each(number).map(Call::Change);
     let lending = |call| {
         let len = random.pick(&[0, 7, 200, 4_096]);
         (call, random.bytes(len))
     };
-    calls.into_iter().chain(events).map(lending).collect()
+    let calls = calls.into_iter().chain(events).chain(changes);
+    calls.map(lending).collect()
 }
 
 /// The list is refused, whatever is lent: also the fresh state, and memory of every length.
@@ -106,6 +110,7 @@ fn on_accepted(random: &mut Random, remaining: &Remaining) -> Vec<Lending> {
     for len in state_lengths(plan) {
         found.push((Call::Fresh, random.bytes(len)));
     }
+    found.extend(changes(random, plan));
     for state in states(random, remaining) {
         found.push((Call::Status, state.clone()));
         for _ in 0..4 {
@@ -117,6 +122,18 @@ fn on_accepted(random: &mut Random, remaining: &Remaining) -> Vec<Lending> {
         }
     }
     found
+}
+
+/// Calls on lists of members of every kind, and of lengths around the limit.
+fn changes(random: &mut Random, plan: &Plan) -> Vec<Lending> {
+    let mut lists: Vec<Vec<u8>> = (0..4).map(|_| any_list(random, plan)).collect();
+    for len in lengths_around(plan.nodes.len()) {
+        let mut list = passing(random, plan);
+        list.resize(len, random.byte());
+        lists.push(list);
+    }
+    let lending = |list| (Call::Change(any_change(random, plan)), list);
+    lists.into_iter().map(lending).collect()
 }
 
 /// States reachable and not, malformed, and of lengths around the limit.

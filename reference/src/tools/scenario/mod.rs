@@ -1,5 +1,5 @@
-//! What tests of the public calls are made of: cases, states, and lists of calls, of tasks and of
-//! blocked nodes.
+//! What tests of the public calls are made of: cases, states, and lists of calls, of tasks, of
+//! blocked nodes and of members.
 //!
 //! A case is made through a function of the form of `reference` here, so that the same case can be
 //! put to the reference and to the archive.
@@ -7,6 +7,7 @@
 pub mod blocked;
 pub mod cases;
 pub mod lists;
+pub mod members;
 pub mod sequence;
 pub mod states;
 pub mod stream;
@@ -18,7 +19,7 @@ use crate::model::format::Plan;
 use crate::tools::memory::{hex, Lent};
 use crate::tools::random::Random;
 
-/// A call with the plan, the blocked nodes, and the output or state that it is lent.
+/// A call with the plan, the blocked nodes, and the output, state or list of members that it is lent.
 #[derive(Clone, Debug, PartialEq, Eq)]
 pub struct Case {
     pub call: Call,
@@ -81,8 +82,10 @@ impl Case {
     pub fn make(&self, make: impl FnOnce(&Call, &mut [u8], &[usize], &mut [u8]) -> u32) -> After {
         let mut plan = Lent::new(&self.plan);
         let mut lent = Lent::new(&self.lent);
-        if let Call::Summary(_) | Call::Fresh | Call::Listing = self.call {
-            lent = lent.forget();
+        match self.call {
+            Call::Summary(_) | Call::Fresh | Call::Listing => lent = lent.forget(),
+            Call::Change(_) => lent = lent.forget_after(members::list_len(&self.plan)),
+            _ => {}
         }
         let returned = make(&self.call, plan.items(), &self.blocked, lent.items());
         After {

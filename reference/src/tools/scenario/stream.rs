@@ -3,6 +3,7 @@
 use super::blocked::{any_blocked, calls};
 use super::cases::cases;
 use super::lists::{list, long_list};
+use super::members;
 use super::tally::Tally;
 use super::Case;
 use crate::model::blocked::Remaining;
@@ -81,12 +82,22 @@ pub fn every_call(tally: &mut Tally, random: &mut Random, bytes: &[u8]) {
     tally.sequence(bytes);
     with_list(tally, random, bytes, &[]);
     let blocked = match accept(bytes) {
-        Ok(plan) => any_blocked(random, &plan),
+        Ok(plan) => {
+            come_and_go(tally, random, &plan);
+            any_blocked(random, &plan)
+        }
         Err(_) => vec![random.below(129)],
     };
     if !blocked.is_empty() {
         with_list(tally, random, bytes, &blocked);
     }
+}
+
+/// Include and exclude calls from nobody.
+fn come_and_go(tally: &mut Tally, random: &mut Random, plan: &Plan) {
+    let answers = Answers::by_rules(&plan.bytes());
+    let calls = members::changes(random, plan, 6);
+    members::replay(tally, &answers, plan, &calls, &random.bytes(2));
 }
 
 /// Every call with this list; on an accepted plan every node's summary and, if the list is accepted

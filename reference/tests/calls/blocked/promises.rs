@@ -18,7 +18,7 @@ use super::{lists_of_branches, plans};
 /// What the verdict call returns.
 pub const CLEAR: u32 = 128;
 pub const DOOMED: u32 = 129;
-const OPEN: u32 = 130;
+pub const OPEN: u32 = 130;
 
 /// The verdict with this list, which the reference returns too.
 pub fn verdict(tally: &mut Tally, plan: &Plan, blocked: &[usize]) -> u32 {

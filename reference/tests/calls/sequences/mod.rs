@@ -76,7 +76,7 @@ pub fn every(tally: &mut Tally) {
 }
 
 /// All plans of so many children, each of one of the first kinds, without orders.
-fn all_of_kinds(kinds: usize, children: usize) -> Vec<Plan> {
+pub fn all_of_kinds(kinds: usize, children: usize) -> Vec<Plan> {
     let root = Plan::new(1).all_of(b"ROOT", NO_PARENT);
     (0..children).fold(vec![root], |plans, _| {
         let with_each = |plan: Plan| {
@@ -88,7 +88,7 @@ fn all_of_kinds(kinds: usize, children: usize) -> Vec<Plan> {
 }
 
 /// The plan with those orders between the root's children that the bits of this number name.
-fn with_orders(plan: &Plan, bits: usize) -> Plan {
+pub fn with_orders(plan: &Plan, bits: usize) -> Plan {
     let children: Vec<usize> = plan.children(0).collect();
     let pairs = pairs(&children).into_iter().enumerate();
     let named = pairs.filter(|(at, _)| bits >> at & 1 == 1);
