@@ -5,6 +5,7 @@ mod agreement;
 mod blocked;
 mod clobbering;
 mod lists;
+mod members;
 mod memory;
 mod monitor;
 mod optional;
