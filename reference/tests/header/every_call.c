@@ -270,6 +270,45 @@ static void sequence(const uint8_t *plan, size_t len)
     assert(knowetop_sequence(changed, len - 2) == 24);
 }
 
+/* CAST and COMS come and go. Without the order RADI, of COMS, may need what CAST breaks. */
+static void members(const uint8_t *plan, size_t len)
+{
+    static const uint8_t nobody[NODES] = {0}, both[NODES] = {0, 1, 1, 0, 0};
+    uint8_t changed[82], aboard[NODES + 3];
+    memset(aboard, 7, sizeof aboard);
+    assert(knowetop_include(plan, 15, aboard, 0, NODES) == 1);
+    assert(knowetop_include(plan, len, aboard, NODES - 1, CAST) == 15);
+    assert(knowetop_exclude(plan, len, aboard, sizeof aboard, CAST) == 16);
+    assert(kept(aboard, sizeof aboard));
+    memset(aboard, 0, NODES);
+    assert(knowetop_include(plan, len, aboard, sizeof aboard, NODES) == 17);
+    assert(knowetop_include(plan, len, aboard, sizeof aboard, MOOR) == 31); /* the root */
+    assert(knowetop_exclude(plan, len, aboard, sizeof aboard, RADI) == 31); /* a child of COMS */
+    assert(knowetop_exclude(plan, len, aboard, sizeof aboard, CAST) == 32); /* nobody is aboard */
+    assert(same(aboard, nobody, NODES));
+
+    assert(knowetop_include(plan, len, aboard, sizeof aboard, CAST) == KNOWETOP_CLEAR);
+    assert(knowetop_include(plan, len, aboard, sizeof aboard, CAST) == 32); /* it is aboard */
+    assert(knowetop_include(plan, len, aboard, sizeof aboard, COMS) == KNOWETOP_CLEAR);
+    assert(same(aboard, both, NODES) && kept(aboard + NODES, sizeof aboard - NODES));
+    aboard[RADI] = 1;
+    assert(knowetop_exclude(plan, len, aboard, sizeof aboard, CAST) == 16);
+    aboard[RADI] = 0;
+
+    assert(len == sizeof changed);
+    memcpy(changed, plan, len);
+    changed[4] = 0; /* no order */
+    assert(knowetop_exclude(changed, len - 2, aboard, NODES, CAST) == KNOWETOP_CLEAR);
+    assert(knowetop_include(changed, len - 2, aboard, NODES, CAST) == KNOWETOP_OPEN);
+    changed[8] = 1; /* flag 0 set at the start, when CAST needs it clear */
+    assert(knowetop_exclude(changed, len - 2, aboard, NODES, COMS) == KNOWETOP_DOOMED);
+    assert(knowetop_exclude(changed, len - 2, aboard, NODES, CAST) == KNOWETOP_CLEAR);
+    assert(same(aboard, nobody, NODES));
+    changed[16 + 4 * NODES + 4 * MOOR + 1] = 2; /* an any-of root */
+    assert(knowetop_exclude(changed, len - 2, aboard, NODES, CAST) == 31);
+    assert(kept(aboard + NODES, sizeof aboard - NODES));
+}
+
 int main(int argc, char **argv)
 {
     uint8_t plan[82 + 1], lent[82];
@@ -287,6 +326,7 @@ int main(int argc, char **argv)
     lent_states(lent, sizeof lent);
     listing(lent, sizeof lent);
     sequence(lent, sizeof lent);
+    members(lent, sizeof lent);
     assert(same(lent, plan, sizeof lent));
     return 0;
 }
