@@ -47,6 +47,13 @@ fn plan(text: &str) -> Vec<u8> {
     text::make(text).unwrap()
 }
 
+/// A plan with an all-of root and these lines below it.
+#[track_caller]
+fn below(lines: &str) -> Vec<u8> {
+    let lines = lines.replace("; ", "\n");
+    plan(&format!("flags 2\n0 ROOT all-of\n{lines}\n"))
+}
+
 /// Makes the call with nothing blocked.
 #[track_caller]
 fn make(call: &Call, plan: &[u8], lent: &mut [u8]) -> u32 {

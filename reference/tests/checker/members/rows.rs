@@ -5,14 +5,7 @@ use reference::model::members::Change::{Exclude, Include};
 use reference::tools::scenario::members::{children, list_of};
 
 use super::{answers, change, check};
-use crate::{fields, plan, sample, verdict, CLEAR, DOOMED, OPEN};
-
-/// A plan with an all-of root and these lines below it.
-#[track_caller]
-fn below(lines: &str) -> Vec<u8> {
-    let lines = lines.replace("; ", "\n");
-    plan(&format!("flags 2\n0 ROOT all-of\n{lines}\n"))
-}
+use crate::{below, fields, plan, sample, verdict, CLEAR, DOOMED, OPEN};
 
 /// A leaves the flag set, C leaves it clear, Z needs it clear; A before C before Z. With C off A and
 /// Z are not ordered, so that the plan is OPEN and not DOOMED.

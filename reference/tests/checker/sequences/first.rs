@@ -3,8 +3,9 @@
 use reference::model::format::{Plan, CLEAR, NO_PARENT, SET};
 use reference::model::sequence::read;
 
-use super::{below, check, returned};
+use super::{check, returned};
 use super::{ANY_OF_THREE, BARE, NEEDS, SETS};
+use crate::below;
 
 /// The lowest child may come first, but then another can come no more: the search has to go back.
 #[test]

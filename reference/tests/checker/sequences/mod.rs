@@ -9,16 +9,7 @@ use reference::model::sequence::{admits, children, in_dictionary_order, word};
 use reference::tools::archive;
 use reference::tools::scenario::sequence::compared;
 
-use crate::{fields, plan};
-
-/// A plan with an all-of root and these lines below it.
-#[track_caller]
-fn below(lines: &str) -> Vec<u8> {
-    plan(&format!(
-        "flags 2\n0 ROOT all-of\n{}\n",
-        lines.replace("; ", "\n")
-    ))
-}
+use crate::fields;
 
 const SETS: &str = "SETS task 0 under 0 leaves 0-set";
 const CLEARS: &str = "CLEA task 0 under 0 leaves 0-clear";

@@ -3,9 +3,9 @@
 use reference::model::format::{Plan, CLEAR, NO_PARENT, SET};
 use reference::model::sequence::read;
 
-use super::{admitted, below, check, returned};
+use super::{admitted, check, returned};
 use super::{ANY_OF_THREE, BARE, CLEARS, NEEDS, NONE, SETS};
-use crate::{plan, sample};
+use crate::{below, plan, sample};
 
 /// A leaves the flag set, Z needs it clear: only Z before A, against the numbers.
 #[test]
