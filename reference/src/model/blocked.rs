@@ -118,17 +118,8 @@ fn no_branch_left(plan: &Plan, blocked: &[usize], group: usize) -> bool {
 mod tests {
     use super::*;
     use crate::model::format::{
-        Condition, Node, Order, ALL_OF, ANY_OF, NO_PARENT, OPTIONAL, POSTCONDITION, SET, TASK,
+        node, Condition, Order, ALL_OF, ANY_OF, NO_PARENT, OPTIONAL, POSTCONDITION, SET, TASK,
     };
-
-    fn node(parent: u8, kind: u8) -> Node {
-        Node {
-            name: *b"NODE",
-            parent,
-            kind,
-            minutes: 0,
-        }
-    }
 
     /// A choice of a group, in which one task is before another, and of an optional group.
     fn plan() -> Plan {

@@ -195,6 +195,17 @@ pub fn number(bytes: &[u8]) -> u16 {
     u16::from(bytes[0]) + 256 * u16::from(bytes[1])
 }
 
+/// A node for a test: a group, or a task of no minutes.
+#[cfg(test)]
+pub fn node(parent: u8, kind: u8) -> Node {
+    Node {
+        name: *b"NODE",
+        parent,
+        kind,
+        minutes: 0,
+    }
+}
+
 #[cfg(test)]
 mod tests {
     use super::*;

@@ -97,20 +97,11 @@ pub fn change(
 mod tests {
     use super::*;
     use crate::model::format::{
-        Condition, Node, Order, ALL_OF, ANY_OF, NO_PARENT, POSTCONDITION, SET, TASK,
+        node, Condition, Node, Order, ALL_OF, ANY_OF, NO_PARENT, POSTCONDITION, SET, TASK,
     };
     use crate::model::marks::{marks, Marks};
     use crate::model::runs;
     use crate::model::verdict::verdict;
-
-    fn node(parent: u8, kind: u8) -> Node {
-        Node {
-            name: *b"NODE",
-            parent,
-            kind,
-            minutes: 0,
-        }
-    }
 
     /// A task, a group in which one task is before another, and a task, each before the next.
     fn plan() -> Plan {

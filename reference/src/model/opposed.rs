@@ -52,16 +52,10 @@ impl Plan {
 #[cfg(test)]
 mod tests {
     use super::*;
-    use crate::model::format::{Condition, Node, Order, ALL_OF, ANY_OF, NO_PARENT, TASK};
+    use crate::model::format::{node, Condition, Order, ALL_OF, ANY_OF, NO_PARENT, TASK};
 
     /// An all-of root with a group of this kind, in which two tasks leave flag 0 opposite ways.
     fn nested(kind: u8, orders: Vec<Order>) -> Plan {
-        let node = |parent, kind| Node {
-            name: *b"NODE",
-            parent,
-            kind,
-            minutes: 0,
-        };
         let root = node(NO_PARENT, ALL_OF);
         Plan {
             flags: 1,

@@ -114,7 +114,7 @@ pub fn read(word: u64) -> Option<Vec<usize>> {
 mod tests {
     use super::*;
     use crate::model::format::{
-        Condition, Node, ALL_OF, CLEAR, NO_PARENT, POSTCONDITION, PRECONDITION, SET, TASK,
+        node, Condition, ALL_OF, CLEAR, NO_PARENT, POSTCONDITION, PRECONDITION, SET, TASK,
     };
     use crate::model::verdict::{verdict, Verdict};
     use std::collections::HashSet;
@@ -154,16 +154,6 @@ mod tests {
             places.find(|(a, b)| a != b).is_some_and(|(a, b)| a < b)
         };
         assert!(seven.len() == 5_040 && seven.is_sorted_by(precedes));
-    }
-
-    /// A task under the root, or the root.
-    fn node(parent: u8, kind: u8) -> Node {
-        Node {
-            name: *b"NODE",
-            parent,
-            kind,
-            minutes: 0,
-        }
     }
 
     /// Four tasks, each of which needs the flag clear, or set, or not, and leaves it clear, or set,

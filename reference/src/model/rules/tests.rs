@@ -1,7 +1,7 @@
 //! Expected numbers made by hand from 01.
 
 use super::*;
-use crate::model::format::{Condition, Order, CLEAR, POSTCONDITION, PRECONDITION, SET};
+use crate::model::format::{node, Condition, Order, CLEAR, POSTCONDITION, PRECONDITION, SET};
 
 /// Plan B of 01, byte by byte.
 const B: [u8; 82] = [
@@ -19,16 +19,6 @@ const B: [u8; 82] = [
 
 fn check(plan: &Plan, want: u32) {
     assert_eq!(refusal(&plan.bytes()), want, "{plan:?}");
-}
-
-/// A task or an all-of group without minutes.
-fn node(parent: u8, kind: u8) -> Node {
-    Node {
-        name: *b"NODE",
-        parent,
-        kind,
-        minutes: 0,
-    }
 }
 
 fn bare(nodes: Vec<Node>) -> Plan {

@@ -1,5 +1,7 @@
 //! Lists of members, and calls on them.
 
+use std::iter::repeat_with;
+
 use super::any_number;
 use super::tally::Tally;
 use super::together::some_of;
@@ -8,6 +10,8 @@ use crate::model::calls::{Answers, Call};
 use crate::model::format::{Plan, Sizes, HEAD};
 use crate::model::members::{plan_of, Change};
 use crate::tools::archive;
+use crate::tools::generate::clear::{clear_plan, shaken_plan};
+use crate::tools::generate::{dense_plan, Shape};
 use crate::tools::random::Random;
 
 /// What a call returns where the verdict is CLEAR; the others are higher, all refusals lower.
@@ -21,6 +25,24 @@ pub fn list_len(plan: &[u8]) -> usize {
 
 pub fn children(plan: &Plan) -> Vec<usize> {
     plan.children(0).collect()
+}
+
+/// A plan with an all-of root and so many nodes, two or more, with many conditions on few flags: of
+/// any shape, or a CLEAR one of tasks in one chain, or near a CLEAR one.
+pub fn small_plan(random: &mut Random, nodes: usize) -> Plan {
+    let sizes = Sizes {
+        nodes,
+        conditions: 9 * nodes,
+        orders: nodes,
+        flags: 2,
+    };
+    let mut drawn = repeat_with(|| match random.below(3) {
+        0 => dense_plan(random, nodes),
+        1 => clear_plan(random, sizes, Shape::FLAT),
+        _ => shaken_plan(random, sizes, Shape::EVEN),
+    });
+    let plan = drawn.find(|plan| plan.is_all_of(0));
+    plan.expect("draws never end")
 }
 
 /// The list of these members.

@@ -3,13 +3,11 @@
 use std::collections::BTreeMap;
 
 use reference::model::calls::code_of_verdict;
-use reference::model::format::{Condition, Order, Plan, Sizes};
+use reference::model::format::{Condition, Order, Plan};
 use reference::model::members::{plan_of, Change};
 use reference::model::verdict::verdict;
-use reference::tools::generate::clear::{clear_plan, shaken_plan};
-use reference::tools::generate::{dense_plan, Shape};
 use reference::tools::random::Random;
-use reference::tools::scenario::members::{children, Turn};
+use reference::tools::scenario::members::{children, small_plan, Turn};
 use reference::tools::scenario::tally::Tally;
 
 use super::replayed;
@@ -128,31 +126,13 @@ fn childless(plan: &Plan) -> Plan {
     plan
 }
 
-/// Small plans with an all-of root.
-fn plans(random: &mut Random) -> Vec<Plan> {
-    let mut plans = Vec::new();
-    for nodes in 3..=10 {
-        for _ in 0..80 {
-            let sizes = Sizes {
-                nodes,
-                conditions: 9 * nodes,
-                orders: nodes,
-                flags: 2,
-            };
-            plans.push(dense_plan(random, nodes));
-            plans.push(clear_plan(random, sizes, Shape::FLAT));
-            plans.push(shaken_plan(random, sizes, Shape::EVEN));
-        }
-    }
-    plans.retain(|plan| plan.is_all_of(0));
-    plans
-}
-
 pub fn told_apart(tally: &mut Tally) {
     let mut random = Random::new(227);
     let mut others = BTreeMap::new();
-    for plan in plans(&mut random) {
-        let turns = replayed(tally, &mut random, &plan, 2 * plan.nodes.len());
+    let nodes = (3..=10).flat_map(|nodes| [nodes; 120]);
+    for nodes in nodes {
+        let plan = small_plan(&mut random, nodes);
+        let turns = replayed(tally, &mut random, &plan, 2 * nodes);
         for turn in &turns {
             for (name, rule) in RULES {
                 let is_other = rule(&plan, turn) != turn.returned;

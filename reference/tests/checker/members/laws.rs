@@ -1,35 +1,18 @@
 //! On random small plans: what the calls promise of lists of them, and what they do not.
 
-use reference::model::format::{Plan, Sizes};
+use reference::model::format::Plan;
 use reference::model::members::Change::{self, Exclude, Include};
-use reference::tools::generate::clear::{clear_plan, shaken_plan};
-use reference::tools::generate::{dense_plan, Shape};
 use reference::tools::random::Random;
-use reference::tools::scenario::members::{changes, children, list_of};
+use reference::tools::scenario::members::{changes, children, list_of, small_plan};
 use reference::tools::scenario::together::some_of;
 
 use crate::{shown, verdict, CLEAR};
 
-/// Plans with an all-of root.
 fn for_each_plan(seed: u64, mut check: impl FnMut(&mut Random, &Plan)) {
     let mut random = Random::new(seed);
-    for nodes in 2..=9 {
-        for at in 0..150 {
-            let sizes = Sizes {
-                nodes,
-                conditions: 9 * nodes,
-                orders: nodes,
-                flags: 2,
-            };
-            let plan = match at % 3 {
-                0 => dense_plan(&mut random, nodes),
-                1 => clear_plan(&mut random, sizes, Shape::FLAT),
-                _ => shaken_plan(&mut random, sizes, Shape::EVEN),
-            };
-            if plan.is_all_of(0) {
-                check(&mut random, &plan);
-            }
-        }
+    for nodes in (2..=9).flat_map(|nodes| [nodes; 90]) {
+        let plan = small_plan(&mut random, nodes);
+        check(&mut random, &plan);
     }
 }
 
