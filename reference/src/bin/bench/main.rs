@@ -2,10 +2,11 @@
 //! No test depends on a time.
 //!
 //! Its modules in their order: timing; shapes, costs; plans, plain, verdicts, blocked, names,
-//! sequences.
+//! sequences, members.
 
 mod blocked;
 mod costs;
+mod members;
 mod names;
 mod plain;
 mod plans;
@@ -23,6 +24,7 @@ bench once     each of these verdicts once by both, for a program that counts in
 bench blocked  the verdict with nothing, few and many branches blocked, and by plain Rust
 bench names    rule 5 on a plan of the greatest size by both
 bench sequence the search for a sequence, by both, where many prefixes have to be tried
+bench members  include and exclude of a child of the root, beside the verdict
 bench cost     every call on plans of many shapes, the table of docs/costs.md";
 
 fn main() -> ExitCode {
@@ -34,6 +36,7 @@ fn main() -> ExitCode {
         ["blocked"] => blocked::print(),
         ["names"] => names::print(),
         ["sequence"] => sequences::print(),
+        ["members"] => members::print(),
         ["cost"] => costs::print(),
         _ => {
             eprintln!("{USAGE}");
