@@ -12,7 +12,7 @@ use reference::tools::archive;
 use reference::tools::text::{make, show, Error, Source};
 
 /// Each sample with its length and its refusal.
-const SAMPLES: [(&str, usize, u32); 23] = [
+const SAMPLES: [(&str, usize, u32); 24] = [
     ("b", 82, 0),
     ("b-flag-set", 82, 0),
     ("b-without-order", 80, 0),
@@ -23,6 +23,7 @@ const SAMPLES: [(&str, usize, u32); 23] = [
     ("finish-together", 46, 0),
     ("incondition-broken", 49, 0),
     ("large", 5136, 0),
+    ("members", 133, 0),
     ("minutes-10080", 24, 0),
     ("minutes-10081", 24, 6),
     ("nodes-0", 16, 2),

@@ -66,6 +66,33 @@ fn refused_between() {
     );
 }
 
+/// The rows of `samples/README.md`.
+#[test]
+fn sample_of_the_quay() {
+    let quay = sample("members");
+    check(
+        &quay,
+        &[
+            (Include(7), CLEAR, &[7]),
+            (Include(1), OPEN, &[1, 7]),
+            (Include(4), CLEAR, &[1, 4, 7]),
+            (Include(10), OPEN, &[1, 4, 7, 10]),
+            (Exclude(7), CLEAR, &[1, 4, 10]),
+            (Exclude(4), CLEAR, &[1, 10]),
+            (Exclude(1), CLEAR, &[10]),
+            (Exclude(10), CLEAR, &[]),
+            (Include(2), 31, &[]),
+            (Include(0), 31, &[]),
+            (Include(11), 17, &[]),
+            (Exclude(1), 32, &[]),
+        ],
+    );
+    assert_eq!(change(&quay, &mut [0; 10], Include(7)), 15);
+    let mut with_hose = [0; 11];
+    with_hose[2] = 1;
+    assert_eq!(change(&quay, &mut with_hose, Include(7)), 16);
+}
+
 /// Nobody is CLEAR, also where each of them alone is DOOMED.
 #[test]
 fn nobody() {
@@ -97,6 +124,7 @@ fn everybody() {
         "equal-waits",
         "finish-together",
         "incondition-broken",
+        "members",
         "preconditions-ordered",
         "preconditions-unordered",
         "restored-by-choice",
@@ -110,7 +138,7 @@ fn everybody() {
         answers(&plan, &[(&all, own)]);
         met[own as usize - 128] += 1;
     }
-    assert_eq!(met, [4, 2, 8]);
+    assert_eq!(met, [4, 2, 9]);
 }
 
 /// An order through an absent child does not tie its neighbours; one beside it does.
