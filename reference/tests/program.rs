@@ -9,6 +9,7 @@ const STATE: &[u8] = include_bytes!("../../samples/b.state");
 const NOISY: &[u8] = include_bytes!("../../samples/branch-blocked.plan");
 const OPPOSED: &[u8] = include_bytes!("../../samples/finish-together.plan");
 const DOOMED: &[u8] = include_bytes!("../../samples/b-flag-set.plan");
+const QUAY: &[u8] = include_bytes!("../../samples/members.plan");
 const SKIPPED: &[u8] = include_bytes!("../../samples/calibration-optional.state");
 
 /// Whether it succeeds, what it prints, and what it says on standard error.
@@ -77,6 +78,23 @@ fn says_what_to_block() {
     assert_eq!(run(&["block"], DOOMED), said(doomed));
     let refused = (false, Vec::new(), "REFUSED 3\n".to_string());
     assert_eq!(run(&["block"], &PLAN[..81]), refused);
+}
+
+#[test]
+fn says_who_is_aboard() {
+    let said = |text: &str| (true, text.as_bytes().to_vec(), String::new());
+    let quay = |members: &[&str]| run(&[&["members"], members].concat(), QUAY);
+    assert_eq!(quay(&["7"]), said("CLEAR: with these aboard\n7 ELEC\n"));
+    let two = "OPEN: with these aboard\n7 ELEC\n1 RINS\n";
+    assert_eq!(quay(&["7", "1"]), said(two));
+    let not = |text: &str| (false, Vec::new(), format!("{text}\n"));
+    assert_eq!(quay(&["1", "11"]), not("11 is no node"));
+    assert_eq!(quay(&["2"]), not("2 is no child of an all-of root"));
+    assert_eq!(quay(&["1", "4", "1"]), not("1 is aboard already"));
+    assert_eq!(quay(&["one"]), not("one is no number"));
+    assert_eq!(run(&["members", "1"], &QUAY[..132]), not("REFUSED 3"));
+    let (succeeds, printed, usage) = quay(&[]);
+    assert!(!succeeds && printed.is_empty() && usage.contains("plans members NODE .. < PLAN"));
 }
 
 #[test]

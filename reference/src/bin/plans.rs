@@ -1,5 +1,6 @@
 //! Makes a plan file from its text, shows the text of a plan file, lists it as the checker does,
-//! says which branch to block, and shows a state of it as text.
+//! says which branch to block and what the answer is with some of the root's children aboard, and
+//! shows a state of it as text.
 
 use std::env::args;
 use std::fs;
@@ -9,15 +10,16 @@ use std::process::ExitCode;
 use reference::model::listing::printed;
 use reference::tools::generate::{plan, Shape, LIMITS};
 use reference::tools::random::Random;
-use reference::tools::text::{make, show, show_resolved, show_state};
+use reference::tools::text::{make, show, show_members, show_resolved, show_state};
 
 const USAGE: &str = "\
-plans make < TEXT > PLAN    the bytes of a text
-plans show < PLAN > TEXT    the text of an accepted plan
-plans list < PLAN           what the checker prints for any bytes
-plans block < PLAN          which single branches, blocked, make an OPEN plan CLEAR
-plans state PLAN < STATE    the text of a state of the accepted plan in the file PLAN
-plans draw SEED > PLAN      a random accepted plan of 128 nodes, as large as its tree permits";
+plans make < TEXT > PLAN      the bytes of a text
+plans show < PLAN > TEXT      the text of an accepted plan
+plans list < PLAN             what the checker prints for any bytes
+plans block < PLAN            which single branches, blocked, make an OPEN plan CLEAR
+plans members NODE .. < PLAN  the answer with these children of the root aboard
+plans state PLAN < STATE      the text of a state of the accepted plan in the file PLAN
+plans draw SEED > PLAN        a random accepted plan of 128 nodes, as large as its tree permits";
 
 fn main() -> ExitCode {
     let arguments: Vec<String> = args().skip(1).collect();
@@ -27,6 +29,7 @@ fn main() -> ExitCode {
         ["show"] => shown(),
         ["list"] => input().map(|plan| printed(&plan).into_bytes()),
         ["block"] => resolved(),
+        ["members", ref members @ ..] if !members.is_empty() => aboard(members),
         ["state", plan] => shown_state(plan),
         ["draw", seed] => drawn(seed),
         _ => Err(USAGE.to_string()),
@@ -53,6 +56,13 @@ fn shown() -> Result<Vec<u8>, String> {
 
 fn resolved() -> Result<Vec<u8>, String> {
     let text = show_resolved(&input()?).map_err(|e| e.to_string())?;
+    Ok(text.into_bytes())
+}
+
+fn aboard(words: &[&str]) -> Result<Vec<u8>, String> {
+    let number = |word: &&str| word.parse().map_err(|_| format!("{word} is no number"));
+    let members: Vec<usize> = words.iter().map(number).collect::<Result<_, _>>()?;
+    let text = show_members(&input()?, &members).map_err(|e| e.to_string())?;
     Ok(text.into_bytes())
 }
 

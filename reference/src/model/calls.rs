@@ -188,6 +188,12 @@ pub fn code_of_verdict(verdict: Verdict) -> u32 {
     }
 }
 
+/// The verdict that a call returned, if it was accepted.
+pub fn verdict_of_code(code: u32) -> Option<Verdict> {
+    let mut verdicts = [Verdict::Clear, Verdict::Doomed, Verdict::Open].into_iter();
+    verdicts.find(|&verdict| code_of_verdict(verdict) == code)
+}
+
 pub fn code_of_progress(progress: Progress) -> u32 {
     match progress {
         Progress::Complete => 128,

@@ -1,5 +1,7 @@
-//! A plan, a state of it, and what resolves it, as lines of text; `samples/README.md` describes them.
+//! A plan, a state of it, what resolves it, and who is aboard, as lines of text;
+//! `samples/README.md` describes them.
 
+mod aboard;
 mod parse;
 mod print;
 mod resolve;
@@ -11,6 +13,7 @@ mod tests;
 use crate::model::format::Plan;
 use crate::model::monitor::State;
 use crate::model::rules::{accept, refusal};
+use aboard::Aboard;
 use resolve::Resolved;
 pub use source::{Error, Source};
 use state::Shown;
@@ -43,6 +46,12 @@ pub fn show(bytes: &[u8]) -> Result<String, Error> {
 pub fn show_resolved(plan: &[u8]) -> Result<String, Error> {
     let plan = accept(plan).map_err(Error::Refused)?;
     Ok(Resolved::new(plan).to_string())
+}
+
+/// The answer with these children of an accepted plan's root aboard, by the archive's include calls.
+pub fn show_members(plan: &[u8], members: &[usize]) -> Result<String, Error> {
+    let plan = accept(plan).map_err(Error::Refused)?;
+    Ok(Aboard::new(plan, members)?.to_string())
 }
 
 /// The text of a well-formed state of an accepted plan.

@@ -3,7 +3,7 @@
 use std::fmt;
 
 use super::print::called;
-use crate::model::calls::{code_of_verdict, Call};
+use crate::model::calls::{verdict_of_code, Call};
 use crate::model::format::Plan;
 use crate::model::verdict::Verdict;
 use crate::tools::archive;
@@ -23,9 +23,7 @@ impl Resolved {
         let mut bytes = plan.bytes();
         let mut verdict = |blocked: &[usize]| {
             let returned = archive::make(&Call::Verdict, &mut bytes, blocked, &mut []);
-            let verdicts = [Verdict::Clear, Verdict::Doomed, Verdict::Open];
-            let mut verdicts = verdicts.into_iter();
-            verdicts.find(|&verdict| code_of_verdict(verdict) == returned)
+            verdict_of_code(returned)
         };
         let whole = verdict(&[]).expect("the verdict on an accepted plan");
         let nodes = 0..plan.nodes.len();

@@ -20,6 +20,8 @@ pub enum Error {
     Line(usize, String),
     /// The plan is refused, and the text does not say so (or says another number); or the state is.
     Refused(u32),
+    /// This child of the root cannot come aboard, by this refusal.
+    Member(usize, u32),
     /// The text says that the plan is refused, and it is not.
     Accepted,
 }
@@ -29,6 +31,10 @@ impl fmt::Display for Error {
         match self {
             Error::Line(number, what) => write!(f, "line {number}: {what}"),
             Error::Refused(number) => write!(f, "REFUSED {number}"),
+            Error::Member(number, 17) => write!(f, "{number} is no node"),
+            Error::Member(number, 31) => write!(f, "{number} is no child of an all-of root"),
+            Error::Member(number, 32) => write!(f, "{number} is aboard already"),
+            Error::Member(number, refusal) => write!(f, "{number}: REFUSED {refusal}"),
             Error::Accepted => write!(f, "said to be refused, but accepted"),
         }
     }
