@@ -58,7 +58,7 @@ fn plans(random: &mut Random) -> Vec<Plan> {
     plans
 }
 
-/// Lists of every length up to N, and some beyond.
+/// Lists of every length up to N, and some beyond, accepted but for that, or of any bytes.
 pub fn lengths(tally: &mut Tally) {
     let mut random = Random::new(225);
     for plan in plans(&mut random) {
@@ -67,8 +67,10 @@ pub fn lengths(tally: &mut Tally) {
         for len in (0..=nodes + 2).chain([2 * nodes, 4_096]) {
             let mut list = passing(&mut random, &plan);
             list.resize(len, random.byte());
-            let number = any_change(&mut random, &plan).node();
-            both(tally, &answers, &plan, &list, number);
+            for list in [list, random.bytes(len)] {
+                let number = any_change(&mut random, &plan).node();
+                both(tally, &answers, &plan, &list, number);
+            }
         }
     }
 }
