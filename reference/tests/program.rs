@@ -81,7 +81,7 @@ fn says_what_to_block() {
 }
 
 #[test]
-fn says_who_is_aboard() {
+fn says_the_answer_for_members() {
     let said = |text: &str| (true, text.as_bytes().to_vec(), String::new());
     let quay = |members: &[&str]| run(&[&["members"], members].concat(), QUAY);
     assert_eq!(quay(&["7"]), said("CLEAR: with these aboard\n7 ELEC\n"));

@@ -29,7 +29,7 @@ fn main() -> ExitCode {
         ["show"] => shown(),
         ["list"] => input().map(|plan| printed(&plan).into_bytes()),
         ["block"] => resolved(),
-        ["members", ref members @ ..] if !members.is_empty() => aboard(members),
+        ["members", ref members @ ..] if !members.is_empty() => with_members(members),
         ["state", plan] => shown_state(plan),
         ["draw", seed] => drawn(seed),
         _ => Err(USAGE.to_string()),
@@ -59,7 +59,7 @@ fn resolved() -> Result<Vec<u8>, String> {
     Ok(text.into_bytes())
 }
 
-fn aboard(words: &[&str]) -> Result<Vec<u8>, String> {
+fn with_members(words: &[&str]) -> Result<Vec<u8>, String> {
     let number = |word: &&str| word.parse().map_err(|_| format!("{word} is no number"));
     let members: Vec<usize> = words.iter().map(number).collect::<Result<_, _>>()?;
     let text = show_members(&input()?, &members).map_err(|e| e.to_string())?;

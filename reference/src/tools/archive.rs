@@ -146,14 +146,9 @@ pub fn make_with(call: &Call, plan: &mut [u8], lent: &mut [u8], lists: [&mut [us
                 c::knowetop_summary(plan, plan_len, blocked, blocked_len, node, lent, lent_len)
             }
             Call::Fresh => c::knowetop_fresh(plan, plan_len, blocked, blocked_len, lent, lent_len),
-            Call::Event(Event::Start(task)) => {
-                c::knowetop_start(plan, plan_len, blocked, blocked_len, lent, lent_len, task)
-            }
-            Call::Event(Event::Finish(task)) => {
-                c::knowetop_finish(plan, plan_len, blocked, blocked_len, lent, lent_len, task)
-            }
-            Call::Event(Event::Skip(group)) => {
-                c::knowetop_skip(plan, plan_len, blocked, blocked_len, lent, lent_len, group)
+            Call::Event(event) => {
+                let (call, node) = (on_state(event), event.node());
+                call(plan, plan_len, blocked, blocked_len, lent, lent_len, node)
             }
             Call::FinishTogether(_) => c::knowetop_finish_together(
                 plan,
@@ -169,12 +164,31 @@ pub fn make_with(call: &Call, plan: &mut [u8], lent: &mut [u8], lists: [&mut [us
                 c::knowetop_status(plan, plan_len, blocked, blocked_len, lent, lent_len)
             }
             Call::Listing => c::knowetop_listing(plan, plan_len, lent, lent_len),
-            Call::Change(Change::Include(node)) => {
-                c::knowetop_include(plan, plan_len, lent, lent_len, node)
-            }
-            Call::Change(Change::Exclude(node)) => {
-                c::knowetop_exclude(plan, plan_len, lent, lent_len, node)
+            Call::Change(change) => {
+                on_members(change)(plan, plan_len, lent, lent_len, change.node())
             }
         }
+    }
+}
+
+/// With a list of blocked nodes, a state and a node.
+type OnState =
+    unsafe extern "C" fn(*const u8, usize, *const usize, usize, *mut u8, usize, usize) -> u32;
+
+fn on_state(event: Event) -> OnState {
+    match event {
+        Event::Start(_) => c::knowetop_start,
+        Event::Finish(_) => c::knowetop_finish,
+        Event::Skip(_) => c::knowetop_skip,
+    }
+}
+
+/// With a list of members and a node.
+type OnMembers = unsafe extern "C" fn(*const u8, usize, *mut u8, usize, usize) -> u32;
+
+fn on_members(change: Change) -> OnMembers {
+    match change {
+        Change::Include(_) => c::knowetop_include,
+        Change::Exclude(_) => c::knowetop_exclude,
     }
 }

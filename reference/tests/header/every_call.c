@@ -274,39 +274,39 @@ static void sequence(const uint8_t *plan, size_t len)
 static void members(const uint8_t *plan, size_t len)
 {
     static const uint8_t nobody[NODES] = {0}, both[NODES] = {0, 1, 1, 0, 0};
-    uint8_t changed[82], aboard[NODES + 3];
-    memset(aboard, 7, sizeof aboard);
-    assert(knowetop_include(plan, 15, aboard, 0, NODES) == 1);
-    assert(knowetop_include(plan, len, aboard, NODES - 1, CAST) == 15);
-    assert(knowetop_exclude(plan, len, aboard, sizeof aboard, CAST) == 16);
-    assert(kept(aboard, sizeof aboard));
-    memset(aboard, 0, NODES);
-    assert(knowetop_include(plan, len, aboard, sizeof aboard, NODES) == 17);
-    assert(knowetop_include(plan, len, aboard, sizeof aboard, MOOR) == 31); /* the root */
-    assert(knowetop_exclude(plan, len, aboard, sizeof aboard, RADI) == 31); /* a child of COMS */
-    assert(knowetop_exclude(plan, len, aboard, sizeof aboard, CAST) == 32); /* nobody is aboard */
-    assert(same(aboard, nobody, NODES));
+    uint8_t changed[82], list[NODES + 3];
+    memset(list, 7, sizeof list);
+    assert(knowetop_include(plan, 15, list, 0, NODES) == 1);
+    assert(knowetop_include(plan, len, list, NODES - 1, CAST) == 15);
+    assert(knowetop_exclude(plan, len, list, sizeof list, CAST) == 16);
+    assert(kept(list, sizeof list));
+    memset(list, 0, NODES);
+    assert(knowetop_include(plan, len, list, sizeof list, NODES) == 17);
+    assert(knowetop_include(plan, len, list, sizeof list, MOOR) == 31); /* the root */
+    assert(knowetop_exclude(plan, len, list, sizeof list, RADI) == 31); /* a child of COMS */
+    assert(knowetop_exclude(plan, len, list, sizeof list, CAST) == 32); /* nobody is aboard */
+    assert(same(list, nobody, NODES));
 
-    assert(knowetop_include(plan, len, aboard, sizeof aboard, CAST) == KNOWETOP_CLEAR);
-    assert(knowetop_include(plan, len, aboard, sizeof aboard, CAST) == 32); /* it is aboard */
-    assert(knowetop_include(plan, len, aboard, sizeof aboard, COMS) == KNOWETOP_CLEAR);
-    assert(same(aboard, both, NODES) && kept(aboard + NODES, sizeof aboard - NODES));
-    aboard[RADI] = 1;
-    assert(knowetop_exclude(plan, len, aboard, sizeof aboard, CAST) == 16);
-    aboard[RADI] = 0;
+    assert(knowetop_include(plan, len, list, sizeof list, CAST) == KNOWETOP_CLEAR);
+    assert(knowetop_include(plan, len, list, sizeof list, CAST) == 32); /* it is aboard */
+    assert(knowetop_include(plan, len, list, sizeof list, COMS) == KNOWETOP_CLEAR);
+    assert(same(list, both, NODES) && kept(list + NODES, sizeof list - NODES));
+    list[RADI] = 1;
+    assert(knowetop_exclude(plan, len, list, sizeof list, CAST) == 16);
+    list[RADI] = 0;
 
     assert(len == sizeof changed);
     memcpy(changed, plan, len);
     changed[4] = 0; /* no order */
-    assert(knowetop_exclude(changed, len - 2, aboard, NODES, CAST) == KNOWETOP_CLEAR);
-    assert(knowetop_include(changed, len - 2, aboard, NODES, CAST) == KNOWETOP_OPEN);
+    assert(knowetop_exclude(changed, len - 2, list, NODES, CAST) == KNOWETOP_CLEAR);
+    assert(knowetop_include(changed, len - 2, list, NODES, CAST) == KNOWETOP_OPEN);
     changed[8] = 1; /* flag 0 set at the start, when CAST needs it clear */
-    assert(knowetop_exclude(changed, len - 2, aboard, NODES, COMS) == KNOWETOP_DOOMED);
-    assert(knowetop_exclude(changed, len - 2, aboard, NODES, CAST) == KNOWETOP_CLEAR);
-    assert(same(aboard, nobody, NODES));
+    assert(knowetop_exclude(changed, len - 2, list, NODES, COMS) == KNOWETOP_DOOMED);
+    assert(knowetop_exclude(changed, len - 2, list, NODES, CAST) == KNOWETOP_CLEAR);
+    assert(same(list, nobody, NODES));
     changed[16 + 4 * NODES + 4 * MOOR + 1] = 2; /* an any-of root */
-    assert(knowetop_exclude(changed, len - 2, aboard, NODES, CAST) == 31);
-    assert(kept(aboard + NODES, sizeof aboard - NODES));
+    assert(knowetop_exclude(changed, len - 2, list, NODES, CAST) == 31);
+    assert(kept(list + NODES, sizeof list - NODES));
 }
 
 int main(int argc, char **argv)

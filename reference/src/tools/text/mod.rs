@@ -1,7 +1,7 @@
 //! A plan, a state of it, what resolves it, and who is aboard, as lines of text;
 //! `samples/README.md` describes them.
 
-mod aboard;
+mod members;
 mod parse;
 mod print;
 mod resolve;
@@ -13,7 +13,7 @@ mod tests;
 use crate::model::format::Plan;
 use crate::model::monitor::State;
 use crate::model::rules::{accept, refusal};
-use aboard::Aboard;
+use members::Members;
 use resolve::Resolved;
 pub use source::{Error, Source};
 use state::Shown;
@@ -51,7 +51,7 @@ pub fn show_resolved(plan: &[u8]) -> Result<String, Error> {
 /// The answer with these children of an accepted plan's root aboard, by the archive's include calls.
 pub fn show_members(plan: &[u8], members: &[usize]) -> Result<String, Error> {
     let plan = accept(plan).map_err(Error::Refused)?;
-    Ok(Aboard::new(plan, members)?.to_string())
+    Ok(Members::new(plan, members)?.to_string())
 }
 
 /// The text of a well-formed state of an accepted plan.

@@ -17,16 +17,16 @@ fn for_each_plan(seed: u64, mut check: impl FnMut(&mut Random, &Plan)) {
 }
 
 /// A list of members, and what the last accepted call on it returned.
-struct Book<'a> {
+struct Crew<'a> {
     plan: &'a Plan,
     list: Vec<u8>,
     last: u32,
 }
 
-impl<'a> Book<'a> {
+impl<'a> Crew<'a> {
     /// Nobody, with the answer that 02 gives them.
-    fn new(plan: &'a Plan) -> Book<'a> {
-        Book {
+    fn new(plan: &'a Plan) -> Crew<'a> {
+        Crew {
             plan,
             list: list_of(plan, &[]),
             last: CLEAR,
@@ -57,18 +57,18 @@ fn whoever_came_first() {
     let mut met = [0; 3];
     for_each_plan(231, |random, plan| {
         let members = some_of(random, &children(plan));
-        let mut straight = Book::new(plan);
+        let mut straight = Crew::new(plan);
         members
             .iter()
             .for_each(|&member| straight.call(Include(member)));
         for _ in 0..3 {
-            let mut book = Book::new(plan);
+            let mut crew = Crew::new(plan);
             for call in changes(random, plan, 2 * plan.nodes.len()) {
-                book.call(call);
+                crew.call(call);
             }
-            book.bring(random, &members);
-            assert_eq!(book.list, straight.list);
-            assert_eq!(book.last, straight.last, "{members:?} of\n{}", shown(plan));
+            crew.bring(random, &members);
+            assert_eq!(crew.list, straight.list);
+            assert_eq!(crew.last, straight.last, "{members:?} of\n{}", shown(plan));
         }
         met[straight.last as usize - 128] += 1;
     });
@@ -83,18 +83,18 @@ fn there_and_back() {
     for_each_plan(232, |random, plan| {
         let all = children(plan);
         let members = some_of(random, &all);
-        let mut book = Book::new(plan);
-        book.bring(random, &members);
-        let (list, last) = (book.list.clone(), book.last);
+        let mut crew = Crew::new(plan);
+        crew.bring(random, &members);
+        let (list, last) = (crew.list.clone(), crew.last);
         for &child in &all {
             let there = usize::from(members.contains(&child));
             for call in [there, 1 - there] {
-                book.call(Change::each(child)[call]);
+                crew.call(Change::each(child)[call]);
             }
-            assert_eq!((&book.list, book.last), (&list, last), "{}", shown(plan));
+            assert_eq!((&crew.list, crew.last), (&list, last), "{}", shown(plan));
         }
-        book.bring(random, &all);
-        assert_eq!(book.last, verdict(&plan.bytes()), "{}", shown(plan));
+        crew.bring(random, &all);
+        assert_eq!(crew.last, verdict(&plan.bytes()), "{}", shown(plan));
     });
 }
 
@@ -104,13 +104,13 @@ fn there_and_back() {
 fn nothing_is_kept() {
     let mut became = [[[0; 3]; 3]; 2];
     for_each_plan(233, |random, plan| {
-        let mut book = Book::new(plan);
+        let mut crew = Crew::new(plan);
         for call in changes(random, plan, 2 * plan.nodes.len()) {
-            let (before, list) = (book.last, book.list.clone());
-            book.call(call);
-            if book.list != list {
+            let (before, list) = (crew.last, crew.list.clone());
+            crew.call(call);
+            if crew.list != list {
                 let of_call = &mut became[usize::from(call.byte())];
-                of_call[before as usize - 128][book.last as usize - 128] += 1;
+                of_call[before as usize - 128][crew.last as usize - 128] += 1;
             }
         }
     });
@@ -130,14 +130,14 @@ fn clear_without_orders() {
         let mut plan = plan.clone();
         plan.orders
             .retain(|order| plan.nodes[usize::from(order.earlier)].parent != 0);
-        let mut book = Book::new(&plan);
-        book.bring(random, &children(&plan));
+        let mut crew = Crew::new(&plan);
+        crew.bring(random, &children(&plan));
         let mut go = children(&plan);
         random.shuffle(&mut go);
         for child in go {
-            let before = book.last;
-            book.call(Exclude(child));
-            assert!(before != CLEAR || book.last == CLEAR, "{}", shown(&plan));
+            let before = crew.last;
+            crew.call(Exclude(child));
+            assert!(before != CLEAR || crew.last == CLEAR, "{}", shown(&plan));
             kept += usize::from(before == CLEAR);
         }
     });

@@ -11,15 +11,15 @@ use crate::model::verdict::Verdict;
 use crate::tools::archive;
 
 /// What the archive answers once the last of these members of an accepted plan has come.
-pub struct Aboard {
+pub struct Members {
     plan: Plan,
     members: Vec<usize>,
     verdict: Verdict,
 }
 
-impl Aboard {
+impl Members {
     /// Includes one after another, which are any numbers, from nobody.
-    pub fn new(plan: Plan, numbers: &[usize]) -> Result<Aboard, Error> {
+    pub fn new(plan: Plan, numbers: &[usize]) -> Result<Members, Error> {
         let (mut bytes, mut list) = (plan.bytes(), vec![0; plan.nodes.len()]);
         let mut verdict = Verdict::Clear;
         for &number in numbers {
@@ -27,7 +27,7 @@ impl Aboard {
             let returned = archive::make(&call, &mut bytes, &[], &mut list);
             verdict = verdict_of_code(returned).ok_or(Error::Member(number, returned))?;
         }
-        Ok(Aboard {
+        Ok(Members {
             plan,
             members: numbers.to_vec(),
             verdict,
@@ -36,7 +36,7 @@ impl Aboard {
 }
 
 /// The verdict, and a line for each member, by number and name.
-impl fmt::Display for Aboard {
+impl fmt::Display for Members {
     fn fmt(&self, f: &mut fmt::Formatter) -> fmt::Result {
         writeln!(f, "{}: with these aboard", self.verdict.word())?;
         let mut members = self.members.iter();
