@@ -1,4 +1,4 @@
--- The first of two refusals. Assumes nothing.
+-- The first of two refusals, and what an answer tells. Assumes nothing.
 use mathlib.Core.Path.{_≡_, refl, ap}
 use mathlib.Core.Logic.{_⊎_, inl, inr, _↔_}
 use mathlib.Core.Bool.{Bool, true, false, cond}
@@ -36,7 +36,7 @@ pub else-some : {A : Type 0} (r : ℕ) (a : ℕ ⊎ A) → (r ≡ 0 → ⊥) →
 else-some zero a n = absurd (n refl)
 else-some (suc r) a n = refl
 
--- the number that an answer tells
+-- the number that an answer tells, 0 if it is no refusal
 abbrev pub number-in : {A : Type 0} → ℕ ⊎ A → ℕ
 number-in (inl n) = n
 number-in (inr x) = 0

@@ -22,7 +22,7 @@ use Rattle.members.proofs.Answers.{number-limit}
 use Rattle.member_list.specs.Members.{memberIn}
 use Rattle.member_list.specs.Model.{badMember, membersRefusal}
 use Rattle.member_calls.specs.Calls.{MemberCalled}
-use Rattle.member_calls.specs.Model.{callRefusal, memberReturn}
+use Rattle.member_calls.specs.Model.{memberCallRefusal, memberReturn}
 use Rattle.capi_numbers.specs.Numbers.{verdictNumber}
 use Rattle.capi.specs.Told.{verdictBy, MemberNumber}
 
@@ -46,8 +46,8 @@ module _ (b ms : List ℕ) (c : MemberCall) where
   abbrev bad : Bool
   bad = anyBelow (nodeCount b) (badMember b ms)
 
-  call-limit : callRefusal b ms c ≤ 32
-  unfolding callRefusal membersRefusal
+  call-limit : memberCallRefusal b ms c ≤ 32
+  unfolding memberCallRefusal membersRefusal
   call-limit = first-limit (membersRefusal b ms) (memberRefusal (planOf b) (memberIn b ms) c)
       (first-limit (refusal b) (cond short 15 (cond bad 16 0)) (omega (arith, refusal-limit b))
       (cond-limit short 15 (cond bad 16 0) (omega arith) (cond-limit bad 16 0 (omega arith) (omega arith))))
@@ -55,7 +55,7 @@ module _ (b ms : List ℕ) (c : MemberCall) where
 
   small : {n : ℕ} → inl n ≡ memberReturn b ms c → n < 128
   unfolding memberReturn
-  small {n} e = told-limit (callRefusal b ms c) n _ call-limit e
+  small {n} e = told-limit (memberCallRefusal b ms c) n _ call-limit e
 
 tells : (a : ℕ ⊎ Verdict) → ((n : ℕ) → inl n ≡ a → n < 128) → a ≡ verdictBy (verdictNumber a)
 tells (inl n) h = let l = h n refl in

@@ -1,5 +1,5 @@
 -- What the C calls return whose answers are told by numbers: an equation for the number, and what it tells in 01's
--- words. Definitions only.
+-- words and 02's. Definitions only.
 use mathlib.Core.Path.{_≡_}
 use mathlib.Core.Logic.{_⊎_, inl, inr, _↔_}
 use mathlib.Core.Bool.{cond}

@@ -18,16 +18,17 @@ use Rattle.plan_check.proofs.Meaning.{means-well-formed}
 use Rattle.plan_check.proofs.Nodes.{node-is}
 use Rattle.plan_blocked.specs.Blocked.{refusalUnder}
 use Rattle.plan_blocked.proofs.Refused.{none-under, list-passes}
-use Rattle.runs.specs.Plan.{Plan, Child}
+use Rattle.runs.specs.Plan.{all-of, Plan, Child}
 use Rattle.runs.specs.WellFormed.{WellFormed}
 use Rattle.runs.specs.Calls.{empty}
-use Rattle.runs.specs.Verdict.{Verdict, Judged}
+use Rattle.runs.specs.Verdict.{Verdict, CLEAR, Judged}
 use Rattle.runs.proofs.Reflect.{clash}
 use Rattle.runs.proofs.Blocked.Branches.{blocks-nothing}
 use Rattle.verdict.specs.declared.Answer.{Answer}
 use Rattle.verdict.specs.Verdict.{said, Assessed}
 use Rattle.members.specs.Members.{MembersJudged, nobody, MemberCall, MemberAnswered, refused-17, refused-31}
 use Rattle.members.specs.Members.{refused-32, changes, MembersWorked, no-calls, next-call, lastVerdict}
+use Rattle.members.proofs.Parts.{members-judged, nobody-clear}
 use Rattle.members.proofs.Answers.{called-child, judged-is, worked-only}
 use Rattle.members.proofs.Lists.{Along, at-first, along-after, last-clear, last-whole}
 use Rattle.member_list.specs.Members.{memberIn, BadMembers, other-byte, stray-one, MembersPass}
@@ -132,6 +133,14 @@ module _ (b : List ℕ) (ok : refusal b ≡ 0) where
       (a ∷ ps, qs, ys, ap (λ (l : List (ℕ ⊎ Verdict)). a ∷ l) e, next-made x l, r)
 
   -- ---- from nobody
+  nobody-is : planOf b .tree .kind 0 ≡ all-of → (u : Verdict)
+      → MembersJudged (planOf b) nobody (startOf b) u ↔ (u ≡ CLEAR)
+  nobody-is kr u =
+      let is = judged-is (planOf b) w (startOf b) nobody kr in
+      let c = nobody-clear (planOf b) w nobody kr (λ i x. x) (startOf b) in
+      let clear = (members-judged (planOf b) w nobody) .1 c in
+      (λ j. sym ((is u) .0 j) ∙ (is CLEAR) .0 clear, λ e. rw e clear)
+
   module _ (ms : List ℕ) (z : NobodyIn b ms) where
     none-in : memberIn b ms ≡ nobody
     unfolding memberIn
@@ -190,6 +199,7 @@ module _ (b : List ℕ) (ok : refusal b ≡ 0) where
 
 pub members-claim : MembersClaim
 members-claim b ms ok z = record {
+  at-first = nobody-is b ok;
   made = all-made b ok ms;
   up-to = begun b ok ms;
   follows = follow b ok ms z;

@@ -13,7 +13,7 @@ use Rattle.base.specs.Count.{num}
 use Rattle.plan_format.specs.Format.{nodeCount}
 use Rattle.plan_rules.specs.Rules.{refusal}
 use Rattle.plan_check.specs.Meaning.{planOf, startOf}
-use Rattle.runs.specs.Plan.{Child}
+use Rattle.runs.specs.Plan.{all-of, Child}
 use Rattle.runs.specs.Verdict.{Verdict, CLEAR}
 use Rattle.verdict.specs.declared.Answer.{Answer}
 use Rattle.verdict.specs.Verdict.{said, Assessed}
@@ -50,7 +50,7 @@ pub record MembersFollow (b ms : List ℕ) (cs : List MemberCall) (rs : List (�
   pub worked : MembersCome b cs rs after
   pub shown : MembersShown b ms after zs
   -- "the answer that the last accepted call returned equals the answer worked out afresh" for these members: that
-  -- verdict and no other; until a call is accepted there are none
+  -- verdict and no other; until a call is accepted nobody is a member
   pub last : (v : Verdict) → lastVerdict none rs ≡ some v
       → (u : Verdict) → MembersJudged (planOf b) after (startOf b) u ↔ (u ≡ v)
   pub none-yet : lastVerdict none rs ≡ none → (i : ℕ) → ¬ T (after i)
@@ -60,9 +60,12 @@ pub record MembersFollow (b ms : List ℕ) (cs : List MemberCall) (rs : List (�
       → ((i : ℕ) → Child (planOf b) 0 i → T (after i)) → (r : Answer) → Assessed b [] r → said r ≡ inr v
 
 pub record MembersClaimOf (b ms : List ℕ) : Type 0 where
+  -- before any call, too, nobody is CLEAR
+  pub at-first : planOf b .tree .kind 0 ≡ all-of
+      → (u : Verdict) → MembersJudged (planOf b) nobody (startOf b) u ↔ (u ≡ CLEAR)
   -- every list of calls can be made
   pub made : (cs : List MemberCall) → (rs : List (ℕ ⊎ Verdict)) × (zs : List ℕ) × MemberCalls b ms cs rs zs
-  -- the calls of a list up to any one of them are a list themselves
+  -- by the form of a list: the calls up to any one of them are a list themselves, so that `follows` holds after each
   pub up-to : (cs ds : List MemberCall) {rs : List (ℕ ⊎ Verdict)} {zs : List ℕ} → MemberCalls b ms (cs ++ ds) rs zs
       → (ps qs : List (ℕ ⊎ Verdict)) × (ys : List ℕ) × (rs ≡ ps ++ qs) × MemberCalls b ms cs ps ys
       × MemberCalls b ys ds qs zs

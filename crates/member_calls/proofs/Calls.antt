@@ -24,7 +24,7 @@ use Rattle.member_list.specs.Members.{memberIn, MembersPass}
 use Rattle.member_list.specs.Model.{membersRefusal}
 use Rattle.member_list.proofs.Bytes.{plan-refused, is-15, is-16, members-pass}
 use Rattle.member_calls.specs.Calls.{MemberCalled}
-use Rattle.member_calls.specs.Model.{callRefusal, memberReturn, membersLeft}
+use Rattle.member_calls.specs.Model.{memberCallRefusal, memberReturn, membersLeft}
 use Rattle.member_calls.proofs.Checks.{list-refused}
 use Rattle.member_calls.proofs.Ends.{byte-is, in-list, shows-changed, as-judged, as-written, as-refused, as-kept}
 
@@ -38,18 +38,18 @@ kept-some (suc r) A B k = refl
 
 module _ (b ms : List ℕ) (c : MemberCall) where
   -- what holds of the list either way holds of what is left
-  in-both : (P : List ℕ → Type 0) → (callRefusal b ms c ≡ 0 → P (set ms (c .node) (num (c .joins)))) → P ms
+  in-both : (P : List ℕ → Type 0) → (memberCallRefusal b ms c ≡ 0 → P (set ms (c .node) (num (c .joins)))) → P ms
       → P (membersLeft b ms c)
-  in-both P f x = by-cases (ℕ-discrete (callRefusal b ms c) 0)
-      (λ (z : callRefusal b ms c ≡ 0). subst P (as-written b ms c z) (f z)) (λ k. subst P (as-kept b ms c k) x)
+  in-both P f x = by-cases (ℕ-discrete (memberCallRefusal b ms c) 0)
+      (λ (z : memberCallRefusal b ms c ≡ 0). subst P (as-written b ms c z) (f z)) (λ k. subst P (as-kept b ms c k) x)
 
-  number : (n : ℕ) → (memberReturn b ms c ≡ inl (suc n)) ↔ (callRefusal b ms c ≡ suc n)
+  number : (n : ℕ) → (memberReturn b ms c ≡ inl (suc n)) ↔ (memberCallRefusal b ms c ≡ suc n)
   unfolding memberReturn
   number n = answer-tells _ n _
 
   -- 15 and 16: no later number is one of them
   early : refusal b ≡ 0 → (n : ℕ) → suc n < 17 → (memberReturn b ms c ≡ inl (suc n)) ↔ (membersRefusal b ms ≡ suc n)
-  unfolding callRefusal
+  unfolding memberCallRefusal
   early ok n l = Iff·trans (number n) (first-below _ _ 17 (suc n)
       (number-least (planOf b) (memberIn b ms) c) (omega arith) l)
 
@@ -58,8 +58,8 @@ module _ (b ms : List ℕ) (c : MemberCall) where
       sym (ap inl q ∙ as-refused b ms c (λ z. k (q ∙ z)))
 
   module _ (h : MembersPass b ms) where
-    after-16 : callRefusal b ms c ≡ memberRefusal (planOf b) (memberIn b ms) c
-    unfolding callRefusal
+    after-16 : memberCallRefusal b ms c ≡ memberRefusal (planOf b) (memberIn b ms) c
+    unfolding memberCallRefusal
     after-16 = sym (first-none _ _ (members-pass b ms .1 h))
 
     same-answer : memberAnswer (planOf b) (startOf b) (memberIn b ms) c ≡ memberReturn b ms c
@@ -68,8 +68,8 @@ module _ (b ms : List ℕ) (c : MemberCall) where
 
     same-members : membersAfter (planOf b) (memberIn b ms) c ≡ memberIn b (membersLeft b ms c)
     unfolding membersAfter
-    same-members = by-cases (ℕ-discrete (callRefusal b ms c) 0)
-        (λ (z : callRefusal b ms c ≡ 0). kept-none _ _ _ (sym after-16 ∙ z)
+    same-members = by-cases (ℕ-discrete (memberCallRefusal b ms c) 0)
+        (λ (z : memberCallRefusal b ms c ≡ 0). kept-none _ _ _ (sym after-16 ∙ z)
         ∙ sym (shows-changed b ms c z) ∙ ap (memberIn b) (as-written b ms c z))
         (λ k. kept-some _ _ _ (λ z. k (after-16 ∙ z)) ∙ ap (memberIn b) (as-kept b ms c k))
 
@@ -79,8 +79,8 @@ module _ (b ms : List ℕ) (c : MemberCall) where
         (member-answered (planOf b) (means-well-formed b (h .accepted)) (startOf b) (memberIn b ms) c)
 
   kept : (n : ℕ) → memberReturn b ms c ≡ inl n → membersLeft b ms c ≡ ms
-  kept n e = by-cases (ℕ-discrete (callRefusal b ms c) 0)
-      (λ (z : callRefusal b ms c ≡ 0). let q = as-judged b ms c z ∙ e in clash cc) (λ k. sym (as-kept b ms c k))
+  kept n e = by-cases (ℕ-discrete (memberCallRefusal b ms c) 0)
+      (λ (z : memberCallRefusal b ms c ≡ 0). let q = as-judged b ms c z ∙ e in clash cc) (λ k. sym (as-kept b ms c k))
 
   byte : (v : Verdict) → memberReturn b ms c ≡ inr v → getD (membersLeft b ms c) (c .node) 0 ≡ num (c .joins)
   unfolding memberReturn
@@ -107,10 +107,10 @@ module _ (b ms : List ℕ) (c : MemberCall) where
   member-called e f = rw (e, f) called
 
   -- the two ways in which a call ends
-  pub refused-call : {r : ℕ} → r ≡ callRefusal b ms c → (r ≡ 0 → ⊥) → MemberCalled b ms c (inl r) ms
+  pub refused-call : {r : ℕ} → r ≡ memberCallRefusal b ms c → (r ≡ 0 → ⊥) → MemberCalled b ms c (inl r) ms
   refused-call e k = member-called (ap inl e ∙ as-refused b ms c (λ z. k (e ∙ z))) (as-kept b ms c (λ z. k (e ∙ z)))
 
-  pub accepted-call : {v : Verdict} {ms′ : List ℕ} → callRefusal b ms c ≡ 0
+  pub accepted-call : {v : Verdict} {ms′ : List ℕ} → memberCallRefusal b ms c ≡ 0
       → ms′ ≡ set ms (c .node) (boolByte (c .joins)) → v ≡ verdict (membersOf (planOf b) (memberIn b ms′)) (startOf b)
       → MemberCalled b ms c (inr v) ms′
   accepted-call {v} {ms′} z f e = member-called (ap inr judged ∙ as-judged b ms c z) (written ∙ as-written b ms c z)

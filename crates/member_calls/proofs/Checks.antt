@@ -20,7 +20,7 @@ use Rattle.members.specs.Members.{MemberCall}
 use Rattle.members.specs.Model.{refused31B, memberRefusal}
 use Rattle.member_list.specs.Members.{memberIn}
 use Rattle.member_list.specs.Model.{membersRefusal}
-use Rattle.member_calls.specs.Model.{callRefusal}
+use Rattle.member_calls.specs.Model.{memberCallRefusal}
 
 -- 31, by the tests of the bytes
 root-kind : (b : List ℕ) → 0 < nodeCount b → isKind b 0 1 ≡ kindB (planOf b .tree .kind 0) all-of
@@ -34,10 +34,10 @@ root-kind b l = rw (lt-ltb 0 (nodeCount b) l) (by-cases (ℕ-discrete (kindOf b 
     other false true = refl
     other false false = refl
 
-refused-31 : (a t : Bool) → not (a && t) ≡ either (negate a) (λ u. negate t)
+not-both : (a t : Bool) → not (a && t) ≡ either (negate a) (λ u. negate t)
 unfolding either negate
-refused-31 true t = refl
-refused-31 false t = refl
+not-both true t = refl
+not-both false t = refl
 
 -- two tests are the same
 same-tests : (u v : Bool) → sameB u v ≡ Bool·beq u v
@@ -48,13 +48,13 @@ same-tests false true = refl
 same-tests false false = refl
 
 module _ (b ms : List ℕ) (c : MemberCall) where
-  pub list-refused : {r : ℕ} → r ≡ membersRefusal b ms → (r ≡ 0 → ⊥) → r ≡ callRefusal b ms c
-  unfolding callRefusal
+  pub list-refused : {r : ℕ} → r ≡ membersRefusal b ms → (r ≡ 0 → ⊥) → r ≡ memberCallRefusal b ms c
+  unfolding memberCallRefusal
   list-refused e k = e ∙ first-some _ _ (λ z. k (e ∙ z))
 
   module _ (h : membersRefusal b ms ≡ 0) where
-    pub no-node : nodeCount b ≤ c .node → 17 ≡ callRefusal b ms c
-    unfolding callRefusal memberRefusal negate planOf
+    pub no-node : nodeCount b ≤ c .node → 17 ≡ memberCallRefusal b ms c
+    unfolding memberCallRefusal memberRefusal negate planOf
     no-node l = rw (h, le-ltb (c .node) (nodeCount b) l) refl
 
     module _ (l : c .node < nodeCount b) where
@@ -62,8 +62,8 @@ module _ (b ms : List ℕ) (c : MemberCall) where
       after-17 a d = cond a 31 (cond d 32 0)
 
       after : {a d : Bool} → refused31B (planOf b) (c .node) ≡ a → sameB (memberIn b ms (c .node)) (c .joins) ≡ d
-          → after-17 a d ≡ callRefusal b ms c
-      unfolding callRefusal memberRefusal negate planOf
+          → after-17 a d ≡ memberCallRefusal b ms c
+      unfolding memberCallRefusal memberRefusal negate planOf
       after p q = rw (h, lt-ltb (c .node) (nodeCount b) l, p, q) refl
 
       abbrev its-child : Bool
@@ -72,9 +72,9 @@ module _ (b ms : List ℕ) (c : MemberCall) where
       by-31 : {a : Bool} → not its-child ≡ a → refused31B (planOf b) (c .node) ≡ a
       unfolding refused31B
       by-31 e = rw (← root-kind b (omega (arith, l)))
-          (sym (refused-31 (isKind b 0 1) (childB (planOf b) 0 (c .node))) ∙ e)
+          (sym (not-both (isKind b 0 1) (childB (planOf b) 0 (c .node))) ∙ e)
 
-      pub no-child : not its-child ≡ true → 31 ≡ callRefusal b ms c
+      pub no-child : not its-child ≡ true → 31 ≡ memberCallRefusal b ms c
       no-child e = after (by-31 e) refl
 
       -- 32, by the byte
@@ -86,8 +86,8 @@ module _ (b ms : List ℕ) (c : MemberCall) where
       by-32 e = rw (lt-ltb (c .node) (nodeCount b) l) (same-tests (eqb (getD ms (c .node) 0) 1) (c .joins) ∙ e)
 
       module _ (k : not its-child ≡ false) where
-        pub already : as-before ≡ true → 32 ≡ callRefusal b ms c
+        pub already : as-before ≡ true → 32 ≡ memberCallRefusal b ms c
         already e = after (by-31 k) (by-32 e)
 
-        pub passed : as-before ≡ false → 0 ≡ callRefusal b ms c
+        pub passed : as-before ≡ false → 0 ≡ memberCallRefusal b ms c
         passed e = after (by-31 k) (by-32 e)

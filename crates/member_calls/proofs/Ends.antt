@@ -1,7 +1,7 @@
 -- The two ways in which a call ends, accepted and refused: what is then known, answered and written. Assumes nothing.
 use mathlib.Core.Path.{_≡_, refl, fun-ext}
 use mathlib.Core.Logic.{inl, inr, by-cases}
-use mathlib.Core.Bool.{Bool, true, false}
+use mathlib.Core.Bool.{Bool, true, false, cond}
 use mathlib.Core.List.{List}
 use Prim.Native.Nat.{ℕ, _<_}
 use native.Mathlib.Decide.{ℕ-discrete}
@@ -26,7 +26,7 @@ use Rattle.members.proofs.Answers.{of-a-child, all-of-root, called-child}
 use Rattle.member_list.specs.Members.{memberIn, MembersPass}
 use Rattle.member_list.specs.Model.{membersRefusal}
 use Rattle.member_list.proofs.Bytes.{members-pass}
-use Rattle.member_calls.specs.Model.{callRefusal, memberReturn, membersLeft}
+use Rattle.member_calls.specs.Model.{memberCallRefusal, memberReturn, membersLeft}
 
 -- the byte that a call writes
 pub byte-is : (j : Bool) → boolByte j ≡ num j
@@ -37,18 +37,32 @@ byte-shows : (j : Bool) → eqb (num j) 1 ≡ j
 byte-shows true = refl
 byte-shows false = refl
 
+-- the list stays where something is refused
+kept-list : (r : ℕ) (xs ys : List ℕ) → (r ≡ 0 → ⊥) → ys ≡ cond (eqb r 0) xs ys
+kept-list r xs ys k = rw (ne-eqb r 0 k) refl
+
 module _ (b ms : List ℕ) (c : MemberCall) where
+  -- ---- a refused call
+  module _ (k : memberCallRefusal b ms c ≡ 0 → ⊥) where
+    pub as-refused : inl (memberCallRefusal b ms c) ≡ memberReturn b ms c
+    unfolding memberReturn
+    as-refused = answer-some _ _ k
+
+    pub as-kept : ms ≡ membersLeft b ms c
+    unfolding membersLeft
+    as-kept = kept-list (memberCallRefusal b ms c) (set ms (c .node) (num (c .joins))) ms k
+
   -- ---- a call to which no refusal applies
-  module _ (z : callRefusal b ms c ≡ 0) where
+  module _ (z : memberCallRefusal b ms c ≡ 0) where
     none-applies : (membersRefusal b ms ≡ 0) × (memberRefusal (planOf b) (memberIn b ms) c ≡ 0)
-    unfolding callRefusal
+    unfolding memberCallRefusal
     none-applies = both-none _ _ z
 
-    pub list-passes : MembersPass b ms
-    list-passes = members-pass b ms .0 (none-applies .0)
+    pub none-to-16 : MembersPass b ms
+    none-to-16 = members-pass b ms .0 (none-applies .0)
 
     w : WellFormed (planOf b)
-    w = means-well-formed b (list-passes .accepted)
+    w = means-well-formed b (none-to-16 .accepted)
 
     of-child : ¬ Refused31 (planOf b) (c .node)
     of-child = of-a-child (planOf b) w (startOf b) (memberIn b ms) c (none-applies .1)
@@ -60,7 +74,7 @@ module _ (b ms : List ℕ) (c : MemberCall) where
     node = node-is b (c .node) (called-child (planOf b) w (startOf b) of-child .node)
 
     pub in-list : c .node < length ms
-    in-list = omega (arith, node, list-passes .room)
+    in-list = omega (arith, node, none-to-16 .room)
 
     -- the bytes then show the members after it
     pub shows-changed : memberIn b (set ms (c .node) (num (c .joins))) ≡ changed (memberIn b ms) c
@@ -81,13 +95,3 @@ module _ (b ms : List ℕ) (c : MemberCall) where
     pub as-written : set ms (c .node) (num (c .joins)) ≡ membersLeft b ms c
     unfolding membersLeft
     as-written = rw z refl
-
-  -- ---- a refused call
-  module _ (k : callRefusal b ms c ≡ 0 → ⊥) where
-    pub as-refused : inl (callRefusal b ms c) ≡ memberReturn b ms c
-    unfolding memberReturn
-    as-refused = answer-some _ _ k
-
-    pub as-kept : ms ≡ membersLeft b ms c
-    unfolding membersLeft
-    as-kept = rw (ne-eqb (callRefusal b ms c) 0 k) refl

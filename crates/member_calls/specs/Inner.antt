@@ -11,8 +11,8 @@ use Rattle.member_list.specs.Members.{memberIn}
 use Rattle.verdict.specs.declared.Verdict.{Verdict}
 use Rattle.verdict.specs.Verdict.{wordOf}
 
-abbrev pub call : ℕ → Bool → MemberCall
-call n j = record { node = n; joins = j }
+abbrev pub memberCall : ℕ → Bool → MemberCall
+memberCall n j = record { node = n; joins = j }
 
 abbrev pub OfList : List ℕ → List ℕ → Verdict → Type 0
 OfList b ms v = wordOf v ≡ verdict (membersOf (planOf b) (memberIn b ms)) (startOf b)

@@ -16,12 +16,12 @@ use Rattle.member_list.specs.Members.{memberIn}
 use Rattle.member_list.specs.Model.{membersRefusal}
 
 -- 1 to 16, then 17, 31 and 32, or 0
-unfoldable pub callRefusal : List ℕ → List ℕ → MemberCall → ℕ
-callRefusal b ms c = first (membersRefusal b ms) (memberRefusal (planOf b) (memberIn b ms) c)
+unfoldable pub memberCallRefusal : List ℕ → List ℕ → MemberCall → ℕ
+memberCallRefusal b ms c = first (membersRefusal b ms) (memberRefusal (planOf b) (memberIn b ms) c)
 
 unfoldable pub memberReturn : List ℕ → List ℕ → MemberCall → ℕ ⊎ Verdict
 memberReturn b ms c =
-    refusedOr (callRefusal b ms c) (verdict (membersOf (planOf b) (changed (memberIn b ms) c)) (startOf b))
+    refusedOr (memberCallRefusal b ms c) (verdict (membersOf (planOf b) (changed (memberIn b ms) c)) (startOf b))
 
 unfoldable pub membersLeft : List ℕ → List ℕ → MemberCall → List ℕ
-membersLeft b ms c = cond (eqb (callRefusal b ms c) 0) (set ms (c .node) (num (c .joins))) ms
+membersLeft b ms c = cond (eqb (memberCallRefusal b ms c) 0) (set ms (c .node) (num (c .joins))) ms

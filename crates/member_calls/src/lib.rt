@@ -10,8 +10,8 @@ ghost use Rattle.runs.specs.Plan.{all-of};
 ghost use Rattle.verdict.specs.Verdict.{said};
 ghost use Rattle.members.specs.Members.{include, exclude};
 ghost use Rattle.member_calls.specs.Calls.{MemberCalled};
-ghost use Rattle.member_calls.specs.Model.{callRefusal};
-ghost use Rattle.member_calls.specs.Inner.{call, OfList};
+ghost use Rattle.member_calls.specs.Model.{memberCallRefusal};
+ghost use Rattle.member_calls.specs.Inner.{memberCall, OfList};
 use base::kinds::ALL_OF;
 use member_list::check_members;
 use member_list::mark_members;
@@ -26,7 +26,7 @@ use verdict::start_word;
 
 // Refusals 1 to 16, 17, 31 and 32 of a call after which the node is to be a member or not, or 0.
 fn refused(plan: &[u8], members: &[u8], node: usize, joins: bool) -> u32
-    ensures { λ r. ⌜ r ≡ callRefusal (now (plan .entry)) (now (members .entry)) (call node joins) ⌝ }
+    ensures { λ r. ⌜ r ≡ memberCallRefusal (now (plan .entry)) (now (members .entry)) (memberCall node joins) ⌝ }
 {
     let r = check_members(plan, members);
     if r != 0 {
@@ -58,7 +58,7 @@ fn judge(plan: &[u8], members: &[u8]) -> Verdict
 
 // Writes the byte of the node if nothing is refused, and answers for the members after it.
 fn change(plan: &[u8], members: &mut [u8], node: usize, joins: bool) -> Answer
-    ensures { λ r. ⌜ MemberCalled (now (plan .entry)) (now (members .entry)) (call node joins) (said r)
+    ensures { λ r. ⌜ MemberCalled (now (plan .entry)) (now (members .entry)) (memberCall node joins) (said r)
         (now (members .exit)) ⌝ }
 {
     let r = refused(plan, members, node, joins);
@@ -69,7 +69,8 @@ fn change(plan: &[u8], members: &mut [u8], node: usize, joins: bool) -> Answer
     Answer::Judged(judge(plan, members))
 }
 
-// A refusal, up to 16, 17, 31 or 32, or the verdict with the child a member.
+// Makes the child a member and writes 1 at its byte: the verdict for the members after it, or a refusal, 1 to 17, 31 or
+// 32.
 pub fn include(plan: &[u8], members: &mut [u8], node: usize) -> Answer
     ensures { λ r. ⌜ MemberCalled (now (plan .entry)) (now (members .entry)) (include node) (said r)
         (now (members .exit)) ⌝ }
@@ -77,7 +78,7 @@ pub fn include(plan: &[u8], members: &mut [u8], node: usize) -> Answer
     change(plan, members, node, true)
 }
 
-// The same with the child no member.
+// The same with the child no member, and 0.
 pub fn exclude(plan: &[u8], members: &mut [u8], node: usize) -> Answer
     ensures { λ r. ⌜ MemberCalled (now (plan .entry)) (now (members .entry)) (exclude node) (said r)
         (now (members .exit)) ⌝ }

@@ -120,8 +120,8 @@ module _ (b ms : List ℕ) where
       pub list-bad : anyBelow (nodeCount b) (badMember b ms) ≡ true → 16 ≡ membersRefusal b ms
       list-bad e = after-15 e
 
-      pub list-passes : anyBelow (nodeCount b) (badMember b ms) ≡ false → 0 ≡ membersRefusal b ms
-      list-passes e = after-15 e
+      pub list-right : anyBelow (nodeCount b) (badMember b ms) ≡ false → 0 ≡ membersRefusal b ms
+      list-right e = after-15 e
 
     -- and what each tells
     abbrev short : Bool

@@ -36,7 +36,7 @@ fn byte_bad(plan: &[u8], members: &[u8], i: usize) -> bool
     (byte > 1) | ((byte == 1) & !root_child(plan, i))
 }
 
-// 16.
+// 16: some byte of the first N is wrong.
 fn list_bad(plan: &[u8], members: &[u8]) -> bool
     requires { ⌜ (refusal (now plan) ≡ 0) × (nodeCount (now plan) ≤ length (now members)) ⌝ }
     ensures { λ r. ⌜ r ≡ anyBelow (nodeCount (now (plan .entry)))
@@ -70,7 +70,7 @@ pub fn check_members(plan: &[u8], members: &[u8]) -> u32
     0
 }
 
-// Marks the nodes that stand: the root, its members, and each node whose parent stands below these.
+// Marks the nodes that stand: the root, its members, and below these each node whose parent stands.
 pub fn mark_members(plan: &[u8], members: &[u8]) -> Nodes
     requires { ⌜ (refusal (now plan) ≡ 0) × (nodeCount (now plan) ≤ length (now members)) ⌝ }
     ensures { λ r. ⌜ Standing (now (plan .entry))

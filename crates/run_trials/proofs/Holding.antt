@@ -30,7 +30,7 @@ use Rattle.run_trials.specs.Starred.{starred}
 use Rattle.run_trials.specs.Requested.{of-starts, of-places, of-skips, of-groups, of-words, of-finishes}
 use Rattle.run_trials.specs.Blocked.{of-branches, of-lists, of-absent, of-roots}
 use Rattle.run_trials.specs.Sequences.{of-sequences, AllSequenced}
-use Rattle.run_trials.specs.Members.{of-members, AllCalled}
+use Rattle.run_trials.specs.Members.{of-member-calls, AllCalled}
 use Rattle.run_trials.specs.Checked.{AllChecked, AllWorded, AllRefused}
 use Rattle.run_trials.proofs.Tests.{showsB, leftB, holdsB, allHoldB, all-hold}
 use Rattle.run_trials.proofs.Checks.{allCheckedB, all-checked, completeIs, allWordedB, all-worded}
@@ -40,7 +40,7 @@ use Rattle.run_trials.proofs.Sequences.{sameAnswer, sequenceB, allSeque
 use Rattle.members.proofs.Tried.{coming}
 use Rattle.member_list.specs.Members.{memberIn}
 use Rattle.member_list.specs.Model.{badMember, membersRefusal}
-use Rattle.member_calls.specs.Model.{callRefusal, memberReturn, membersLeft}
+use Rattle.member_calls.specs.Model.{memberCallRefusal, memberReturn, membersLeft}
 use Rattle.run_trials.proofs.Members.{answersOf, listAfter, sameVerdict, sameAnswers, memberB, allCalledB}
 use Rattle.run_trials.proofs.Members.{all-called}
 
@@ -122,7 +122,7 @@ unfolding bytes startOf seeking sequenceAnswer sameAnswer sequenceB allSequenced
 sequences-told = all-sequenced of-sequences tt
 
 -- every row for 02's members
-pub members-called : AllCalled of-members
-unfolding bytes startOf coming memberIn badMember membersRefusal callRefusal memberReturn membersLeft answersOf
+pub members-called : AllCalled of-member-calls
+unfolding bytes startOf coming memberIn badMember membersRefusal memberCallRefusal memberReturn membersLeft answersOf
     listAfter sameVerdict sameAnswer sameAnswers memberB allCalledB
-members-called = all-called of-members tt
+members-called = all-called of-member-calls tt

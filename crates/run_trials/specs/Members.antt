@@ -9,9 +9,9 @@ use Rattle.runs.specs.Verdict.{Verdict, CLEAR, DOOMED, OPEN}
 use Rattle.members.specs.Members.{MemberCall, include, exclude}
 use Rattle.claims.specs.Members.{MemberCalls}
 use Rattle.run_trials.specs.Written.{then, PlanPieces, bytesOf}
-use Rattle.run_trials.specs.Terms.{short, off, on, needs, leaves, group, work, none-set, under-root, a-task}
-use Rattle.run_trials.specs.Terms.{z-task, A, C, G, Z}
-use Rattle.run_trials.specs.Starred.{three, twins}
+use Rattle.run_trials.specs.Terms.{short, off, on, needs, leaves, group, work, none-set, one-set, under-root}
+use Rattle.run_trials.specs.Terms.{a-task, z-task, A, C, G, Z}
+use Rattle.run_trials.specs.Starred.{B, in-order, cast, coms, three, twins}
 use Rattle.run_trials.specs.Sequences.{rooted, bare}
 
 -- a plan, the bytes of the list, calls one after another, what they answer, and the bytes after them
@@ -48,8 +48,8 @@ inner = under-root (group all-of 0 (short G) ∷ work 1 (short A) 2 (leaves 0 on
     (leaves 0 off ∷ []) ∷ work 1 (short Z) 5 (needs 0 off ∷ []) ∷ a-task (leaves 0 on ∷ []) ∷ [])
     (then 2 3 ∷ then 3 4 ∷ [])
 
-abbrev pub of-members : List MemberRow
-of-members =
+abbrev pub of-member-calls : List MemberRow
+of-member-calls =
     -- without C, A and Z are unordered: OPEN, not DOOMED; all: CLEAR, the plan's own; refused calls among them change
     -- nothing; nobody: CLEAR. Bytes after N are not looked at, and stay
     row chain (0 ∷ 0 ∷ 0 ∷ 0 ∷ 7 ∷ 1 ∷ [])
@@ -67,6 +67,10 @@ of-members =
     -- opposite leavings (104) come and go with the second
     ∷ row (under-root (a-task (leaves 0 on ∷ []) ∷ z-task (leaves 0 off ∷ []) ∷ []) []) (0 ∷ 0 ∷ 0 ∷ [])
     (include 2 ∷ include 1 ∷ exclude 2 ∷ []) (inr CLEAR ∷ inr OPEN ∷ inr CLEAR ∷ []) (0 ∷ 1 ∷ 0 ∷ [])
+    -- flag 0 is set at the start: RADI, of COMS, may need it clear, CAST must; nobody: CLEAR
+    ∷ row (B (one-set 0) in-order) (0 ∷ 0 ∷ 0 ∷ 0 ∷ 0 ∷ [])
+    (include coms ∷ include cast ∷ exclude coms ∷ exclude cast ∷ [])
+    (inr OPEN ∷ inr DOOMED ∷ inr DOOMED ∷ inr CLEAR ∷ []) (0 ∷ 0 ∷ 0 ∷ 0 ∷ 0 ∷ [])
     -- 31: the root; a node deeper down, before 32; other roots, where a 1 at a child passes 16
     ∷ refuses chain (0 ∷ 0 ∷ 0 ∷ 0 ∷ []) (include 0) 31
     ∷ refuses inner (0 ∷ 1 ∷ 0 ∷ 0 ∷ 0 ∷ 0 ∷ []) (exclude 2) 31

@@ -14,9 +14,9 @@ use Rattle.table_all.specs.Filled.{TablesOf, AmongOf}
 
 pub record FilledBy (b standing : List ℕ) (among : Bool) (kind from kids order conds : List ℕ) : Type 0 where
   pub children : TreeIn (planWith b standing) (nodeCount b) from kids
-  pub left : among ≡ false → (S : ℕ → Bool) → Blocks (planOf b) S → Standing b S standing
+  pub all-orders : among ≡ false → (S : ℕ → Bool) → Blocks (planOf b) S → Standing b S standing
       → Represents kind from kids order conds (nodeCount b) (without (planOf b) S)
-  pub any : among ≡ true → (S : ℕ → Bool) → Standing b S standing
+  pub among-orders : among ≡ true → (S : ℕ → Bool) → Standing b S standing
       → Represents kind from kids order conds (nodeCount b) (without (planOf b) S)
 
 -- the tables are those that one of the two left
@@ -25,13 +25,13 @@ module _ {b standing : List ℕ} {among : Bool} {k f d o q kind from kids order 
   pub by-tables : among ≡ false → TablesOf b standing k f d o q → FilledBy b standing among kind from kids order conds
   by-tables e t = rw (e, ek, ef, ed, eo, eq) (record {
     children = t .children;
-    left = λ z. t .represents;
-    any = λ z. absurd (false≢true z);
+    all-orders = λ z. t .represents;
+    among-orders = λ z. absurd (false≢true z);
   })
 
   pub by-among : among ≡ true → AmongOf b standing k f d o q → FilledBy b standing among kind from kids order conds
   by-among e t = rw (e, ek, ef, ed, eo, eq) (record {
     children = t .children;
-    left = λ z. absurd (true≢false z);
-    any = λ z. t .represents;
+    all-orders = λ z. absurd (true≢false z);
+    among-orders = λ z. t .represents;
   })

@@ -27,6 +27,6 @@ AmongWords b standing n words = (S : ℕ → Bool) → WellFormed (without (plan
 -- by the orders that are put in, with the table of the children that stand
 pub record WordsAndTree (b standing : List ℕ) (among : Bool) (from kids : List ℕ) (n : ℕ) (words : List ℕ) : Type 0
   where
-    pub left : among ≡ false → LeftWords b standing n words
-    pub any : among ≡ true → AmongWords b standing n words
+    pub all-orders : among ≡ false → LeftWords b standing n words
+    pub among-orders : among ≡ true → AmongWords b standing n words
     pub children : TreeIn (planWith b standing) (nodeCount b) from kids

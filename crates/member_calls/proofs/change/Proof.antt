@@ -3,9 +3,9 @@ use mathlib.Core.Path.{_≡_, refl, sym, _∙_}
 use borrow.Author.Needs.{needs}
 use lib.ListN.{length-set}
 use denote.Ref.{now}
-use Rattle.member_calls.specs.Model.{callRefusal}
-use Rattle.member_calls.specs.Inner.{call}
-use Rattle.member_calls.proofs.Ends.{in-list, list-passes, root-all-of}
+use Rattle.member_calls.specs.Model.{memberCallRefusal}
+use Rattle.member_calls.specs.Inner.{memberCall}
+use Rattle.member_calls.proofs.Ends.{in-list, none-to-16, root-all-of}
 use Rattle.member_calls.proofs.Calls.{refused-call, accepted-call}
 use Rattle.member_calls.proofs.change.Statement.{statement}
 use Rattle.member_calls.proofs.change.Tie as tie
@@ -15,13 +15,13 @@ abbrev entry : tie.Else1 → tie.Start
 entry c = c .before .before .before .before .before
 
 passed : (c : tie.Else1) → let a = entry c .args in
-    callRefusal (now (a .plan)) (now (a .members)) (call (a .node) (a .joins)) ≡ 0
+    memberCallRefusal (now (a .plan)) (now (a .members)) (memberCall (a .node) (a .joins)) ≡ 0
 passed c = sym (c .before .refused .ensures) ∙ c .if1 .left
 
 judge-requires : tie.Need-judge-requires
 judge-requires c κs =
     let e = c .before in
-    let p = list-passes _ _ _ (passed e) in
+    let p = none-to-16 _ _ _ (passed e) in
     (p .accepted, rw (length-set _ _ _) (p .room), root-all-of _ _ _ (passed e))
 
 returns-2 : tie.Need-returns-2

@@ -4,7 +4,7 @@ use native.Mathlib.Omega.{arith}
 use denote.Ref.{now}
 use Rattle.plan_rules.specs.Rules.{refusal}
 use Rattle.plan_check.proofs.Accepted.{clean}
-use Rattle.member_list.proofs.Bytes.{plan-refused, list-short, list-bad, list-passes}
+use Rattle.member_list.proofs.Bytes.{plan-refused, list-short, list-bad, list-right}
 use Rattle.member_list.proofs.check_members.Statement.{statement}
 use Rattle.member_list.proofs.check_members.Tie as tie
 
@@ -30,7 +30,7 @@ returns-3 c =
 returns-4 : tie.Need-returns-4
 returns-4 c =
     let e = c .before .before in
-    list-passes _ _ (passed (e .before .before)) (omega (arith, e .before .nodes .ensures))
+    list-right _ _ (passed (e .before .before)) (omega (arith, e .before .nodes .ensures))
     (sym (c .before .list-bad .ensures) ∙ c .if3 .left)
 
 pub check-members-spec : {M : Type 1} → statement M

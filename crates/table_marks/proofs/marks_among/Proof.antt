@@ -9,4 +9,4 @@ marks-among-spec = tie.close (tie.spec
     (λ c κs. tt)
     (λ c κs. tt)
     (λ c κs. search needs)
-    (λ c. c .marks-and-children .ensures .any refl))
+    (λ c. c .marks-and-children .ensures .among-orders refl))

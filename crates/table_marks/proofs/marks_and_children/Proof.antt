@@ -45,9 +45,9 @@ returns c =
     let ok = entry j .pre .0 in
     let n = counted .nodes .ensures in
     record {
-      left = λ e S k h l. c .node-words .ensures _ (blocked-well-formed _ (means-well-formed _ ok) S k)
-          (rw n (filled j .left e S k h)) l;
-      any = λ e S w h l. c .node-words .ensures _ w (rw n (filled j .any e S h)) l;
+      all-orders = λ e S k h l. c .node-words .ensures _ (blocked-well-formed _ (means-well-formed _ ok) S k)
+          (rw n (filled j .all-orders e S k h)) l;
+      among-orders = λ e S w h l. c .node-words .ensures _ w (rw n (filled j .among-orders e S h)) l;
       children = filled j .children;
     }
 

@@ -9,4 +9,4 @@ node-marks-spec = tie.close (tie.spec
     (λ c κs. tt)
     (λ c κs. tt)
     (λ c κs. search needs)
-    (λ c. c .marks-and-children .ensures .left refl))
+    (λ c. c .marks-and-children .ensures .all-orders refl))

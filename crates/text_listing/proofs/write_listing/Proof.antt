@@ -25,7 +25,7 @@ write-text-requires c κs =
     let f = filled .marks-and-children .ensures in (
       p .0,
       whole-verdict _ (p .0) _ all (judged .of-words .result)
-          (of-marks (judged .of-words .result) (p .0) (f .left refl) (started .start-word .ensures)
+          (of-marks (judged .of-words .result) (p .0) (f .all-orders refl) (started .start-word .ensures)
           (judged .of-words .ensures)),
       p .1,
       whole-tree _ _ (p .0) all (f .children),
