@@ -73,16 +73,19 @@ uint32_t knowetop_listing(const uint8_t *plan, size_t plan_len, uint8_t *out, si
    is written. It takes no list of blocked nodes. */
 uint64_t knowetop_sequence(const uint8_t *plan, size_t plan_len);
 
-/* Who is a member: which children of an all-of root are aboard. The list, members, is N bytes, N the plan's number of
-   nodes: 1 for a child of the root that is aboard, 0 for all else, so that N zeros are nobody. Later bytes are neither
-   looked at nor changed. Include brings a child of the root aboard, exclude takes one off. The child's byte is written
-   and nothing else, and returned is the answer for those aboard after the call: KNOWETOP_CLEAR, KNOWETOP_DOOMED or
-   KNOWETOP_OPEN, as if the other children of the root, all that is under them and every order that names one of them
-   were absent from the plan. An order through an absent child does not tie its neighbours. With nobody aboard the
-   answer is CLEAR, with everybody that of knowetop_verdict with nothing blocked; no answer is sure to stay when one
-   comes or goes. Or a refusal, in this order: 1 to 14, 15 (members_len under N), 16 (a byte over 1, or a 1 at a node
-   that is no child of the root), 17 (no such node), 31 (the root is not an all-of group, or the node is not its child)
-   or 32 (include: the child is aboard already; exclude: it is not aboard). They take no list of blocked nodes. */
+/* Who is a member: which children of an all-of root are aboard. The list, members, is N bytes,
+   N the plan's number of nodes: 1 for a child of the root that is aboard, 0 for all else, so
+   that N zeros are nobody. Later bytes are neither looked at nor changed. Include brings a
+   child of the root aboard, exclude takes one off. The child's byte is written and nothing
+   else, and returned is the answer for those aboard after the call: KNOWETOP_CLEAR,
+   KNOWETOP_DOOMED or KNOWETOP_OPEN, as if the other children of the root, all that is under
+   them and every order that names one of them were absent from the plan. An order through an
+   absent child does not tie its neighbours. With nobody aboard the answer is CLEAR, with
+   everybody that of knowetop_verdict with nothing blocked; no answer is sure to stay when one
+   comes or goes. Or a refusal, in this order: 1 to 14, 15 (members_len under N), 16 (a byte
+   over 1, or a 1 at a node that is no child of the root), 17 (no such node), 31 (the root is
+   not an all-of group, or the node is not its child) or 32 (include: the child is aboard
+   already; exclude: it is not aboard). They take no list of blocked nodes. */
 uint32_t knowetop_include(const uint8_t *plan, size_t plan_len, uint8_t *members, size_t members_len, size_t node);
 uint32_t knowetop_exclude(const uint8_t *plan, size_t plan_len, uint8_t *members, size_t members_len, size_t node);
 
