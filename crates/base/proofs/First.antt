@@ -54,3 +54,12 @@ pub first-below : (r s k n : ℕ) → (s ≡ 0) ⊎ (k ≤ s) → 0 < n → n < 
 first-below zero s k n (inl e) z l = (λ q. absurd (omega (arith, e, q, z)), λ q. absurd (omega (arith, q, z)))
 first-below zero s k n (inr m) z l = (λ q. absurd (omega (arith, m, q, l)), λ q. absurd (omega (arith, q, z)))
 first-below (suc r) s k n h z l = (λ q. q, λ q. q)
+
+-- no number is above m
+pub first-limit : (m r s : ℕ) → r ≤ m → s ≤ m → first r s ≤ m
+first-limit m zero s l k = k
+first-limit m (suc r) s l k = l
+
+pub cond-limit : (m : ℕ) (t : Bool) (r s : ℕ) → r ≤ m → s ≤ m → cond t r s ≤ m
+cond-limit m true r s l k = l
+cond-limit m false r s l k = k

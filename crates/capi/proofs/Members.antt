@@ -1,15 +1,15 @@
 -- The number of an answer about members tells the answer: no refusal is the number of a verdict. Assumes nothing.
 use mathlib.Core.Path.{_≡_, refl, ap, _∙_}
 use mathlib.Core.Logic.{_⊎_, inl, inr}
-use mathlib.Core.Bool.{Bool, true, false, cond}
+use mathlib.Core.Bool.{Bool, cond}
 use mathlib.Core.List.{List}
 use Prim.Native.Nat.{ℕ, zero, suc, _<_, _≤_}
 use native.Mathlib.Omega.{arith}
 use lib.Dec.{ltb}
 use lib.ListN.{length}
 use borrow.Author.Tests.{ne-eqb}
-use Rattle.base.specs.Answers.{first, refusedOr}
-use Rattle.base.proofs.First.{number-in}
+use Rattle.base.specs.Answers.{refusedOr}
+use Rattle.base.proofs.First.{number-in, first-limit, cond-limit}
 use Rattle.plan_format.specs.Format.{nodeCount}
 use Rattle.plan_rules.specs.Rules.{refusal}
 use Rattle.plan_check.specs.Meaning.{planOf}
@@ -27,14 +27,6 @@ use Rattle.capi_numbers.specs.Numbers.{verdictNumber}
 use Rattle.capi.specs.Told.{verdictBy, MemberNumber}
 
 -- the greatest number is 32
-first-limit : (r s : ℕ) → r ≤ 32 → s ≤ 32 → first r s ≤ 32
-first-limit zero s l m = m
-first-limit (suc r) s l m = l
-
-cond-limit : (t : Bool) (k s : ℕ) → k ≤ 32 → s ≤ 32 → cond t k s ≤ 32
-cond-limit true k s l m = l
-cond-limit false k s l m = m
-
 told-limit : (r n : ℕ) (v : Verdict) → r ≤ 32 → inl n ≡ refusedOr r v → n < 128
 told-limit zero n v l e = let z : n ≡ 0 = ap number-in e in omega (arith, z)
 told-limit (suc r) n v l e = let z : n ≡ suc r = ap number-in e in omega (arith, z, l)
@@ -48,9 +40,9 @@ module _ (b ms : List ℕ) (c : MemberCall) where
 
   call-limit : memberCallRefusal b ms c ≤ 32
   unfolding memberCallRefusal membersRefusal
-  call-limit = first-limit (membersRefusal b ms) (memberRefusal (planOf b) (memberIn b ms) c)
-      (first-limit (refusal b) (cond short 15 (cond bad 16 0)) (omega (arith, refusal-limit b))
-      (cond-limit short 15 (cond bad 16 0) (omega arith) (cond-limit bad 16 0 (omega arith) (omega arith))))
+  call-limit = first-limit 32 (membersRefusal b ms) (memberRefusal (planOf b) (memberIn b ms) c)
+      (first-limit 32 (refusal b) (cond short 15 (cond bad 16 0)) (omega (arith, refusal-limit b))
+      (cond-limit 32 short 15 (cond bad 16 0) (omega arith) (cond-limit 32 bad 16 0 (omega arith) (omega arith))))
       (number-limit (planOf b) (memberIn b ms) c)
 
   small : {n : ℕ} → inl n ≡ memberReturn b ms c → n < 128

@@ -29,7 +29,7 @@ use Rattle.verdict.specs.Verdict.{said, Assessed}
 use Rattle.members.specs.Members.{MembersJudged, nobody, MemberCall, MemberAnswered, refused-17, refused-31}
 use Rattle.members.specs.Members.{refused-32, changes, MembersWorked, no-calls, next-call, lastVerdict}
 use Rattle.members.proofs.Parts.{members-judged, nobody-clear}
-use Rattle.members.proofs.Answers.{called-child, judged-is, worked-only}
+use Rattle.members.proofs.Answers.{called-child, judged-only, worked-only}
 use Rattle.members.proofs.Lists.{Along, at-first, along-after, last-clear, last-whole}
 use Rattle.member_list.specs.Members.{memberIn, BadMembers, other-byte, stray-one, MembersPass}
 use Rattle.member_calls.specs.Calls.{MemberCalled}
@@ -135,11 +135,8 @@ module _ (b : List ℕ) (ok : refusal b ≡ 0) where
   -- ---- from nobody
   nobody-is : planOf b .tree .kind 0 ≡ all-of → (u : Verdict)
       → MembersJudged (planOf b) nobody (startOf b) u ↔ (u ≡ CLEAR)
-  nobody-is kr u =
-      let is = judged-is (planOf b) w (startOf b) nobody kr in
-      let c = nobody-clear (planOf b) w nobody kr (λ i x. x) (startOf b) in
-      let clear = (members-judged (planOf b) w nobody) .1 c in
-      (λ j. sym ((is u) .0 j) ∙ (is CLEAR) .0 clear, λ e. rw e clear)
+  nobody-is kr = judged-only (planOf b) w (startOf b) nobody kr
+      ((members-judged (planOf b) w nobody) .1 (nobody-clear (planOf b) w nobody kr (λ i x. x) (startOf b)))
 
   module _ (ms : List ℕ) (z : NobodyIn b ms) where
     none-in : memberIn b ms ≡ nobody
@@ -167,10 +164,7 @@ module _ (b : List ℕ) (ok : refusal b ≡ 0) where
 
       only : (v : Verdict) → lastVerdict none rs ≡ some v → (u : Verdict)
           → MembersJudged (planOf b) (memberIn b zs) (startOf b) u ↔ (u ≡ v)
-      only v e u =
-          let (kr, j) = along .judged v e in
-          let is = judged-is (planOf b) w (startOf b) (memberIn b zs) kr in
-          (λ i. sym ((is u) .0 i) ∙ (is v) .0 j, λ q. rw q j)
+      only v e = let (kr, j) = along .judged v e in judged-only (planOf b) w (startOf b) (memberIn b zs) kr j
 
       whole : (v : Verdict) → lastVerdict none rs ≡ some v → ((i : ℕ) → Child (planOf b) 0 i → T (memberIn b zs i))
           → (r : Answer) → Assessed b [] r → said r ≡ inr v

@@ -2,6 +2,7 @@
 use Rattle.runs.proofs.Base.{_≡_, refl, sym, ap, _∙_, _≢_, _⊎_, inl, inr, _↔_, Bool, true, false, List, []}
 use Rattle.runs.proofs.Base.{_∷_, ℕ, cond, _≤_, T, arith}
 use Rattle.base.specs.Answers.{refusedOr}
+use Rattle.base.proofs.First.{cond-limit}
 use Rattle.runs.specs.Plan.{all-of, Plan, Node, Child}
 use Rattle.runs.specs.Tests.{negate, sameB}
 use Rattle.runs.specs.WellFormed.{WellFormed}
@@ -54,6 +55,10 @@ module _ (p : Plan) (w : WellFormed p) (F : ℕ → Bool) where
         exact : (v : Verdict) → (verdict (membersOf p A) F ≡ v) ↔ Judged (membersOf p A) F v
         exact v = verdict-exact (membersOf p A) (members-well-formed p w A kr) F v
 
+    -- and there is one
+    pub judged-only : {v : Verdict} → MembersJudged p A F v → (u : Verdict) → MembersJudged p A F u ↔ (u ≡ v)
+    judged-only {v} j u = (λ i. sym ((judged-is u) .0 i) ∙ (judged-is v) .0 j, λ e. rw e j)
+
   -- one call
   module _ (A : ℕ → Bool) (c : MemberCall) where
     abbrev result : ℕ → ℕ ⊎ Verdict
@@ -87,8 +92,8 @@ module _ (p : Plan) (w : WellFormed p) (F : ℕ → Bool) where
     member-only (changes n x e j) (refused-17 l) = absurd (l n)
     member-only (changes n x e j) (refused-31 l y) = absurd (x y)
     member-only (changes n x e j) (refused-32 l y d) = absurd (e d)
-    member-only (changes {v = v} n x e j) (changes {v = u} l y d k) =
-        let is = judged-is (changed A c) (all-of-root x) in (ap inr (sym ((is v) .0 j) ∙ (is u) .0 k), refl)
+    member-only (changes {v = v} n x e j) (changes l y d k) =
+        (ap inr (judged-only (changed A c) (all-of-root x) k v .0 j), refl)
 
     pub member-answered : MemberAnswered p F A c (memberAnswer p F A c) (membersAfter p A c)
     unfolding memberAnswer membersAfter memberRefusal
@@ -134,10 +139,5 @@ module _ (p : Plan) (A : ℕ → Bool) (c : MemberCall) where
       at false false false = inl refl
 
   pub number-limit : memberRefusal p A c ≤ 32
-  number-limit = tested (λ r. r ≤ 32) at
-    where
-      at : (a b d : Bool) → refusing a b d ≤ 32
-      at true b d = omega arith
-      at false true d = omega arith
-      at false false true = omega arith
-      at false false false = omega arith
+  number-limit = tested (λ r. r ≤ 32) (λ a b d. cond-limit 32 a 17 (cond b 31 (cond d 32 0)) (omega arith)
+      (cond-limit 32 b 31 (cond d 32 0) (omega arith) (cond-limit 32 d 32 0 (omega arith) (omega arith))))

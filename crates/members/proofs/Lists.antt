@@ -8,7 +8,7 @@ use Rattle.members.specs.Members.{MembersJudged, nobody, MemberCall, cha
 use Rattle.members.specs.Members.{changes, MembersWorked, no-calls, next-call, lastVerdict}
 use Rattle.runs.proofs.Reflect.{clash, Reflects, r-eq}
 use Rattle.members.proofs.Parts.{members-judged, everybody, nobody-clear}
-use Rattle.members.proofs.Answers.{all-of-root, called-child, judged-is}
+use Rattle.members.proofs.Answers.{all-of-root, called-child, judged-only}
 
 module _ (p : Plan) (w : WellFormed p) (F : ℕ → Bool) where
   -- what holds of the last verdict and the members all along
@@ -45,8 +45,7 @@ module _ (p : Plan) (w : WellFormed p) (F : ℕ → Bool) where
   module _ {o : Option Verdict} {A : ℕ → Bool} (k : Along o A) (v : Verdict) (e : o ≡ some v) where
     pub last-clear : ((c : ℕ) → ¬ T (A c)) → v ≡ CLEAR
     last-clear n = let (kr, j) = k .judged v e in
-        let is = judged-is p w F A kr in
-        rw (← (is v) .0 j) ((is CLEAR) .0 ((members-judged p w A) .1 (nobody-clear p w A kr n F)))
+        judged-only p w F A kr ((members-judged p w A) .1 (nobody-clear p w A kr n F)) v .0 j
 
     pub last-whole : ((c : ℕ) → Child p 0 c → T (A c)) → Judged p F v
     last-whole all = rw (everybody p w A all) at ((members-judged p w A) .0 (k .judged v e .1))

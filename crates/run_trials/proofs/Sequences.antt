@@ -1,4 +1,5 @@
--- What is answered for a sequence, as one test that computes; two answers of any kind are the same. Assumes nothing.
+-- What is answered for a sequence, as one test that computes; whether two answers of any kind are the same. Assumes
+-- nothing.
 use mathlib.Core.Path.{_≡_, ap, _∙_}
 use mathlib.Core.Logic.{_⊎_, inl, inr}
 use mathlib.Core.Bool.{Bool, true, false}
