@@ -140,3 +140,12 @@ pub extern "C" fn knowetop_exclude(plan: &[u8], members: &mut [u8], node: usize)
     let answer = member_calls::exclude(plan, members, node);
     verdict_number(answer)
 }
+
+#[no_mangle]
+pub extern "C" fn knowetop_generate(seed: u32, groups: usize, tasks: usize, out: &mut [u8]) -> u32
+    ensures { λ r. ⌜ GeneratedNumber (record { seed = seed; groups = groups; tasks = tasks }) (now (out .entry)) r
+        (now (out .exit)) ⌝ }
+{
+    let answer = plan_generate::generate(seed, groups, tasks, out);
+    written_number(answer)
+}

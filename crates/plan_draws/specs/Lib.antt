@@ -1,0 +1,4 @@
+-- The draws of a generated plan: one after another, by their numbers, and the fields that they give.
+pub mod Drawn
+pub mod Generated
+pub mod Inner
