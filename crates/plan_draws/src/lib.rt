@@ -1,9 +1,10 @@
 // The draws of a generated plan, and the fields that they give.
 ghost use mathlib.Core.Path.{_≡_};
 ghost use Prim.Native.Nat.{_+_, _*_, _%_, _<_};
+ghost use lib.ListN.{length};
 ghost use Rattle.plan_draws.specs.Drawn.{Allowed};
 ghost use Rattle.plan_draws.specs.Generated.{kindIn, minutesIn, valueIn};
-ghost use Rattle.plan_draws.specs.Inner.{Drew, OrdersFound};
+ghost use Rattle.plan_draws.specs.Inner.{GROUPS, Drew, OrdersFound};
 
 // What a plan is generated from.
 pub struct Recipe {
@@ -26,10 +27,11 @@ pub type Draws = [u16; DRAWS];
 // The groups, counted from 0, that come before the next.
 pub type Ordered = [u8; GROUPS];
 
-// Makes all draws, one after another.
-pub fn draw_all(seed: u32, draws: &mut Draws)
-    ensures { λ _. ⌜ Drew seed (now (draws .exit)) ⌝ }
+// All draws, one after another.
+pub fn draw_all(seed: u32) -> Draws
+    ensures { λ r. ⌜ Drew seed r ⌝ }
 {
+    let mut draws = [0u16; DRAWS];
     let mut state = seed;
     let mut n = 0;
     while n < DRAWS {
@@ -37,11 +39,12 @@ pub fn draw_all(seed: u32, draws: &mut Draws)
         draws[n] = (state / 65536) as u16;
         n += 1;
     }
+    draws
 }
 
 // Finds the groups that come before the next, in rising order, and answers how many they are.
 pub fn find_orders(recipe: Recipe, draws: &Draws, ordered: &mut Ordered) -> usize
-    requires { ⌜ Allowed recipe × Drew (recipe .seed) (now draws) ⌝ }
+    requires { ⌜ Allowed recipe × Drew (recipe .seed) (now draws) × (length (now ordered) ≡ GROUPS) ⌝ }
     ensures { λ r. ⌜ OrdersFound recipe r (now (ordered .exit)) ⌝ }
 {
     let first = recipe.groups + 4 * recipe.tasks;

@@ -11,7 +11,6 @@ ghost use Rattle.plan_generate.specs.Generated.{nameIn, parentIn, genera
 ghost use Rattle.plan_generate.specs.Inner.{Prepared, Within};
 ghost use Rattle.plan_generate.specs.Calls.{Generates};
 use answers::Written;
-use plan_draws::DRAWS;
 use plan_draws::Draws;
 use plan_draws::GROUPS;
 use plan_draws::Ordered;
@@ -108,8 +107,7 @@ pub fn generate(seed: u32, groups: usize, tasks: usize, out: &mut [u8]) -> Writt
         groups,
         tasks,
     };
-    let mut draws = [0u16; DRAWS];
-    draw_all(seed, &mut draws);
+    let draws = draw_all(seed);
     let mut ordered = [0u8; GROUPS];
     let found = find_orders(recipe, &draws, &mut ordered);
     let sizes = Sizes {

@@ -1,50 +1,27 @@
+-- `draw_all` meets its contract: the draws before n are made. Assumes nothing.
+use Prim.Native.Nat.{ℕ, _-_}
+use native.Mathlib.Omega.{arith}
+use lib.ListN.{length-replicate}
+use borrow.Author.Needs.{needs}
+use Rattle.plan_draws.specs.Inner.{DRAWS}
+use Rattle.plan_draws.proofs.Fields.{DrewTo, drew-none, drew-more, drew-all}
 use Rattle.plan_draws.proofs.draw_all.Statement.{statement}
 use Rattle.plan_draws.proofs.draw_all.Tie as tie
-use Rattle.plan_draws.proofs.draw_all.Reads as reads
-use Rattle.plan_draws.proofs.draw_all.Lts as lts
-use Rattle.std.proofs.num.wrapping_add_u32.Reads as wrapping-add-u32-reads
 
 abbrev Inv-loop : tie.InvT-loop
-Inv-loop seed draws₀ state₀ n₀ draws state n = ?
+Inv-loop seed draws₀ state₀ n₀ draws state n = DrewTo seed draws state n
 
 abbrev μ-loop : tie.MeasureT-loop
-μ-loop seed draws₀ state₀ n₀ draws state n = ?
+μ-loop seed draws₀ state₀ n₀ draws state n = DRAWS - n
 
--- src/lib.rt:35:5
 loop-holds : tie.Need-loop-holds Inv-loop μ-loop
-loop-holds c = ?
+loop-holds c = drew-none _ (length-replicate {A = ℕ} DRAWS 0)
 
--- src/lib.rt:36:9
-wrapping-add-u32-requires : tie.Need-wrapping-add-u32-requires Inv-loop μ-loop
-wrapping-add-u32-requires c κs = ?
-
--- src/lib.rt:37:20
-cast-draws : tie.Need-cast-draws Inv-loop μ-loop
-cast-draws c = ?
-
--- src/lib.rt:37:9
-mul-draws : tie.Need-mul-draws Inv-loop μ-loop
-mul-draws c = ?
-
--- src/lib.rt:37:9
-element-write-draws : tie.Need-element-write-draws Inv-loop μ-loop
-element-write-draws c = ?
-
--- src/lib.rt:38:9
-add-n : tie.Need-add-n Inv-loop μ-loop
-add-n c = ?
-
--- src/lib.rt:35:5
-loop-less : tie.Need-loop-less Inv-loop μ-loop
-loop-less c = ?
-
--- src/lib.rt:35:5
 loop-again : tie.Need-loop-again Inv-loop μ-loop
-loop-again c = ?
+loop-again c = drew-more (omega arith) (c .wrapping-add-u32 .ensures) (c .before .before .loop .inv)
 
--- src/lib.rt:30:1
 returns : tie.Need-returns Inv-loop μ-loop
-returns c = ?
+returns c = drew-all (omega arith) (c .before .loop .inv)
 
 pub draw-all-spec : {M : Type 1} → statement M
 draw-all-spec =
@@ -53,11 +30,11 @@ draw-all-spec =
     Inv-loop
     μ-loop
     loop-holds
-    wrapping-add-u32-requires
-    cast-draws
-    mul-draws
-    element-write-draws
-    add-n
-    loop-less
+    (λ c κs. search needs)
+    (λ c. search needs)
+    (λ c. search needs)
+    (λ c. search needs)
+    (λ c. search needs)
+    (λ c. search needs)
     loop-again
     returns)

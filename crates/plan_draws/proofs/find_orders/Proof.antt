@@ -1,69 +1,49 @@
+-- `find_orders` meets its contract: of the groups before i those that come before the next are found. Assumes nothing.
+use mathlib.Core.Logic.{⊎-elim}
+use Prim.Native.Nat.{_-_}
+use native.Mathlib.Omega.{arith}
+use borrow.Author.Needs.{needs}
+use Rattle.plan_draws.proofs.Orders.{FoundTo, found-none, found-one, found-same, found-all, comes, comes-not}
 use Rattle.plan_draws.proofs.find_orders.Statement.{statement}
 use Rattle.plan_draws.proofs.find_orders.Tie as tie
-use Rattle.plan_draws.proofs.find_orders.Reads as reads
-use Rattle.plan_draws.proofs.find_orders.Lts as lts
 
 abbrev Inv-loop : tie.InvT-loop
-Inv-loop recipe draws ordered₀ first found₀ i₀ ordered found i = ?
+Inv-loop recipe draws ordered₀ first found₀ i₀ ordered found i = FoundTo recipe ordered found i
 
 abbrev μ-loop : tie.MeasureT-loop
-μ-loop recipe draws ordered₀ first found₀ i₀ ordered found i = ?
+μ-loop recipe draws ordered₀ first found₀ i₀ ordered found i = recipe .groups - i
 
--- src/lib.rt:47:33
-mul-first : tie.Need-mul-first Inv-loop μ-loop
-mul-first c = ?
-
--- src/lib.rt:47:17
-add-first : tie.Need-add-first Inv-loop μ-loop
-add-first c = ?
-
--- src/lib.rt:50:5
 loop-holds : tie.Need-loop-holds Inv-loop μ-loop
-loop-holds c = ?
+loop-holds c = let s = c .before .before in found-none _ (s .pre .0) _ (s .pre .2)
 
--- src/lib.rt:50:11
 add-if1 : tie.Need-add-if1 Inv-loop μ-loop
-add-if1 c = ?
+add-if1 c = omega (arith, c .loop .inv .below)
 
--- src/lib.rt:51:18
-add-if2 : tie.Need-add-if2 Inv-loop μ-loop
-add-if2 c = ?
-
--- src/lib.rt:51:12
-mul-if2 : tie.Need-mul-if2 Inv-loop μ-loop
-mul-if2 c = ?
-
--- src/lib.rt:51:12
 element-copy-out-if2 : tie.Need-element-copy-out-if2 Inv-loop μ-loop
-element-copy-out-if2 c = ?
+element-copy-out-if2 c = omega arith
 
--- src/lib.rt:52:30
 cast-ordered : tie.Need-cast-ordered Inv-loop μ-loop
-cast-ordered c = ?
+cast-ordered c = omega arith
 
--- src/lib.rt:52:13
 element-write-ordered : tie.Need-element-write-ordered Inv-loop μ-loop
-element-write-ordered c = ?
+element-write-ordered c = omega arith
 
--- src/lib.rt:53:13
 add-found : tie.Need-add-found Inv-loop μ-loop
-add-found c = ?
+add-found c = omega arith
 
--- src/lib.rt:55:9
-add-i : tie.Need-add-i Inv-loop μ-loop
-add-i c = ?
-
--- src/lib.rt:50:5
-loop-less : tie.Need-loop-less Inv-loop μ-loop
-loop-less c = ?
-
--- src/lib.rt:50:5
 loop-again : tie.Need-loop-again Inv-loop μ-loop
-loop-again c = ?
+loop-again c =
+    let l = c .before .before .before .before in
+    let s = l .before .before .before in
+    ⊎-elim
+    (λ z. found-one _ (s .pre .0) _ (c .if2 .ordered) _ (c .if2 .found) (l .loop .i) (omega arith) (l .loop .inv)
+    (comes _ (s .pre .0) _ (s .pre .1) _ (omega arith) (z .0 .taken)) (z .1) (z .2))
+    (λ z. found-same _ (s .pre .0) _ (c .if2 .ordered) _ (c .if2 .found) (l .loop .i) (omega arith) (l .loop .inv)
+    (comes-not _ (s .pre .0) _ (s .pre .1) _ (omega arith) (z .0 .left)) (z .1) (z .2))
+    (c .if2 .came)
 
--- src/lib.rt:43:1
 returns : tie.Need-returns Inv-loop μ-loop
-returns c = ?
+returns c = let s = c .before .before .before .before .before in found-all _ (s .pre .0) (omega arith) (c .before .before .loop .inv)
 
 pub find-orders-spec : {M : Type 1} → statement M
 find-orders-spec =
@@ -71,17 +51,17 @@ find-orders-spec =
     (tie.spec
     Inv-loop
     μ-loop
-    mul-first
-    add-first
+    (λ c. search needs)
+    (λ c. search needs)
     loop-holds
     add-if1
-    add-if2
-    mul-if2
+    (λ c. search needs)
+    (λ c. search needs)
     element-copy-out-if2
     cast-ordered
     element-write-ordered
     add-found
-    add-i
-    loop-less
+    (λ c. search needs)
+    (λ c. search needs)
     loop-again
     returns)

@@ -1,0 +1,120 @@
+-- The table of draws as it is filled, and the fields of nodes and conditions by the table. Assumes nothing.
+use mathlib.Core.Path.{_≡_, refl, sym, ap, _∙_}
+use mathlib.Core.Logic.{by-cases}
+use mathlib.Core.Bool.{Bool, true, false}
+use mathlib.Core.List.{List}
+use Prim.Native.Nat.{ℕ, zero, suc, _+_, _-_, _*_, _/_, _%_, _^_, _<_, _≤_}
+use native.Mathlib.Decide.{ℕ-discrete}
+use native.Mathlib.Numerals.{add-one}
+use native.Mathlib.Omega.{arith}
+use lib.ListN.{length, getD, set, length-set}
+use lib.Seq.{getD-set-same, getD-set-other}
+use borrow.Author.Tests.{eq-eqb, ne-eqb, le-leb, lt-leb}
+use Rattle.base.specs.Count.{num, countBelow}
+use Rattle.base.proofs.Count.{count-more, count-le}
+use Rattle.plan_draws.specs.declared.Recipe.{Recipe}
+use Rattle.plan_draws.specs.Drawn.{Allowed, next}
+use Rattle.plan_draws.specs.Generated.{stateAfter, given, draw, pick, kindDrawn, taskDraw, minutesDrawn, flagDrawn}
+use Rattle.plan_draws.specs.Generated.{needDrawn, leavingDrawn, beforeDrawn, comesBefore, orderNumber, orderedGroup}
+use Rattle.plan_draws.specs.Generated.{kindIn, minutesIn, valueIn}
+use Rattle.plan_draws.specs.Inner.{DRAWS, GROUPS, Drew, OrdersFound}
+use Rattle.plan_draws.proofs.Picked.{pick-new, pick-stays}
+
+-- ---- the first n draws are made, and the state is the one after them
+pub record DrewTo (seed : ℕ) (draws : List ℕ) (state n : ℕ) : Type 0 where
+  pub long : length draws ≡ DRAWS
+  pub state-is : state ≡ stateAfter seed n
+  pub at : (m : ℕ) → m < n → getD draws m 0 ≡ given seed m
+
+pub drew-none : (seed : ℕ) {draws : List ℕ} → length draws ≡ DRAWS → DrewTo seed draws seed 0
+unfolding stateAfter
+drew-none seed e = record { long = e; state-is = refl; at = λ m l. absurd (omega arith) }
+
+pub drew-more : {seed : ℕ} {draws : List ℕ} {state state′ n : ℕ} → n < DRAWS → state′ ≡ next state
+    → DrewTo seed draws state n → DrewTo seed (set draws n (state′ / 65536)) state′ (n + 1)
+unfolding stateAfter given
+drew-more {seed} {draws} {state} {state′} {n} l e d =
+    let s : state′ ≡ next (stateAfter seed n) = e ∙ ap next (d .state-is) in
+    record {
+      long = length-set draws n (state′ / 65536) ∙ d .long;
+      state-is = rw (add-one n) s;
+      at = λ m h. by-cases (ℕ-discrete m n)
+          (λ (z : m ≡ n). rw z (getD-set-same draws n (state′ / 65536) 0 (omega (arith, d .long))
+          ∙ ap (λ (x : ℕ). x / 65536) s))
+          (λ z. getD-set-other draws n m (state′ / 65536) 0 z ∙ d .at m (omega arith));
+    }
+
+pub drew-all : {seed : ℕ} {draws : List ℕ} {state n : ℕ} → DRAWS ≤ n → DrewTo seed draws state n → Drew seed draws
+drew-all l d = record { at = λ m h. d .at m (omega arith) }
+
+-- a draw that is read from the table, below k
+pub drawn-at : {seed : ℕ} {draws : List ℕ} → Drew seed draws → (n k : ℕ) → n < DRAWS → getD draws n 0 % k ≡ draw seed n k
+unfolding draw
+drawn-at d n k l = rw (d .at n l)
+
+-- ---- fields of nodes
+module _ (r : Recipe) where
+  pub kind-root : (n : ℕ) → n ≡ 0 → 1 ≡ kindIn r n
+  unfolding kindIn
+  kind-root n e = rw (eq-eqb n 0 e)
+
+  pub kind-task : (n : ℕ) → r .groups < n → 0 ≡ kindIn r n
+  unfolding kindIn
+  kind-task n l = rw (ne-eqb n 0 (λ e. omega arith), lt-leb n (r .groups) l)
+
+  pub minutes-group : (n : ℕ) → n ≤ r .groups → 0 ≡ minutesIn r n
+  unfolding minutesIn
+  minutes-group n l = rw (le-leb n (r .groups) l)
+
+  -- ---- values of conditions
+  pub value-need : (i : ℕ) → i % 2 ≡ 0 → valueIn r i ≡ flagDrawn r (i / 2) + 64 * needDrawn r (i / 2)
+  unfolding valueIn
+  value-need i e = rw (eq-eqb (i % 2) 0 e) (omega arith)
+
+  pub value-leaving : (i : ℕ) → i % 2 ≡ 1 → valueIn r i ≡ flagDrawn r (i / 2) + 64 * leavingDrawn r (i / 2) + 256
+  unfolding valueIn
+  value-leaving i e = rw (ne-eqb (i % 2) 0 (λ z. omega arith)) (omega arith)
+
+-- ---- what is read from the table
+module _ (r : Recipe) (ok : Allowed r) (draws : List ℕ) (d : Drew (r .seed) draws) where
+  pub kind-group : (n : ℕ) → 0 < n → n ≤ r .groups → 1 + getD draws (n - 1) 0 % 2 ≡ kindIn r n
+  unfolding kindIn kindDrawn
+  kind-group n z l = rw (
+    ne-eqb n 0 (λ e. omega arith),
+    le-leb n (r .groups) l,
+    drawn-at d (n - 1) 2 (omega (arith, ok .few-groups)),
+  )
+
+  pub minutes-task : (n : ℕ) → r .groups < n → n < 1 + r .groups + r .tasks
+      → getD draws (r .groups + 4 * (n - 1 - r .groups)) 0 % 60 ≡ minutesIn r n
+  unfolding minutesIn minutesDrawn taskDraw
+  minutes-task n h l = rw (
+    lt-leb n (r .groups) h,
+    drawn-at d (r .groups + 4 * (n - 1 - r .groups)) 60 (omega (arith, ok .few-groups, ok .few-tasks)),
+  )
+
+  module _ (i : ℕ) (l : i < 2 * r .tasks) where
+    first : ℕ
+    first = r .groups + 4 * (i / 2)
+
+    flag-read : getD draws (first + 1) 0 % 8 ≡ flagDrawn r (i / 2)
+    unfolding flagDrawn taskDraw first
+    flag-read = drawn-at d (first + 1) 8 (omega (arith, ok .few-groups, ok .few-tasks))
+
+    need-read : i % 2 ≡ 0 → getD draws (first + 2 + i % 2) 0 % 2 ≡ needDrawn r (i / 2)
+    unfolding needDrawn taskDraw first
+    need-read e = let q : first + 2 + i % 2 ≡ first + 2 = omega arith in
+        rw q (drawn-at d (first + 2) 2 (omega (arith, ok .few-groups, ok .few-tasks)))
+
+    leaving-read : i % 2 ≡ 1 → getD draws (first + 2 + i % 2) 0 % 2 ≡ leavingDrawn r (i / 2)
+    unfolding leavingDrawn taskDraw first
+    leaving-read e = let q : first + 2 + i % 2 ≡ first + 3 = omega arith in
+        rw q (drawn-at d (first + 3) 2 (omega (arith, ok .few-groups, ok .few-tasks)))
+
+    pub literal-is : getD draws (r .groups + 4 * (i / 2) + 1) 0 % 8
+        + 64 * (getD draws (r .groups + 4 * (i / 2) + 2 + i % 2) 0 % 2) ≡ valueIn r i % 256
+    unfolding first
+    literal-is =
+        let x = flag-read in
+        by-cases (ℕ-discrete (i % 2) 0) (λ (e : i % 2 ≡ 0). omega (arith, need-read e, value-need r i e))
+        (λ e. let z : i % 2 ≡ 1 = omega arith in omega (arith, leaving-read z, value-leaving r i z))
