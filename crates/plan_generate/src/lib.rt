@@ -4,11 +4,11 @@ ghost use Prim.Native.Nat.{_≤_, _<_, _+_, _*_};
 ghost use lib.ListN.{length};
 ghost use Rattle.base.specs.Answers.{overlay};
 ghost use Rattle.answers.specs.Written.{told};
-ghost use Rattle.plan_layout.specs.Layout.{size};
+ghost use Rattle.plan_layout.specs.Layout.{size, Within};
 ghost use Rattle.plan_layout.specs.Fields.{byteIn, byteAt};
-ghost use Rattle.plan_draws.specs.Generated.{Allowed};
 ghost use Rattle.plan_generate.specs.Generated.{nameIn, parentIn, generated};
-ghost use Rattle.plan_generate.specs.Inner.{Prepared, Within};
+ghost use Rattle.plan_generate.specs.Model.{refused30};
+ghost use Rattle.plan_generate.specs.Inner.{Prepared};
 ghost use Rattle.plan_generate.specs.Calls.{Generates};
 use answers::Written;
 use plan_draws::Draws;
@@ -94,26 +94,35 @@ fn write_plan(recipe: Recipe, draws: &Draws, ordered: &Ordered, sizes: Sizes, ou
     }
 }
 
-// Writes the plan of these groups and tasks that the seed gives; refused (30, 15), nothing changes.
+// 30.
+fn refused(recipe: Recipe) -> bool
+    ensures { λ r. ⌜ r ≡ refused30 recipe ⌝ }
+{
+    ((recipe.groups < 1) | (recipe.groups > GROUPS))
+        | ((recipe.tasks < recipe.groups) | (recipe.tasks > TASKS))
+}
+
+// Writes the plan that the seed gives, with these groups and tasks, from the first byte; refused (30, 15), nothing
+// changes.
 pub fn generate(seed: u32, groups: usize, tasks: usize, out: &mut [u8]) -> Written
     ensures { λ r. ⌜ Generates (record { seed = seed; groups = groups; tasks = tasks }) (now (out .entry)) (told r)
         (now (out .exit)) ⌝ }
 {
-    if groups < 1 || groups > GROUPS || tasks < groups || tasks > TASKS {
-        return Written::Refused(30);
-    }
     let recipe = Recipe {
         seed,
         groups,
         tasks,
     };
+    if refused(recipe) {
+        return Written::Refused(30);
+    }
     let draws = draw_all(seed);
     let mut ordered = [0u8; GROUPS];
-    let found = find_orders(recipe, &draws, &mut ordered);
+    let orders = find_orders(recipe, &draws, &mut ordered);
     let sizes = Sizes {
         nodes: 1 + groups + tasks,
         conditions: 2 * tasks,
-        orders: found,
+        orders,
         flags: 8,
     };
     let end = plan_length(sizes);

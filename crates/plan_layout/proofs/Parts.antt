@@ -1,7 +1,9 @@
 -- What a byte holds, by the section in which it lies. Assumes nothing.
 use mathlib.Core.Path.{_≡_}
+use mathlib.Core.Logic.{by-cases}
 use mathlib.Core.Bool.{Bool, true, false, cond}
 use Prim.Native.Nat.{ℕ, _+_, _-_, _*_, _/_, _%_, _<_, _≤_}
+use native.Mathlib.Decide.{decLt}
 use native.Mathlib.Omega.{arith}
 use lib.Dec.{eqb}
 use borrow.Author.Tests.{lt-ltb, le-ltb, eq-eqb, ne-eqb}
@@ -10,7 +12,7 @@ use Rattle.plan_layout.specs.declared.Part.{Part}
 use Rattle.plan_layout.specs.declared.Part.the-variants.{Size, Start, Name, Parent, Kind, MinutesLow, MinutesHigh}
 use Rattle.plan_layout.specs.declared.Part.the-variants.{Task, ValueLow, ValueHigh, Earlier, Later}
 use Rattle.plan_layout.specs.Layout.{Limited, sizeNumber, sizeByte, entryPart, valuePart, entriesAt, tasksAt, valuesAt, earlierAt}
-use Rattle.plan_layout.specs.Layout.{laterAt, partAt}
+use Rattle.plan_layout.specs.Layout.{laterAt, size, partAt, Within}
 
 -- ---- the fields of an entry, and the halves of a value
 module _ (k : ℕ) where
@@ -109,6 +111,39 @@ module _ (s : Sizes) (i : ℕ) where
     le-ltb i (earlierAt s) (omega arith),
     le-ltb i (laterAt s) h,
   )
+
+-- ---- every byte of a plan holds a part that the plan has
+module _ (s : Sizes) where
+  entry-within : (k : ℕ) → k < 4 * s .nodes → Within s (entryPart k)
+  unfolding entryPart
+  entry-within k l = at (eqb (k % 4) 0) (eqb (k % 4) 1) (eqb (k % 4) 2)
+    where
+      at : (x y z : Bool) → Within s (cond x (Parent (k / 4)) (cond y (Kind (k / 4)) (cond z (MinutesLow (k / 4)) (MinutesHigh (k / 4)))))
+      at true y z = omega arith
+      at false true z = omega arith
+      at false false true = omega arith
+      at false false false = omega arith
+
+  value-within : (k : ℕ) → k < 2 * s .conditions → Within s (valuePart k)
+  unfolding valuePart
+  value-within k l = at (eqb (k % 2) 0)
+    where
+      at : (x : Bool) → Within s (cond x (ValueLow (k / 2)) (ValueHigh (k / 2)))
+      at true = omega arith
+      at false = omega arith
+
+  pub within : (i : ℕ) → i < size s → Within s (partAt s i)
+  within i l =
+      by-cases (decLt i 8) (λ (a : i < 8). rw (← at-size s i a) a)
+      (λ a. by-cases (decLt i 16) (λ (b : i < 16). rw (← at-start s i (omega arith) b) (omega arith))
+      (λ b. by-cases (decLt i (entriesAt s)) (λ (c : i < entriesAt s). rw (← at-name s i (omega arith) c) (omega arith))
+      (λ c. by-cases (decLt i (tasksAt s))
+      (λ (d : i < tasksAt s). rw (← at-entry s i (omega arith) d) (entry-within (i - entriesAt s) (omega arith)))
+      (λ d. by-cases (decLt i (valuesAt s)) (λ (e : i < valuesAt s). rw (← at-task s i (omega arith) e) (omega arith))
+      (λ e. by-cases (decLt i (earlierAt s))
+      (λ (f : i < earlierAt s). rw (← at-value s i (omega arith) f) (value-within (i - valuesAt s) (omega arith)))
+      (λ f. by-cases (decLt i (laterAt s)) (λ (g : i < laterAt s). rw (← at-earlier s i (omega arith) g) (omega arith))
+      (λ g. rw (← at-later s i (omega arith)) (omega arith))))))))
 
 -- ---- the sizes
 module _ (s : Sizes) (k : ℕ) where

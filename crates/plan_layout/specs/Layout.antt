@@ -1,5 +1,5 @@
 -- What each byte of a plan holds, by the plan's sizes (01: "What a book is"). Definitions only.
-use Prim.Native.Nat.{ℕ, _+_, _-_, _*_, _/_, _%_, _≤_}
+use Prim.Native.Nat.{ℕ, _+_, _-_, _*_, _/_, _%_, _<_, _≤_}
 use mathlib.Core.Bool.{cond}
 use lib.Dec.{eqb, ltb}
 use Rattle.plan_layout.specs.declared.Sizes.{Sizes}
@@ -62,3 +62,18 @@ module _ (s : Sizes) where
       (cond (ltb i earlierAt) (valuePart (i - valuesAt))
       (cond (ltb i laterAt) (Earlier (i - earlierAt))
       (Later (i - laterAt))))))))
+
+-- a part that a plan of these sizes has
+abbrev pub Within : Sizes → Part → Type 0
+Within s (Size i) = i < 8
+Within s (Start k) = k < 8
+Within s (Name k) = k < 4 * s .nodes
+Within s (Parent n) = n < s .nodes
+Within s (Kind n) = n < s .nodes
+Within s (MinutesLow n) = n < s .nodes
+Within s (MinutesHigh n) = n < s .nodes
+Within s (Task i) = i < s .conditions
+Within s (ValueLow i) = i < s .conditions
+Within s (ValueHigh i) = i < s .conditions
+Within s (Earlier j) = j < s .orders
+Within s (Later j) = j < s .orders

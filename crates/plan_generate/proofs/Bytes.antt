@@ -1,0 +1,168 @@
+-- The fields of a generated plan, as the code works them out. Assumes nothing.
+use mathlib.Core.Path.{_≡_, refl, sym, ap, _∙_}
+use mathlib.Core.Logic.{by-cases}
+use mathlib.Core.Bool.{Bool, true, false, cond}
+use mathlib.Core.List.{List, [], _∷_}
+use Prim.Native.Nat.{ℕ, zero, suc, _+_, _-_, _*_, _/_, _%_, _<_, _≤_}
+use native.Mathlib.Nat.{mod-lt}
+use native.Mathlib.Decide.{ℕ-discrete}
+use native.Mathlib.Omega.{arith}
+use lib.Dec.{eqb, leb}
+use lib.ListN.{length, getD}
+use borrow.Author.Tests.{eq-eqb, ne-eqb, le-leb, lt-leb}
+use Rattle.base.specs.Count.{countBelow}
+use Rattle.base.proofs.Count.{count-le}
+use Rattle.plan_layout.specs.declared.Sizes.{Sizes}
+use Rattle.plan_layout.specs.declared.Part.{Part}
+use Rattle.plan_layout.specs.Layout.{Limited, sizeByte, partAt}
+use Rattle.plan_layout.specs.Fields.{byteIn, byteAt}
+use Rattle.plan_draws.specs.declared.Recipe.{Recipe}
+use Rattle.plan_draws.specs.Drawn.{Allowed}
+use Rattle.plan_draws.specs.Generated.{draw, taskDraw, minutesDrawn, flagDrawn, needDrawn, leavingDrawn, comesBefore, orderNumber}
+use Rattle.plan_draws.specs.Generated.{orderedGroup, minutesIn, valueIn}
+use Rattle.plan_draws.proofs.Picked.{Picked, picked}
+use Rattle.plan_draws.proofs.Fields.{value-need, value-leaving}
+use Rattle.plan_generate.specs.Generated.{rootChar, numberChar, nameIn, parentIn, sizesIn, generated}
+use Rattle.plan_generate.specs.Inner.{Prepared}
+
+-- ---- names
+module _ (g k : ℕ) where
+  pub name-root : k / 4 ≡ 0 → getD {A = ℕ} (83 ∷ 79 ∷ 65 ∷ 75 ∷ []) (k % 4) 0 ≡ nameIn g k
+  unfolding nameIn rootChar
+  name-root e = rw (eq-eqb (k / 4) 0 e) (at (k % 4) (omega arith))
+    where
+      at : (c : ℕ) → c < 4 → getD {A = ℕ} (83 ∷ 79 ∷ 65 ∷ 75 ∷ []) c 0
+          ≡ cond (eqb c 0) 83 (cond (eqb c 1) 79 (cond (eqb c 2) 65 75))
+      at zero l = refl
+      at (suc zero) l = refl
+      at (suc (suc zero)) l = refl
+      at (suc (suc (suc zero))) l = refl
+      at (suc (suc (suc (suc c)))) l = absurd (omega arith)
+
+  pub name-group : 0 < k / 4 → k / 4 ≤ g → k % 4 ≡ 0 → 71 ≡ nameIn g k
+  unfolding nameIn numberChar
+  name-group z l e = rw (ne-eqb (k / 4) 0 (λ x. omega arith), eq-eqb (k % 4) 0 e, le-leb (k / 4) g l)
+
+  pub name-task : g < k / 4 → k % 4 ≡ 0 → 84 ≡ nameIn g k
+  unfolding nameIn numberChar
+  name-task l e = rw (ne-eqb (k / 4) 0 (λ x. omega arith), eq-eqb (k % 4) 0 e, lt-leb (k / 4) g l)
+
+  pub name-hundreds : 0 < k / 4 → k % 4 ≡ 1 → 48 + k / 4 / 100 ≡ nameIn g k
+  unfolding nameIn numberChar
+  name-hundreds z e = rw (ne-eqb (k / 4) 0 (λ x. omega arith), ne-eqb (k % 4) 0 (λ x. omega arith), eq-eqb (k % 4) 1 e)
+
+  pub name-tens : 0 < k / 4 → k % 4 ≡ 2 → 48 + k / 4 / 10 % 10 ≡ nameIn g k
+  unfolding nameIn numberChar
+  name-tens z e = rw (
+    ne-eqb (k / 4) 0 (λ x. omega arith),
+    ne-eqb (k % 4) 0 (λ x. omega arith),
+    ne-eqb (k % 4) 1 (λ x. omega arith),
+    eq-eqb (k % 4) 2 e,
+  )
+
+  pub name-ones : 0 < k / 4 → k % 4 ≡ 3 → 48 + k / 4 % 10 ≡ nameIn g k
+  unfolding nameIn numberChar
+  name-ones z e = rw (
+    ne-eqb (k / 4) 0 (λ x. omega arith),
+    ne-eqb (k % 4) 0 (λ x. omega arith),
+    ne-eqb (k % 4) 1 (λ x. omega arith),
+    ne-eqb (k % 4) 2 (λ x. omega arith),
+  )
+
+-- ---- parents
+module _ (g n : ℕ) where
+  pub parent-root : n ≡ 0 → 255 ≡ parentIn g n
+  unfolding parentIn
+  parent-root e = rw (eq-eqb n 0 e)
+
+  pub parent-group : 0 < n → n ≤ g → 0 ≡ parentIn g n
+  unfolding parentIn
+  parent-group z l = rw (ne-eqb n 0 (λ e. omega arith), le-leb n g l)
+
+  pub parent-task : g < n → 1 + (n - 1 - g) % g ≡ parentIn g n
+  unfolding parentIn
+  parent-task l = rw (ne-eqb n 0 (λ e. omega arith), lt-leb n g l)
+
+  pub turn : 0 < g → (n - 1 - g) % g < g
+  turn z = mod-lt (n - 1 - g) z
+
+-- ---- values and orders
+pub draw-small : (s n k : ℕ) → 0 < k → draw s n k < k
+unfolding draw
+draw-small s n k l = mod-lt _ l
+
+module _ (r : Recipe) where
+  pub flag-small : (j : ℕ) → flagDrawn r j < 8
+  unfolding flagDrawn
+  flag-small j = draw-small _ _ 8 (omega arith)
+
+  pub need-small : (j : ℕ) → needDrawn r j < 2
+  unfolding needDrawn
+  need-small j = draw-small _ _ 2 (omega arith)
+
+  pub leaving-small : (j : ℕ) → leavingDrawn r j < 2
+  unfolding leavingDrawn
+  leaving-small j = draw-small _ _ 2 (omega arith)
+
+  -- the high byte of a value
+  pub value-high : (i : ℕ) → i % 2 ≡ valueIn r i / 256
+  value-high i =
+      let x = flag-small (i / 2) in
+      by-cases (ℕ-discrete (i % 2) 0)
+      (λ (e : i % 2 ≡ 0). omega (arith, need-small (i / 2), value-need r i e))
+      (λ e. let z : i % 2 ≡ 1 = omega arith in omega (arith, leaving-small (i / 2), value-leaving r i z))
+
+  pub minutes-small : (n : ℕ) → minutesIn r n < 60
+  unfolding minutesIn minutesDrawn
+  minutes-small n = at (leb n (r .groups))
+    where
+      at : (x : Bool) → cond x 0 (draw (r .seed) (taskDraw r (n - 1 - r .groups)) 60) < 60
+      at true = omega arith
+      at false = draw-small _ _ 60 (omega arith)
+
+  -- the group of an order, counted from 0: it comes before the next
+  pub order-at : (m : ℕ) → m < orderNumber r → Picked (comesBefore r) (r .groups - 1) m (orderedGroup r m)
+  unfolding orderNumber orderedGroup
+  order-at m l = picked (comesBefore r) (r .groups - 1) m l
+
+  pub few-orders : orderNumber r ≤ r .groups - 1
+  unfolding orderNumber
+  few-orders = count-le (r .groups - 1) (comesBefore r)
+
+  pub sizes-limited : Allowed r → Limited (sizesIn r)
+  sizes-limited ok = record {
+    nodes = omega (arith, ok .few-groups, ok .few-tasks);
+    conditions = omega (arith, ok .few-tasks);
+    orders = omega (arith, few-orders, ok .few-groups);
+    flags = omega arith;
+  }
+
+module _ {r : Recipe} {draws ordered : List ℕ} {sizes : Sizes} (p : Prepared r draws ordered sizes) where
+  pub limited : Limited sizes
+  limited = rw (p .sized) (sizes-limited r (p .allowed))
+
+  pub size-is : (i : ℕ) → sizeByte sizes i ≡ sizeByte (sizesIn r) i
+  size-is i = ap (λ (s : Sizes). sizeByte s i) (p .sized)
+
+  pub node-in : {n : ℕ} → n < sizes .nodes → n < 1 + r .groups + r .tasks
+  node-in l = rw (p .sized) at l
+
+  pub condition-in : {i : ℕ} → i < sizes .conditions → i < 2 * r .tasks
+  condition-in l = rw (p .sized) at l
+
+  -- what the table of orders has
+  pub order-is : (j : ℕ) → j < sizes .orders → getD ordered j 0 ≡ orderedGroup r j
+  order-is j l = p .found .at j l
+
+  pub order-small : (j : ℕ) → j < sizes .orders → (j < 60) × (getD ordered j 0 < 60)
+  order-small j l =
+      let ok = p .allowed in
+      let n = p .found .number in
+      let x = order-at r j (omega arith) in
+      (omega (arith, few-orders r, ok .few-groups), omega (arith, order-is j l, x .below, ok .few-groups))
+
+  -- byte i, by the part that it holds
+  pub byte-is : (i : ℕ) {part : Part} {v : ℕ} → part ≡ partAt sizes i → v ≡ byteIn (generated r) part
+      → v ≡ byteAt (generated r) i
+  unfolding byteAt generated
+  byte-is i e v = v ∙ ap (byteIn (generated r)) (e ∙ ap (λ (s : Sizes). partAt s i) (p .sized))
