@@ -3,3 +3,4 @@ pub mod Drawn
 pub mod Picked
 pub mod Fields
 pub mod Orders
+pub mod Each

@@ -1,0 +1,62 @@
+-- The laws of `each`. Assumes nothing.
+use mathlib.Core.Path.{_≡_, refl, sym, ap, _∙_}
+use mathlib.Core.Bool.{Bool, true, false, cond}
+use mathlib.Core.List.{List, [], _∷_, _++_, append-assoc, append-nil}
+use Prim.Native.Nat.{ℕ, zero, suc, _+_, _*_, _<_, _≤_}
+use native.Mathlib.Omega.{arith}
+use lib.ListN.{length, length-append}
+use Rattle.base.specs.Count.{num, countBelow}
+use Rattle.plan_draws.specs.Drawn.{each}
+use Rattle.plan_draws.specs.Generated.{pick}
+use Rattle.plan_draws.proofs.Picked.{pick-new, pick-stays}
+
+-- one more at the end
+each-more : (f : ℕ → List (ℕ × ℕ)) (i n : ℕ) → each f i (suc n) ≡ each f i n ++ f (i + n)
+each-more f i zero = let e : i + 0 ≡ i = omega arith in rw (e, append-nil)
+each-more f i (suc n) = let e : i + suc n ≡ suc i + n = omega arith in
+    rw (e, each-more f (suc i) n) (sym (append-assoc (f i) (each f (suc i) n) (f (suc i + n))))
+
+pub each-same : (f g : ℕ → List (ℕ × ℕ)) (i n : ℕ) → ((m : ℕ) → i ≤ m → m < i + n → f m ≡ g m) → each f i n ≡ each g i n
+each-same f g i zero h = refl
+each-same f g i (suc n) h = rw (h i (omega arith) (omega arith), each-same f g (suc i) n (λ m l u. h m (omega arith) (omega arith)))
+
+-- w of each
+pub each-long : (f : ℕ → List (ℕ × ℕ)) (w : ℕ) → ((m : ℕ) → length (f m) ≡ w) → (i n : ℕ) → length (each f i n) ≡ w * n
+each-long f w h i zero = omega arith
+each-long f w h i (suc n) = length-append (f i) (each f (suc i) n) ∙ omega (arith, h i, each-long f w h (suc i) n)
+
+-- of those below n the ones that pass a test, by their numbers or in turn
+module _ (q : ℕ → Bool) (f : ℕ → ℕ × ℕ) where
+  abbrev numbered : ℕ → ℕ → List (ℕ × ℕ)
+  numbered n m = f (pick q n m) ∷ []
+
+  abbrev passing : ℕ → List (ℕ × ℕ)
+  passing i = cond (q i) (f i ∷ []) []
+
+  -- one more number n, where those below it are right
+  module _ (n : ℕ) (right : each (numbered n) 0 (countBelow n q) ≡ each passing 0 n) where
+    before : each (numbered (suc n)) 0 (countBelow n q) ≡ each passing 0 n
+    before = each-same (numbered (suc n)) (numbered n) 0 (countBelow n q)
+        (λ m l u. ap (λ (k : ℕ). f k ∷ []) (pick-stays q n (suc n) m (omega arith) (omega arith)))
+        ∙ right
+
+    passes : q n ≡ true → each (numbered (suc n)) 0 (suc (countBelow n q)) ≡ each passing 0 (suc n)
+    passes e =
+        let x : 0 + countBelow n q ≡ countBelow n q = omega arith in
+        let y : 0 + n ≡ n = omega arith in
+        each-more (numbered (suc n)) 0 (countBelow n q)
+        ∙ rw (x, pick-new q n e, before) (sym (rw (y, e) at (each-more passing 0 n)))
+
+    fails : q n ≡ false → each (numbered (suc n)) 0 (countBelow n q) ≡ each passing 0 (suc n)
+    fails e = let y : 0 + n ≡ n = omega arith in
+        before ∙ sym (rw (y, e, append-nil) at (each-more passing 0 n))
+
+    picked-more : (b : Bool) → q n ≡ b → each (numbered (suc n)) 0 (countBelow n q + num b) ≡ each passing 0 (suc n)
+    picked-more true e = let x : countBelow n q + 1 ≡ suc (countBelow n q) = omega arith in rw x (passes e)
+    picked-more false e = let x : countBelow n q + 0 ≡ countBelow n q = omega arith in rw x (fails e)
+
+  pub each-picked : (n : ℕ) → each (λ m. f (pick q n m) ∷ []) 0 (countBelow n q)
+      ≡ each (λ i. cond (q i) (f i ∷ []) []) 0 n
+  unfolding countBelow
+  each-picked zero = refl
+  each-picked (suc n) = picked-more n (each-picked n) (q n) refl
