@@ -117,7 +117,7 @@ module _ (r : Recipe) where
   all-to = each-to (r .seed) (λ i. (2, draw (r .seed) i 2) ∷ []) (λ i. i) (λ i ds d. to-first (r .seed) i refl d) 0 (r .groups)
       (tasksDrawn ++ ordersDrawn) tasks-to
 
-  pub draws-of : Draws r
+  unfoldable pub draws-of : Draws r
   draws-of = record {
     kind = kindDrawn r;
     before = beforeDrawn r;

@@ -58,6 +58,10 @@ module _ (r : Recipe) where
   unfolding kindIn
   kind-root n e = rw (eq-eqb n 0 e)
 
+  pub kind-drawn : (n : ℕ) → 0 < n → n ≤ r .groups → 1 + kindDrawn r (n - 1) ≡ kindIn r n
+  unfolding kindIn
+  kind-drawn n z l = rw (ne-eqb n 0 (λ e. omega arith), le-leb n (r .groups) l)
+
   pub kind-task : (n : ℕ) → r .groups < n → 0 ≡ kindIn r n
   unfolding kindIn
   kind-task n l = rw (ne-eqb n 0 (λ e. omega arith), lt-leb n (r .groups) l)
@@ -65,6 +69,10 @@ module _ (r : Recipe) where
   pub minutes-group : (n : ℕ) → n ≤ r .groups → 0 ≡ minutesIn r n
   unfolding minutesIn
   minutes-group n l = rw (le-leb n (r .groups) l)
+
+  pub minutes-drawn : (n : ℕ) → r .groups < n → minutesDrawn r (n - 1 - r .groups) ≡ minutesIn r n
+  unfolding minutesIn
+  minutes-drawn n l = rw (lt-leb n (r .groups) l)
 
   -- ---- values of conditions
   pub value-need : (i : ℕ) → i % 2 ≡ 0 → valueIn r i ≡ flagDrawn r (i / 2) + 64 * needDrawn r (i / 2)
@@ -78,20 +86,15 @@ module _ (r : Recipe) where
 -- ---- what is read from the table
 module _ (r : Recipe) (ok : Allowed r) (draws : List ℕ) (d : Drew (r .seed) draws) where
   pub kind-group : (n : ℕ) → 0 < n → n ≤ r .groups → 1 + getD draws (n - 1) 0 % 2 ≡ kindIn r n
-  unfolding kindIn kindDrawn
-  kind-group n z l = rw (
-    ne-eqb n 0 (λ e. omega arith),
-    le-leb n (r .groups) l,
-    drawn-at d (n - 1) 2 (omega (arith, ok .few-groups)),
-  )
+  unfolding kindDrawn
+  kind-group n z l = ap (λ (k : ℕ). 1 + k) (drawn-at d (n - 1) 2 (omega (arith, ok .few-groups))) ∙ kind-drawn r n z l
 
   pub minutes-task : (n : ℕ) → r .groups < n → n < 1 + r .groups + r .tasks
       → getD draws (r .groups + 4 * (n - 1 - r .groups)) 0 % 60 ≡ minutesIn r n
-  unfolding minutesIn minutesDrawn taskDraw
-  minutes-task n h l = rw (
-    lt-leb n (r .groups) h,
-    drawn-at d (r .groups + 4 * (n - 1 - r .groups)) 60 (omega (arith, ok .few-groups, ok .few-tasks)),
-  )
+  unfolding minutesDrawn taskDraw
+  minutes-task n h l =
+      drawn-at d (r .groups + 4 * (n - 1 - r .groups)) 60 (omega (arith, ok .few-groups, ok .few-tasks))
+      ∙ minutes-drawn r n h
 
   module _ (i : ℕ) (l : i < 2 * r .tasks) where
     first : ℕ

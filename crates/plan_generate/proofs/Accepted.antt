@@ -8,7 +8,7 @@ use native.Mathlib.Nat.{mod-eq-of-lt, zero-div}
 use native.Mathlib.Decide.{ℕ-discrete, decLe}
 use native.Mathlib.Omega.{arith}
 use lib.Dec.{eqb, leb}
-use borrow.Author.Tests.{eq-eqb, ne-eqb, le-leb}
+use borrow.Author.Tests.{le-leb}
 use Rattle.plan_codes.specs.Names.{nameAllowed}
 use Rattle.plan_codes.specs.Values.{flagOf, signOf, placeOf}
 use Rattle.plan_rules.specs.Rules.{refusal}
@@ -20,7 +20,7 @@ use Rattle.plan_draws.specs.Drawn.{Allowed}
 use Rattle.plan_draws.specs.Generated.{draw, kindDrawn, flagDrawn, needDrawn, leavingDrawn, comesBefore, orderNumber}
 use Rattle.plan_draws.specs.Generated.{orderedGroup, kindIn, minutesIn, valueIn}
 use Rattle.plan_draws.proofs.Picked.{pick-rises}
-use Rattle.plan_draws.proofs.Fields.{kind-root, kind-task, minutes-group, value-need, value-leaving}
+use Rattle.plan_draws.proofs.Fields.{kind-root, kind-drawn, kind-task, minutes-group, value-need, value-leaving}
 use Rattle.plan_generate.specs.Generated.{rootChar, numberChar, nameIn, parentIn, sizesIn, generated}
 use Rattle.plan_generate.proofs.Bytes.{parent-root, parent-group, parent-task, turn, draw-small, flag-small, need-small}
 use Rattle.plan_generate.proofs.Bytes.{leaving-small, minutes-small, order-at, few-orders}
@@ -75,9 +75,7 @@ module _ (r : Recipe) (ok : Allowed r) where
   kind-small i = draw-small _ _ 2 (omega arith)
 
   kind-group : (n : ℕ) → 0 < n → n ≤ r .groups → (1 ≤ kindIn r n) × (kindIn r n ≤ 2)
-  unfolding kindIn
-  kind-group n z l = rw (ne-eqb n 0 (λ e. omega arith), le-leb n (r .groups) l)
-      (omega arith, omega (arith, kind-small (n - 1)))
+  kind-group n z l = let e = kind-drawn r n z l in (omega arith, omega (arith, kind-small (n - 1)))
 
   kind-limit : (n : ℕ) → kindIn r n ≤ 3
   kind-limit n =

@@ -1,3 +1,4 @@
 -- Every generated plan is accepted (`generated-accepted`), and is the plan of its recipe in 02's words (`is-generated`).
 pub mod Bytes
 pub mod Accepted
+pub mod Words
