@@ -112,9 +112,9 @@ module _ (r : Recipe) where
       (λ j. (60, minutesDrawn r j) ∷ (8, flagDrawn r j) ∷ (2, needDrawn r j) ∷ (2, leavingDrawn r j) ∷ [])
       (taskDraw r) task-to 0 (r .tasks) ordersDrawn orders-to)
 
-  all-to : Drawn (r .seed) (groupList (kindDrawn r) (r .groups) ++ (tasksDrawn ++ ordersDrawn))
+  pub all-drawn : Drawn (r .seed) (groupList (kindDrawn r) (r .groups) ++ (tasksDrawn ++ ordersDrawn))
   unfolding stateAfter kindDrawn
-  all-to = each-to (r .seed) (λ i. (2, draw (r .seed) i 2) ∷ []) (λ i. i) (λ i ds d. to-first (r .seed) i refl d) 0 (r .groups)
+  all-drawn = each-to (r .seed) (λ i. (2, draw (r .seed) i 2) ∷ []) (λ i. i) (λ i ds d. to-first (r .seed) i refl d) 0 (r .groups)
       (tasksDrawn ++ ordersDrawn) tasks-to
 
   unfoldable pub draws-of : Draws r
@@ -125,7 +125,7 @@ module _ (r : Recipe) where
     flag = flagDrawn r;
     need = needDrawn r;
     leaving = leavingDrawn r;
-    drawn = rw append-assoc all-to;
+    drawn = rw append-assoc all-drawn;
   }
 
   -- the draws of a plan are those of these numbers

@@ -14,10 +14,11 @@ use Rattle.base.specs.Count.{countBelow}
 use Rattle.base.proofs.Count.{count-le}
 use Rattle.plan_layout.specs.declared.Sizes.{Sizes}
 use Rattle.plan_layout.specs.declared.Part.{Part}
-use Rattle.plan_layout.specs.Layout.{Limited, sizeByte, partAt}
+use Rattle.plan_layout.specs.Layout.{Limited, sizeByte, size, partAt}
 use Rattle.plan_layout.specs.Fields.{byteIn, byteAt}
 use Rattle.plan_draws.specs.declared.Recipe.{Recipe}
 use Rattle.plan_draws.specs.Drawn.{Allowed}
+use Rattle.plan_draws.specs.Inner.{Drew, OrdersFound}
 use Rattle.plan_draws.specs.Generated.{draw, taskDraw, minutesDrawn, flagDrawn, needDrawn, leavingDrawn, comesBefore, orderNumber}
 use Rattle.plan_draws.specs.Generated.{orderedGroup, minutesIn, valueIn}
 use Rattle.plan_draws.proofs.Picked.{Picked, picked}
@@ -136,6 +137,23 @@ module _ (r : Recipe) where
     orders = omega (arith, few-orders, ok .few-groups);
     flags = omega arith;
   }
+
+-- the sizes, with as many orders as were found
+module _ (r : Recipe) {found : ℕ} {ordered : List ℕ} (f : OrdersFound r found ordered) where
+  abbrev sizesWith : Sizes
+  sizesWith = record { nodes = 1 + r .groups + r .tasks; conditions = 2 * r .tasks; orders = found; flags = 8 }
+
+  pub sizes-are : sizesWith ≡ sizesIn r
+  sizes-are = rw (f .number)
+
+  pub sizes-fit : Allowed r → Limited sizesWith
+  sizes-fit ok = rw (f .number) (sizes-limited r ok)
+
+  pub length-is : {n : ℕ} → n ≡ size sizesWith → n ≡ size (sizesIn r)
+  length-is e = e ∙ ap size sizes-are
+
+  pub prepared : {draws : List ℕ} → Allowed r → Drew (r .seed) draws → Prepared r draws ordered sizesWith
+  prepared ok d = record { allowed = ok; drew = d; found = f; sized = sizes-are }
 
 module _ {r : Recipe} {draws ordered : List ℕ} {sizes : Sizes} (p : Prepared r draws ordered sizes) where
   pub limited : Limited sizes

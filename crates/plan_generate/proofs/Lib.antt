@@ -2,3 +2,4 @@
 pub mod Bytes
 pub mod Accepted
 pub mod Words
+pub mod Calls

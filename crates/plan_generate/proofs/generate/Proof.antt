@@ -1,69 +1,81 @@
+-- `generate` meets its contract. Assumes nothing.
+use mathlib.Core.Path.{_≡_, refl, sym, ap, _∙_}
+use mathlib.Core.Bool.{false}
+use Prim.Native.Nat.{ℕ}
+use denote.Ref.{now}
+use native.Mathlib.Omega.{arith}
+use Rattle.base.specs.Answers.{overlay}
+use Rattle.plan_layout.specs.Fields.{byteAt}
+use Rattle.plan_generate.specs.Generated.{generated}
+use Rattle.plan_draws.specs.declared.Recipe.{Recipe}
+use Rattle.plan_draws.specs.Drawn.{Allowed}
+use Rattle.plan_generate.specs.Model.{refused30}
+use Rattle.plan_generate.proofs.Bytes.{sizes-fit, length-is, prepared}
+use Rattle.plan_generate.proofs.Calls.{allowed, generates-30, generates-15, generates-plan}
 use borrow.Author.Needs.{needs}
 use Rattle.plan_generate.proofs.generate.Statement.{statement}
 use Rattle.plan_generate.proofs.generate.Tie as tie
-use Rattle.plan_generate.proofs.generate.Reads as reads
-use Rattle.plan_generate.proofs.generate.Lts as lts
-use Rattle.plan_draws.proofs.draw_all.Reads as draw-all-reads
-use Rattle.plan_draws.proofs.find_orders.Reads as find-orders-reads
-use Rattle.plan_generate.proofs.refused.Reads as refused-reads
-use Rattle.plan_generate.proofs.write_plan.Reads as write-plan-reads
-use Rattle.plan_layout.proofs.plan_length.Reads as plan-length-reads
 
--- src/lib.rt:116:8
-refused-requires : tie.Need-refused-requires
-refused-requires c κs = search needs
-
--- src/lib.rt:117:9
 returns : tie.Need-returns
-returns c = ?
+returns c = generates-30 _ _ (sym (c .before .refused .ensures) ∙ c .if1 .taken)
 
--- src/lib.rt:119:17
-draw-all-requires : tie.Need-draw-all-requires
-draw-all-requires c κs = search needs
+-- what is left where 30 does not apply
+abbrev recipe : tie.Else1 → Recipe
+recipe c = let a = c .before .before .before .args in record { seed = a .seed; groups = a .groups; tasks = a .tasks }
 
--- src/lib.rt:121:9
+passes : (c : tie.Else1) → refused30 (recipe c) ≡ false
+passes c = sym (c .before .refused .ensures) ∙ c .if1 .left
+
+ok : (c : tie.Else1) → Allowed (recipe c)
+ok c = allowed (recipe c) (passes c)
+
 find-orders-requires : tie.Need-find-orders-requires
-find-orders-requires c κs = ?
+find-orders-requires c κs = (ok (c .before .before .before), c .before .before .draw-all .ensures, refl)
 
--- src/lib.rt:123:16
 add-t15 : tie.Need-add-t15
-add-t15 c = ?
+add-t15 c = omega (arith, ok (c .before .before .before .before) .few-groups)
 
--- src/lib.rt:123:16
 add-t16 : tie.Need-add-t16
-add-t16 c = ?
+add-t16 c = let k = ok (c .before .before .before .before) in omega (arith, k .few-groups, k .few-tasks)
 
--- src/lib.rt:124:21
 mul-t17 : tie.Need-mul-t17
-mul-t17 c = ?
+mul-t17 c = omega (arith, ok (c .before .before .before .before) .few-tasks)
 
--- src/lib.rt:128:9
 plan-length-requires : tie.Need-plan-length-requires
-plan-length-requires c κs = ?
+plan-length-requires c κs = let e = c .before .before .before .before in
+    sizes-fit (recipe e) (c .find-orders .ensures) (ok e)
 
--- src/lib.rt:130:9
 returns-2 : tie.Need-returns-2
-returns-2 c = ?
+returns-2 c =
+    let f = c .before .before in
+    let e = f .before .before .before .before in
+    generates-15 (recipe e) _ (passes e)
+    (omega (arith, c .if2 .taken, length-is (recipe e) (f .find-orders .ensures) (c .before .plan-length .ensures)))
 
--- src/lib.rt:132:5
 write-plan-requires : tie.Need-write-plan-requires
-write-plan-requires c κs = ?
+write-plan-requires c κs =
+    let f = c .before .before .before .before .before in
+    let e = f .before .before .before .before in
+    (prepared (recipe e) (f .find-orders .ensures) (ok e) (f .before .before .before .draw-all .ensures), omega arith)
 
--- src/lib.rt:107:1
-same-length : tie.Need-same-length
-same-length c = search needs
-
--- src/lib.rt:107:1
 returns-3 : tie.Need-returns-3
-returns-3 c = ?
+returns-3 c =
+    let w = c .before .before in
+    let p = w .before .before .before .before .before in
+    let f = p .before in
+    let e = f .before .before .before .before in
+    let n = length-is (recipe e) (f .find-orders .ensures) (p .plan-length .ensures) in
+    let m = length-is (recipe e) (f .find-orders .ensures) refl in
+    generates-plan (recipe e) _ (passes e) n (omega arith)
+    (w .write-plan .ensures ∙ ap (λ (k : ℕ). overlay (byteAt (generated (recipe e))) k (now (e .before .before .before .args .out))) m)
 
 pub generate-spec : {M : Type 1} → statement M
 generate-spec =
     tie.close
     (tie.spec
-    refused-requires
+    (λ c κs. search needs)
     returns
-    draw-all-requires
+    (λ c κs. search needs)
     find-orders-requires
     add-t15
     add-t16
@@ -71,5 +83,5 @@ generate-spec =
     plan-length-requires
     returns-2
     write-plan-requires
-    same-length
+    (λ c. search needs)
     returns-3)
