@@ -4,7 +4,7 @@ use mathlib.Core.Path.{_≡_}
 use mathlib.Core.Logic.{_⊎_, inl, inr, _↔_}
 use mathlib.Core.Bool.{cond}
 use mathlib.Core.List.{List}
-use Prim.Native.Nat.{ℕ, _^_}
+use Prim.Native.Nat.{ℕ, _-_, _^_}
 use lib.Dec.{eqb, ltb}
 use Rattle.plan_rules.specs.Rules.{refusal}
 use Rattle.plan_check.specs.Meaning.{planOf, startOf}
@@ -25,6 +25,9 @@ use Rattle.sequence.specs.Sequence.{sequenceAnswer, SoughtOf}
 use Rattle.members.specs.Members.{MemberCall}
 use Rattle.member_calls.specs.Calls.{MemberCalled}
 use Rattle.member_calls.specs.Model.{memberReturn}
+use Rattle.plan_draws.specs.declared.Recipe.{Recipe}
+use Rattle.plan_generate.specs.Model.{generateAnswer}
+use Rattle.plan_generate.specs.Calls.{Generates}
 use Rattle.capi_numbers.specs.Numbers.{verdictNumber, statusNumber, writtenNumber, sequenceNumber}
 
 -- r is the number of the answer for the plan and the list xs of blocked nodes: 28 and 29 in 02's words; accepted, it is
@@ -72,3 +75,13 @@ verdictBy r = cond (eqb r 128) (inr CLEAR) (cond (eqb r 129) (inr DOOMED) (cond 
 pub record MemberNumber (b ms : List ℕ) (c : MemberCall) (r : ℕ) (ms′ : List ℕ) : Type 0 where
   pub returns : r ≡ verdictNumber (memberReturn b ms c)
   pub called : MemberCalled b ms c (verdictBy r) ms′
+
+-- what the number of a length or a refusal tells
+abbrev pub writtenBy : ℕ → ℕ ⊎ ℕ
+writtenBy k = cond (ltb k 256) (inl k) (inr (k - 256))
+
+-- k is the number of the answer of a call that generates a plan; what it tells is the answer in 02's words, and out′ has
+-- every byte after it
+pub record GeneratedNumber (r : Recipe) (out : List ℕ) (k : ℕ) (out′ : List ℕ) : Type 0 where
+  pub returns : k ≡ writtenNumber (generateAnswer r out)
+  pub generates : Generates r out (writtenBy k) out′

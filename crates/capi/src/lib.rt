@@ -7,7 +7,7 @@ ghost use Rattle.runs.specs.Calls.{one, together};
 ghost use Rattle.run_state.specs.Fresh.{Freshened};
 ghost use Rattle.run_monitor.specs.Events.{Called};
 ghost use Rattle.members.specs.Members.{include, exclude};
-ghost use Rattle.capi.specs.Told.{VerdictNumber, StatusNumber, ListingNumber, SequenceNumber, MemberNumber};
+ghost use Rattle.capi.specs.Told.{VerdictNumber, StatusNumber, ListingNumber, SequenceNumber, MemberNumber, GeneratedNumber};
 use capi_numbers::sequence_number;
 use capi_numbers::status_number;
 use capi_numbers::verdict_number;
