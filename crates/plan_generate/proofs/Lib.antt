@@ -3,3 +3,4 @@ pub mod Bytes
 pub mod Accepted
 pub mod Words
 pub mod Calls
+pub mod Rows

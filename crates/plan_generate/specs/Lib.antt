@@ -4,3 +4,4 @@ pub mod Generated
 pub mod Model
 pub mod Inner
 pub mod Calls
+pub mod Rows
