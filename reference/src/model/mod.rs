@@ -7,6 +7,8 @@ pub mod tree;
 
 pub mod rules;
 
+pub mod generated;
+
 pub mod events;
 pub mod marks;
 pub mod opposed;

@@ -7,6 +7,7 @@
 
 use crate::model::calls::Call;
 use crate::model::events::Event;
+use crate::model::generated::Recipe;
 use crate::model::members::Change;
 use crate::tools::memory::Lent;
 
@@ -102,6 +103,13 @@ mod c {
             members_len: usize,
             node: usize,
         ) -> u32;
+        pub fn knowetop_generate(
+            seed: u32,
+            groups: usize,
+            tasks: usize,
+            out: *mut u8,
+            out_len: usize,
+        ) -> u32;
     }
 }
 
@@ -128,6 +136,17 @@ pub fn verdict(plan: &mut [u8], blocked: &mut [usize]) -> u32 {
 pub fn sequence(plan: &mut [u8]) -> u64 {
     // SAFETY: pointer and length are those of one slice, borrowed for the length of the call.
     unsafe { c::knowetop_sequence(plan.as_mut_ptr(), plan.len()) }
+}
+
+/// The generate call, which alone takes no plan, and is lent an output.
+pub fn generate(recipe: Recipe, out: &mut [u8]) -> u32 {
+    let Recipe {
+        seed,
+        groups,
+        tasks,
+    } = recipe;
+    // SAFETY: pointer and length are those of one slice, borrowed for the length of the call.
+    unsafe { c::knowetop_generate(seed, groups, tasks, out.as_mut_ptr(), out.len()) }
 }
 
 /// Makes the call with the blocked nodes and with its list of tasks, as far as it is to have them,
