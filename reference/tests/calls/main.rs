@@ -2,6 +2,7 @@
 
 mod blocked;
 mod damage;
+mod generated;
 mod listings;
 mod lists;
 mod members;
@@ -20,7 +21,7 @@ use reference::tools::scenario::tally::Tally;
 
 type Topic = (&'static str, fn(&mut Tally));
 
-const TOPICS: [Topic; 47] = [
+const TOPICS: [Topic; 52] = [
     ("summaries of small plans, by runs", summaries::small),
     ("summaries of large plans, by rules", summaries::large),
     ("summaries of the samples", summaries::samples),
@@ -99,12 +100,23 @@ const TOPICS: [Topic; 47] = [
     ("lists of members of every length", members::lists::lengths),
     ("lists of members, every byte", members::lists::bytes),
     ("members by other rules", members::rules::told_apart),
+    ("generated plans of every size", generated::every),
+    ("generated plans, sizes of any kind", generated::sizes),
+    (
+        "generated plans, every length of output",
+        generated::outputs,
+    ),
+    ("generated plans of many seeds", generated::seeds),
+    (
+        "generated plans by other rules",
+        generated::rules::told_apart,
+    ),
     ("plans with damaged bytes", damage::bytes),
     ("plans with damaged fields", damage::fields),
 ];
 
 /// What each call returned at least so often.
-const MET: [(&str, usize, &[RangeInclusive<u32>]); 12] = [
+const MET: [(&str, usize, &[RangeInclusive<u32>]); 13] = [
     ("verdict", 20, &[1..=14, 28..=29, 128..=130]),
     ("summary", 20, &[0..=15, 17..=17, 28..=29]),
     ("fresh", 20, &[0..=15, 28..=29]),
@@ -117,6 +129,7 @@ const MET: [(&str, usize, &[RangeInclusive<u32>]); 12] = [
     ("sequence", 20, &[1..=14, 23..=24, 256..=256]),
     ("include", 20, &[1..=17, 31..=32, 128..=130]),
     ("exclude", 20, &[1..=17, 31..=32, 128..=130]),
+    ("generate", 20, &[15..=15, 30..=30, 256..=256]),
 ];
 
 /// The topics that one thread takes, each once it is done with the last: their comparisons and seconds.

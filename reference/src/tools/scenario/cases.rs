@@ -19,7 +19,7 @@ use crate::tools::random::Random;
 use crate::tools::search::running;
 
 /// Lengths of lent memory below, at and above the length that a call needs.
-fn lengths_around(needed: usize) -> [usize; 6] {
+pub fn lengths_around(needed: usize) -> [usize; 6] {
     [0, 1, needed - 1, needed, needed + 1, needed + 40]
 }
 

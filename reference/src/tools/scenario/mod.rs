@@ -1,11 +1,12 @@
-//! What tests of the public calls are made of: cases, states, and lists of calls, of tasks, of
-//! blocked nodes and of members.
+//! What tests of the public calls are made of: cases, states, recipes of plans, and lists of calls,
+//! of tasks, of blocked nodes and of members.
 //!
 //! A case is made through a function of the form of `reference` here, so that the same case can be
 //! put to the reference and to the archive.
 
 pub mod blocked;
 pub mod cases;
+pub mod generated;
 pub mod lists;
 pub mod members;
 pub mod sequence;

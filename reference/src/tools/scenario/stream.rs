@@ -2,6 +2,7 @@
 
 use super::blocked::{any_blocked, calls};
 use super::cases::cases;
+use super::generated::{any_recipe, lengths, passing};
 use super::lists::{list, long_list};
 use super::members;
 use super::tally::Tally;
@@ -52,7 +53,7 @@ pub fn any_bytes(random: &mut Random, damage: Damage) -> Vec<u8> {
     }
 }
 
-/// A valid plan: of a few nodes, of some, or of any number up to 128.
+/// A valid plan: of a few nodes, of some, or of any number up to 128; or a generated one.
 fn any_size(random: &mut Random) -> Plan {
     let nodes = random.within(1, LIMITS.nodes);
     let sizes = Sizes {
@@ -68,17 +69,20 @@ fn any_size(random: &mut Random) -> Plan {
         flags: 64,
     };
     let shape = random.pick(&SHAPES);
-    match random.below(8) {
+    match random.below(9) {
         0..=2 => dense_plan(random, 1 + nodes % 12),
         3 | 4 => any_plan(random, few),
         5 => plan(random, sizes, shape),
         6 => clear_plan(random, sizes, shape),
-        _ => shaken_plan(random, sizes, shape),
+        7 => shaken_plan(random, sizes, shape),
+        _ => passing(random).plan().expect("a recipe that passes"),
     }
 }
 
-/// Every call on these bytes with nothing blocked, and with a list of blocked nodes of any kind.
+/// Every call on these bytes with nothing blocked, and with a list of blocked nodes of any kind;
+/// and the call that takes no plan.
 pub fn every_call(tally: &mut Tally, random: &mut Random, bytes: &[u8]) {
+    generate(tally, random);
     tally.sequence(bytes);
     with_list(tally, random, bytes, &[]);
     let blocked = match accept(bytes) {
@@ -90,6 +94,14 @@ pub fn every_call(tally: &mut Tally, random: &mut Random, bytes: &[u8]) {
     };
     if !blocked.is_empty() {
         with_list(tally, random, bytes, &blocked);
+    }
+}
+
+/// Generate calls by one recipe of any kind, with outputs of lengths around the limit.
+fn generate(tally: &mut Tally, random: &mut Random) {
+    let recipe = any_recipe(random);
+    for len in lengths(recipe) {
+        tally.generate(recipe, &random.bytes(len));
     }
 }
 

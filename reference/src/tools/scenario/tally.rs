@@ -3,9 +3,11 @@
 use std::collections::BTreeMap;
 use std::fmt;
 
+use super::generated::{self, Written};
 use super::sequence::compared;
 use super::{After, Case};
 use crate::model::calls::{Answers, Call};
+use crate::model::generated::Recipe;
 use crate::tools::archive;
 
 /// How often each call returned what.
@@ -49,6 +51,18 @@ impl Tally {
             Ok(word) => {
                 self.count("sequence", u32::try_from(word).unwrap_or(256));
                 word
+            }
+            Err(message) => panic!("the archive differs: {message}"),
+        }
+    }
+
+    /// Archive and reference agree on what a generate call with this output returns and leaves.
+    #[track_caller]
+    pub fn generate(&mut self, recipe: Recipe, out: &[u8]) -> Written {
+        match generated::compared(recipe, out, archive::generate) {
+            Ok(written) => {
+                self.count("generate", written.returned);
+                written
             }
             Err(message) => panic!("the archive differs: {message}"),
         }
