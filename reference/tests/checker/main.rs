@@ -4,6 +4,7 @@
 mod agreement;
 mod blocked;
 mod clobbering;
+mod generated;
 mod lists;
 mod members;
 mod memory;
