@@ -1,6 +1,8 @@
-/* Knowetop: the calls on a plan, a byte string of plan_len bytes. Every call makes all its checks, lowest number first but for 25 and 26 (below), 27, which is in the place of 17, and 28
-   and 29, which come after 14 and before 15, on any bytes of any length, and a refused call changes no lent byte. Pointers are not null, even where a length is 0; a slice that a call may
-   write overlaps no other.
+/* Knowetop: the calls on a plan, a byte string of plan_len bytes, and one that makes a plan. Every
+   call makes all its checks, lowest number first but for 25 and 26 (below), 27, which is in the
+   place of 17, 28 and 29, which come after 14 and before 15, and 30, which comes before 15, on any
+   bytes of any length and on any numbers, and a refused call changes no lent byte. Pointers are not
+   null, even where a length is 0; a slice that a call may write overlaps no other.
 
    Most calls take a list of blocked nodes, blocked_len numbers, and are answered as if these nodes and all that is under them were absent from the plan; with blocked_len 0 nothing is
    blocked. What can be blocked is a branch, a child of an any-of or optional group. 28: the list does not strictly rise, or names the root, no node, or a node whose parent is neither an
@@ -88,6 +90,20 @@ uint64_t knowetop_sequence(const uint8_t *plan, size_t plan_len);
    already; exclude: it is not aboard). They take no list of blocked nodes. */
 uint32_t knowetop_include(const uint8_t *plan, size_t plan_len, uint8_t *members, size_t members_len, size_t node);
 uint32_t knowetop_exclude(const uint8_t *plan, size_t plan_len, uint8_t *members, size_t members_len, size_t node);
+
+/* Generates a plan for the soak bench: writes it from the first byte of out and keeps the rest. The
+   same seed, g (groups) and t (tasks) give the same bytes everywhere, and every plan so made is
+   accepted. Node 0 is SOAK, an all-of group; then come g groups under it and t tasks, task j from 0
+   under node 1 + j mod g. Names are G or T and the node number in three digits. There are 8 flags,
+   all clear at the start. The rest is drawn: a state of 32 bits begins as the seed, and a draw
+   below k adds 2,654,435,769 to it, modulo 2^32, and gives (state / 65,536, whole) mod k. Drawn
+   are, in this order: for each group, below 2, whether it is all of (0) or any of (1); for each
+   task its minutes below 60, a flag below 8, and below 2 the sign of its need of that flag, then
+   that of its leaving; for each group but the last, below 2, whether it is before the next (1).
+   Returns 256 + the length of the plan, which is 1,462 at most; or 30 (g is not 1 to 60, or t is
+   not g to 60), whatever out_len is, or 15 (out_len under the length). It takes no plan. */
+#define KNOWETOP_PLAN 256
+uint32_t knowetop_generate(uint32_t seed, size_t groups, size_t tasks, uint8_t *out, size_t out_len);
 
 #ifdef __cplusplus
 }

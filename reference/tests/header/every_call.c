@@ -1,5 +1,6 @@
-/* Plan B of document 01 through every call of knowetop.h, as C11 and as C++17. The argument is the
-   path of samples/b.plan. What is expected was made by hand from 01 and 02. */
+/* Plan B of document 01 through every call of knowetop.h that takes a plan, and the one that makes
+   a plan, as C11 and as C++17. The argument is the path of samples/b.plan. What is expected was
+   made by hand from 01 and 02. */
 #include "knowetop.h"
 
 #undef NDEBUG
@@ -309,6 +310,38 @@ static void members(const uint8_t *plan, size_t len)
     assert(kept(list + NODES, sizeof list - NODES));
 }
 
+/* One group of one task: the upper halves of the states are 40505, 15472, 55975, 30943 and 5910.
+   The task needs flag 7 set, which it is not at the start. */
+static void generate(void)
+{
+    static const uint8_t wanted[] = {
+        3, 0, 2, 0, 0, 0, 8, 0,
+        0, 0, 0, 0, 0, 0, 0, 0,
+        'S', 'O', 'A', 'K', 'G', '0', '0', '1', 'T', '0', '0', '2',
+        255, 1, 0, 0, 0, 2, 0, 0, 1, 0, 52, 0, /* any of, 52 minutes */
+        2, 2, 71, 0, 7, 1, /* needs flag 7 set, leaves it clear */
+    };
+    enum { MADE = sizeof wanted };
+    uint8_t out[1462];
+    memset(out, 7, sizeof out);
+    assert(knowetop_generate(0, 0, 1, out, sizeof out) == 30);
+    assert(knowetop_generate(0, 61, 61, out, sizeof out) == 30);
+    assert(knowetop_generate(0, 2, 1, out, sizeof out) == 30);
+    assert(knowetop_generate(0, 1, 61, out, 0) == 30);
+    assert(knowetop_generate(0, SIZE_MAX, SIZE_MAX, out, 0) == 30);
+    assert(knowetop_generate(100000, 1, 1, out, 0) == 15);
+    assert(knowetop_generate(100000, 1, 1, out, MADE - 1) == 15);
+    assert(kept(out, sizeof out));
+
+    assert(knowetop_generate(100000, 1, 1, out, MADE) == KNOWETOP_PLAN + MADE);
+    assert(same(out, wanted, MADE) && kept(out + MADE, sizeof out - MADE));
+    assert(knowetop_refusal(out, MADE) == 0);
+    assert(knowetop_verdict(out, MADE, none, 0) == KNOWETOP_DOOMED);
+
+    assert(knowetop_generate(UINT32_MAX, 60, 60, out, sizeof out) == KNOWETOP_PLAN + 1404);
+    assert(knowetop_refusal(out, 1404) == 0 && kept(out + 1404, sizeof out - 1404));
+}
+
 int main(int argc, char **argv)
 {
     uint8_t plan[82 + 1], lent[82];
@@ -327,6 +360,7 @@ int main(int argc, char **argv)
     listing(lent, sizeof lent);
     sequence(lent, sizeof lent);
     members(lent, sizeof lent);
+    generate();
     assert(same(lent, plan, sizeof lent));
     return 0;
 }
