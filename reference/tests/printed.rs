@@ -47,6 +47,7 @@ fn prints_each_sample() {
         ("calibration-optional", "CLEAR 63"),
         ("equal-waits", "CLEAR 18"),
         ("finish-together", "OPEN 10"),
+        ("generated", "CLEAR 98"),
         ("large", "DOOMED 393546"),
         ("nodes-128", "CLEAR 0"),
         ("one-task", "CLEAR 0"),

@@ -12,7 +12,7 @@ use reference::tools::archive;
 use reference::tools::text::{make, show, Error, Source};
 
 /// Each sample with its length and its refusal.
-const SAMPLES: [(&str, usize, u32); 24] = [
+const SAMPLES: [(&str, usize, u32); 25] = [
     ("b", 82, 0),
     ("b-flag-set", 82, 0),
     ("b-without-order", 80, 0),
@@ -21,6 +21,7 @@ const SAMPLES: [(&str, usize, u32); 24] = [
     ("equal-waits", 90, 0),
     ("fifteen-bytes", 15, 1),
     ("finish-together", 46, 0),
+    ("generated", 148, 0),
     ("incondition-broken", 49, 0),
     ("large", 5136, 0),
     ("members", 133, 0),

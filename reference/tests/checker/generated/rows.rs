@@ -4,7 +4,7 @@
 use reference::model::generated::Recipe;
 
 use super::{generate, generated};
-use crate::{plan, verdict, CLEAR, DOOMED, OPEN};
+use crate::{listed, plan, sample, verdict, CLEAR, DOOMED, OPEN};
 
 /// These bytes are written to an output of their length and to a longer one, and nothing to one
 /// that is a byte shorter.
@@ -146,6 +146,24 @@ fn of_each_verdict() {
         check(recipe, &bytes);
         assert_eq!(verdict(&bytes), want, "{recipe:?}");
     }
+}
+
+/// The rows of `samples/README.md`.
+#[test]
+fn sample_of_the_bench() {
+    let bytes = sample("generated");
+    for seed in [0, 1, 978] {
+        check(Recipe::new(seed, 3, 7), &bytes);
+    }
+    assert_ne!(generated(Recipe::new(979, 3, 7)), bytes);
+    for (groups, tasks) in [(3, 2), (0, 7), (3, 61), (61, 61)] {
+        let recipe = Recipe::new(1, groups, tasks);
+        assert_eq!(generate(recipe, &[]).returned, 30, "{recipe:?}");
+    }
+    assert_eq!(
+        listed(&bytes),
+        "CLEAR 98\nT005 41\nT008 41\nT004 0\nT006 0\nT007 0\nT009 0\nT010 0\n"
+    );
 }
 
 /// A hash of bytes (FNV-1a of 64 bits).

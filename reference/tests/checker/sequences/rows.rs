@@ -301,6 +301,7 @@ fn samples() {
     // Its children are 1, 2 and 7.
     let of_noisy = ANY_OF_THREE.map(|list| list.map(|child| [1, 2, 7][child - 1]));
     check(&sample("branch-blocked"), &of_noisy);
+    check(&sample("generated"), &[[1, 2, 3], [1, 3, 2], [3, 1, 2]]);
     check(
         &sample("members"),
         &[[1, 4, 7, 10], [1, 4, 10, 7], [1, 10, 4, 7], [10, 1, 4, 7]],
