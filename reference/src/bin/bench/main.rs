@@ -1,11 +1,12 @@
-//! Times calls of the archive on plans of 128 nodes and 64 flags, and prints the tables of docs/.
-//! No test depends on a time.
+//! Times calls of the archive on plans of 128 nodes and 64 flags, and the call that makes plans,
+//! and prints the tables of docs/. No test depends on a time.
 //!
 //! Its modules in their order: timing; shapes, costs; plans, plain, verdicts, blocked, names,
-//! sequences, members.
+//! sequences, members, generated.
 
 mod blocked;
 mod costs;
+mod generated;
 mod members;
 mod names;
 mod plain;
@@ -25,6 +26,7 @@ bench blocked  the verdict with nothing, few and many branches blocked, and by p
 bench names    rule 5 on a plan of the greatest size by both
 bench sequence the search for a sequence, by both, where many prefixes have to be tried
 bench members  include and exclude of a child of the root, beside the verdict
+bench generate generated plans, beside the checks of the same plan
 bench cost     every call on plans of many shapes, the table of docs/costs.md";
 
 fn main() -> ExitCode {
@@ -37,6 +39,7 @@ fn main() -> ExitCode {
         ["names"] => names::print(),
         ["sequence"] => sequences::print(),
         ["members"] => members::print(),
+        ["generate"] => generated::print(),
         ["cost"] => costs::print(),
         _ => {
             eprintln!("{USAGE}");
