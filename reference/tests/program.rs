@@ -21,7 +21,8 @@ fn run(arguments: &[&str], input: &[u8]) -> (bool, Vec<u8>, String) {
         .stderr(Stdio::piped())
         .spawn()
         .unwrap();
-    program.stdin.take().unwrap().write_all(input).unwrap();
+    // A program that refuses its arguments may end before it is handed its input.
+    let _ = program.stdin.take().unwrap().write_all(input);
     let end = program.wait_with_output().unwrap();
     let said = String::from_utf8(end.stderr).unwrap();
     (end.status.success(), end.stdout, said)
