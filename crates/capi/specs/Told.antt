@@ -80,8 +80,8 @@ pub record MemberNumber (b ms : List ℕ) (c : MemberCall) (r : ℕ) (ms′ : Li
 abbrev pub writtenBy : ℕ → ℕ ⊎ ℕ
 writtenBy k = cond (ltb k 256) (inl k) (inr (k - 256))
 
--- k is the number of the answer of a call that generates a plan; what it tells is the answer in 02's words, and out′ has
--- every byte after it
+-- k is the number of the answer of a call that generates a plan; what it tells is the answer in 02's words, and out′
+-- has every byte after it
 pub record GeneratedNumber (r : Recipe) (out : List ℕ) (k : ℕ) (out′ : List ℕ) : Type 0 where
   pub returns : k ≡ writtenNumber (generateAnswer r out)
   pub generates : Generates r out (writtenBy k) out′

@@ -1,12 +1,12 @@
 -- The draws that 02 makes one after another, by their numbers: there are such draws, and no others. Assumes nothing.
-use mathlib.Core.Path.{_≡_, refl, sym, ap, _∙_}
+use mathlib.Core.Path.{_≡_, refl, ap}
 use mathlib.Core.Logic.{by-cases}
 use mathlib.Core.List.{List, [], _∷_, _++_, append-assoc, append-nil}
-use Prim.Native.Nat.{ℕ, zero, suc, _+_, _-_, _*_, _/_, _%_, _<_, _≤_}
+use Prim.Native.Nat.{ℕ, zero, suc, _+_, _-_, _<_, _≤_}
 use native.Mathlib.Decide.{ℕ-discrete}
 use native.Mathlib.Omega.{arith}
 use Rattle.plan_draws.specs.declared.Recipe.{Recipe}
-use Rattle.plan_draws.specs.Drawn.{next, Drawn, none, more, each, Draws}
+use Rattle.plan_draws.specs.Drawn.{Drawn, none, more, each, Draws}
 use Rattle.plan_draws.specs.Generated.{stateAfter, given, draw, kindDrawn, taskDraw, minutesDrawn, flagDrawn}
 use Rattle.plan_draws.specs.Generated.{needDrawn, leavingDrawn, beforeDrawn}
 
@@ -114,8 +114,8 @@ module _ (r : Recipe) where
 
   pub all-drawn : Drawn (r .seed) (groupList (kindDrawn r) (r .groups) ++ (tasksDrawn ++ ordersDrawn))
   unfolding stateAfter kindDrawn
-  all-drawn = each-to (r .seed) (λ i. (2, draw (r .seed) i 2) ∷ []) (λ i. i) (λ i ds d. to-first (r .seed) i refl d) 0 (r .groups)
-      (tasksDrawn ++ ordersDrawn) tasks-to
+  all-drawn = each-to (r .seed) (λ i. (2, draw (r .seed) i 2) ∷ []) (λ i. i) (λ i ds d. to-first (r .seed) i refl d)
+      0 (r .groups) (tasksDrawn ++ ordersDrawn) tasks-to
 
   unfoldable pub draws-of : Draws r
   draws-of = record {
@@ -156,7 +156,8 @@ module _ (r : Recipe) where
       (λ i ds h. of-first (r .seed) i h) 0 (r .groups)
       (taskList (d .minutes) (d .flag) (d .need) (d .leaving) ++ groupList (d .before) (r .groups - 1))
       (rw append-assoc at (d .drawn)) in
-      let b = each-of (r .seed) (λ j. (60, d .minutes j) ∷ (8, d .flag j) ∷ (2, d .need j) ∷ (2, d .leaving j) ∷ []) (taskDraw r)
+      let b = each-of (r .seed)
+      (λ j. (60, d .minutes j) ∷ (8, d .flag j) ∷ (2, d .need j) ∷ (2, d .leaving j) ∷ []) (taskDraw r)
       (λ j. (d .minutes j ≡ minutesDrawn r j) × (d .flag j ≡ flagDrawn r j) × (d .need j ≡ needDrawn r j)
       × (d .leaving j ≡ leavingDrawn r j))
       (task-of (d .minutes) (d .flag) (d .need) (d .leaving)) 0 (r .tasks) (groupList (d .before) (r .groups - 1))

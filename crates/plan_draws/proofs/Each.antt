@@ -18,7 +18,10 @@ each-more f i (suc n) = let e : i + suc n ≡ suc i + n = omega arith in
 
 pub each-same : (f g : ℕ → List (ℕ × ℕ)) (i n : ℕ) → ((m : ℕ) → i ≤ m → m < i + n → f m ≡ g m) → each f i n ≡ each g i n
 each-same f g i zero h = refl
-each-same f g i (suc n) h = rw (h i (omega arith) (omega arith), each-same f g (suc i) n (λ m l u. h m (omega arith) (omega arith)))
+each-same f g i (suc n) h = rw (
+  h i (omega arith) (omega arith),
+  each-same f g (suc i) n (λ m l u. h m (omega arith) (omega arith)),
+)
 
 -- w of each
 pub each-long : (f : ℕ → List (ℕ × ℕ)) (w : ℕ) → ((m : ℕ) → length (f m) ≡ w) → (i n : ℕ) → length (each f i n) ≡ w * n

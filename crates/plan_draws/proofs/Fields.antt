@@ -1,24 +1,20 @@
 -- The table of draws as it is filled, and the fields of nodes and conditions by the table. Assumes nothing.
-use mathlib.Core.Path.{_≡_, refl, sym, ap, _∙_}
+use mathlib.Core.Path.{_≡_, refl, ap, _∙_}
 use mathlib.Core.Logic.{by-cases}
-use mathlib.Core.Bool.{Bool, true, false}
 use mathlib.Core.List.{List}
-use Prim.Native.Nat.{ℕ, zero, suc, _+_, _-_, _*_, _/_, _%_, _^_, _<_, _≤_}
+use Prim.Native.Nat.{ℕ, _+_, _-_, _*_, _/_, _%_, _<_, _≤_}
 use native.Mathlib.Decide.{ℕ-discrete}
 use native.Mathlib.Numerals.{add-one}
 use native.Mathlib.Omega.{arith}
 use lib.ListN.{length, getD, set, length-set}
 use lib.Seq.{getD-set-same, getD-set-other}
 use borrow.Author.Tests.{eq-eqb, ne-eqb, le-leb, lt-leb}
-use Rattle.base.specs.Count.{num, countBelow}
-use Rattle.base.proofs.Count.{count-more, count-le}
 use Rattle.plan_draws.specs.declared.Recipe.{Recipe}
 use Rattle.plan_draws.specs.Drawn.{Allowed, next}
-use Rattle.plan_draws.specs.Generated.{stateAfter, given, draw, pick, kindDrawn, taskDraw, minutesDrawn, flagDrawn}
-use Rattle.plan_draws.specs.Generated.{needDrawn, leavingDrawn, beforeDrawn, comesBefore, orderNumber, orderedGroup}
+use Rattle.plan_draws.specs.Generated.{stateAfter, given, draw, kindDrawn, taskDraw, minutesDrawn, flagDrawn}
+use Rattle.plan_draws.specs.Generated.{needDrawn, leavingDrawn}
 use Rattle.plan_draws.specs.Generated.{kindIn, minutesIn, valueIn}
-use Rattle.plan_draws.specs.Inner.{DRAWS, GROUPS, Drew, OrdersFound}
-use Rattle.plan_draws.proofs.Picked.{pick-new, pick-stays}
+use Rattle.plan_draws.specs.Inner.{DRAWS, Drew}
 
 -- ---- the first n draws are made, and the state is the one after them
 pub record DrewTo (seed : ℕ) (draws : List ℕ) (state n : ℕ) : Type 0 where
@@ -48,7 +44,8 @@ pub drew-all : {seed : ℕ} {draws : List ℕ} {state n : ℕ} → DRAWS ≤ n �
 drew-all l d = record { at = λ m h. d .at m (omega arith) }
 
 -- a draw that is read from the table, below k
-pub drawn-at : {seed : ℕ} {draws : List ℕ} → Drew seed draws → (n k : ℕ) → n < DRAWS → getD draws n 0 % k ≡ draw seed n k
+pub drawn-at : {seed : ℕ} {draws : List ℕ} → Drew seed draws → (n k : ℕ) → n < DRAWS
+    → getD draws n 0 % k ≡ draw seed n k
 unfolding draw
 drawn-at d n k l = rw (d .at n l)
 

@@ -1,4 +1,5 @@
--- The numbers of the draws that 02 makes one after another (`draws-of`, `draws-only`), and the tables of draws and orders.
+-- The draws that 02 makes one after another, by their numbers (`draws-of`, `draws-only`); the tables of draws and of
+-- orders as they are filled.
 pub mod Drawn
 pub mod Picked
 pub mod Fields

@@ -1,4 +1,5 @@
--- What is drawn for a generated plan, computed: each draw by its number, and the fields that it gives. Definitions only.
+-- What is drawn for a generated plan, computed: each draw by its number, and the fields that it gives. Definitions
+-- only.
 use Prim.Native.Nat.{ℕ, zero, suc, _+_, _-_, _*_, _/_, _%_}
 use mathlib.Core.Bool.{Bool, cond, _&&_}
 use lib.Dec.{eqb, leb}

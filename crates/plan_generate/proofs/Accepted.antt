@@ -1,9 +1,9 @@
 -- "Every book made passes the book rules" (02). Assumes nothing.
 use mathlib.Core.Path.{_≡_, refl, sym, ap, _∙_}
-use mathlib.Core.Logic.{_≢_, _⊎_, inl, inr, by-cases}
+use mathlib.Core.Logic.{_≢_, inl, inr, by-cases}
 use mathlib.Core.Bool.{Bool, true, false, cond, _&&_, _||_}
 use mathlib.Core.List.{List}
-use Prim.Native.Nat.{ℕ, zero, suc, _+_, _-_, _*_, _/_, _%_, _^_, _<_, _≤_}
+use Prim.Native.Nat.{ℕ, suc, _+_, _-_, _*_, _/_, _%_, _^_, _<_, _≤_}
 use native.Mathlib.Nat.{mod-eq-of-lt, zero-div}
 use native.Mathlib.Decide.{ℕ-discrete, decLe}
 use native.Mathlib.Omega.{arith}
@@ -12,17 +12,18 @@ use borrow.Author.Tests.{le-leb}
 use Rattle.plan_codes.specs.Names.{nameAllowed}
 use Rattle.plan_codes.specs.Values.{flagOf, signOf, placeOf}
 use Rattle.plan_rules.specs.Rules.{refusal}
-use Rattle.plan_layout.specs.Fields.{Fields, Laid}
+use Rattle.plan_layout.specs.Fields.{Laid}
 use Rattle.plan_layout.proofs.Valid.{Below, Valid}
 use Rattle.plan_layout.proofs.Accepted.{accepted}
 use Rattle.plan_draws.specs.declared.Recipe.{Recipe}
 use Rattle.plan_draws.specs.Drawn.{Allowed}
-use Rattle.plan_draws.specs.Generated.{draw, kindDrawn, flagDrawn, needDrawn, leavingDrawn, comesBefore, orderNumber}
-use Rattle.plan_draws.specs.Generated.{orderedGroup, kindIn, minutesIn, valueIn}
+use Rattle.plan_draws.specs.Generated.{kindDrawn, comesBefore, orderNumber}
+use Rattle.plan_draws.specs.Generated.{orderedGroup, kindIn, valueIn}
 use Rattle.plan_draws.proofs.Picked.{pick-rises}
 use Rattle.plan_draws.proofs.Fields.{kind-root, kind-drawn, kind-task, minutes-group, value-need, value-leaving}
-use Rattle.plan_generate.specs.Generated.{rootChar, numberChar, nameIn, parentIn, sizesIn, generated}
-use Rattle.plan_generate.proofs.Bytes.{parent-root, parent-group, parent-task, turn, draw-small, flag-small, need-small}
+use Rattle.plan_generate.specs.Generated.{rootChar, numberChar, nameIn, parentIn, generated}
+use Rattle.plan_generate.proofs.Bytes.{parent-root, parent-group, parent-task, turn, draw-small, flag-small}
+use Rattle.plan_generate.proofs.Bytes.{need-small}
 use Rattle.plan_generate.proofs.Bytes.{leaving-small, minutes-small, order-at, few-orders}
 
 -- ---- names
@@ -92,8 +93,10 @@ module _ (r : Recipe) (ok : Allowed r) where
   parent-below n z =
       by-cases (decLe n (r .groups))
       (λ (l : n ≤ r .groups). rw (← parent-group (r .groups) n z l) (z, λ q. omega (arith, kind-root r 0 refl)))
-      (λ l. let x = turn (r .groups) n (ok .some-group) in rw (← parent-task (r .groups) n (omega arith))
-      (omega arith, λ q. omega (arith, kind-group (1 + (n - 1 - r .groups) % r .groups) (omega arith) (omega arith) .0)))
+      (λ l. let x = turn (r .groups) n (ok .some-group) in rw (← parent-task (r .groups) n (omega arith)) (
+        omega arith,
+        λ q. omega (arith, kind-group (1 + (n - 1 - r .groups) % r .groups) (omega arith) (omega arith) .0),
+      ))
 
   -- the first task under each group
   turned : (n : ℕ) → 0 < n → n ≤ r .groups → 1 + (r .groups + n - 1 - r .groups) % r .groups ≡ n
@@ -104,7 +107,11 @@ module _ (r : Recipe) (ok : Allowed r) where
   child : (n : ℕ) → kindIn r n ≢ 0 → (c : ℕ) × (c < 1 + r .groups + r .tasks) × (parentIn (r .groups) c ≡ n)
   child n k =
       by-cases (ℕ-discrete n 0)
-      (λ (e : n ≡ 0). (1, omega (arith, ok .some-group), sym (parent-group (r .groups) 1 (omega arith) (ok .some-group)) ∙ sym e))
+      (λ (e : n ≡ 0). (
+        1,
+        omega (arith, ok .some-group),
+        sym (parent-group (r .groups) 1 (omega arith) (ok .some-group)) ∙ sym e,
+      ))
       (λ ne. let l = not-task n k in (
         r .groups + n,
         omega (arith, ok .enough-tasks),
@@ -128,11 +135,23 @@ module _ (r : Recipe) (ok : Allowed r) where
       (λ (e : i % 2 ≡ 0).
       let v = value-need r i e in
       let y = need-small r (i / 2) in
-      record { few = omega arith; flag = omega arith; place = omega arith; low = λ u. omega arith; high = λ u. omega arith })
+      record {
+        few = omega arith;
+        flag = omega arith;
+        place = omega arith;
+        low = λ u. omega arith;
+        high = λ u. omega arith;
+      })
       (λ ne.
       let v = value-leaving r i (omega arith) in
       let y = leaving-small r (i / 2) in
-      record { few = omega arith; flag = omega arith; place = omega arith; low = λ u. omega arith; high = λ u. omega arith })
+      record {
+        few = omega arith;
+        flag = omega arith;
+        place = omega arith;
+        low = λ u. omega arith;
+        high = λ u. omega arith;
+      })
 
   value-rises : (i : ℕ) → Below (1 + r .groups + i / 2) (valueIn r i) (1 + r .groups + suc i / 2) (valueIn r (suc i))
   value-rises i =

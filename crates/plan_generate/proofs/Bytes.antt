@@ -1,5 +1,5 @@
 -- The fields of a generated plan, as the code works them out. Assumes nothing.
-use mathlib.Core.Path.{_≡_, refl, sym, ap, _∙_}
+use mathlib.Core.Path.{_≡_, refl, ap, _∙_}
 use mathlib.Core.Logic.{by-cases}
 use mathlib.Core.Bool.{Bool, true, false, cond}
 use mathlib.Core.List.{List, [], _∷_}
@@ -8,9 +8,8 @@ use native.Mathlib.Nat.{mod-lt}
 use native.Mathlib.Decide.{ℕ-discrete}
 use native.Mathlib.Omega.{arith}
 use lib.Dec.{eqb, leb}
-use lib.ListN.{length, getD}
+use lib.ListN.{getD}
 use borrow.Author.Tests.{eq-eqb, ne-eqb, le-leb, lt-leb}
-use Rattle.base.specs.Count.{countBelow}
 use Rattle.base.proofs.Count.{count-le}
 use Rattle.plan_layout.specs.declared.Sizes.{Sizes}
 use Rattle.plan_layout.specs.declared.Part.{Part}
@@ -19,7 +18,8 @@ use Rattle.plan_layout.specs.Fields.{byteIn, byteAt}
 use Rattle.plan_draws.specs.declared.Recipe.{Recipe}
 use Rattle.plan_draws.specs.Drawn.{Allowed}
 use Rattle.plan_draws.specs.Inner.{Drew, OrdersFound}
-use Rattle.plan_draws.specs.Generated.{draw, taskDraw, minutesDrawn, flagDrawn, needDrawn, leavingDrawn, comesBefore, orderNumber}
+use Rattle.plan_draws.specs.Generated.{draw, taskDraw, minutesDrawn, flagDrawn, needDrawn, leavingDrawn, comesBefore}
+use Rattle.plan_draws.specs.Generated.{orderNumber}
 use Rattle.plan_draws.specs.Generated.{orderedGroup, minutesIn, valueIn}
 use Rattle.plan_draws.proofs.Picked.{Picked, picked}
 use Rattle.plan_draws.proofs.Fields.{value-need, value-leaving}

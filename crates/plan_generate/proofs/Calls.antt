@@ -1,18 +1,18 @@
 -- What the call answers and leaves, in each of its three cases. Assumes nothing.
-use mathlib.Core.Path.{_≡_, refl, sym, ap, _∙_}
+use mathlib.Core.Path.{_≡_, refl, sym, _∙_}
 use mathlib.Core.Logic.{_⊎_, inl, inr}
-use mathlib.Core.Bool.{Bool, true, false, cond, _||_, true≢false}
+use mathlib.Core.Bool.{true, false, _||_, true≢false}
 use mathlib.Core.List.{List}
-use Prim.Native.Nat.{ℕ, zero, suc, _<_, _≤_}
+use Prim.Native.Nat.{ℕ, _<_, _≤_}
 use native.Mathlib.Omega.{arith}
 use lib.Dec.{ltb}
-use lib.ListN.{length, getD, take, replicate, length-replicate}
+use lib.ListN.{length, take, replicate, length-replicate}
 use borrow.Author.Tests.{lt-ltb, le-ltb, ltb-false}
 use Rattle.base.specs.Answers.{overlay}
-use Rattle.base.proofs.Booleans.{or-none, not-passed}
+use Rattle.base.proofs.Booleans.{or-none}
 use Rattle.base.proofs.Overlay.{length-overlay, past-overlay}
 use Rattle.plan_layout.specs.Layout.{size}
-use Rattle.plan_layout.specs.Fields.{byteAt, Laid}
+use Rattle.plan_layout.specs.Fields.{byteAt}
 use Rattle.plan_layout.proofs.Sections.{laid-in}
 use Rattle.plan_draws.specs.declared.Recipe.{Recipe}
 use Rattle.plan_draws.specs.Drawn.{Allowed}
@@ -27,7 +27,8 @@ module _ (r : Recipe) where
   pub allowed : refused30 r ≡ false → Allowed r
   unfolding refused30
   allowed h =
-      let (x, y) = or-none (ltb (r .groups) 1 || ltb 60 (r .groups)) (ltb (r .tasks) (r .groups) || ltb 60 (r .tasks)) h in
+      let (x, y) = or-none (ltb (r .groups) 1 || ltb 60 (r .groups))
+      (ltb (r .tasks) (r .groups) || ltb 60 (r .tasks)) h in
       let (a, b) = or-none (ltb (r .groups) 1) (ltb 60 (r .groups)) x in
       let (c, d) = or-none (ltb (r .tasks) (r .groups)) (ltb 60 (r .tasks)) y in
       record {
@@ -140,7 +141,8 @@ module _ (r : Recipe) (out : List ℕ) where
       unchanged = λ k z. absurd (refused-not (sym z));
       fits = λ k z. omega (arith, same-length z);
       made = λ k z. rw (q, ← same-length z, e) (plan-in r ok out l);
-      kept = λ k z i u. rw q (past-overlay (byteAt (generated r)) out (size (sizesIn r)) i (omega (arith, same-length z)));
+      kept = λ k z i u. rw q
+          (past-overlay (byteAt (generated r)) out (size (sizesIn r)) i (omega (arith, same-length z)));
       as-long = rw q (length-overlay (byteAt (generated r)) out (size (sizesIn r)));
     }
       where

@@ -1,4 +1,5 @@
--- Every generated plan is accepted (`generated-accepted`), and is the plan of its recipe in 02's words (`is-generated`).
+-- Every generated plan is accepted (`generated-accepted`), and is the plan of its recipe in 02's words
+-- (`is-generated`).
 pub mod Bytes
 pub mod Accepted
 pub mod Words

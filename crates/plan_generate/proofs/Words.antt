@@ -1,32 +1,29 @@
--- Bytes with the fields of a generated plan are the plan of its recipe in 02's words, and all such plans have one length.
--- Assumes nothing.
+-- Bytes with the fields of a generated plan are the plan of its recipe in 02's words, and all such plans have one
+-- length. Assumes nothing.
 use mathlib.Core.Path.{_≡_, refl, sym, ap, _∙_}
-use mathlib.Core.Logic.{by-cases}
-use mathlib.Core.Bool.{Bool, true, false, cond}
+use mathlib.Core.Bool.{false, cond}
 use mathlib.Core.List.{List, [], _∷_}
 use Prim.Native.Nat.{ℕ, zero, suc, _+_, _-_, _*_, _/_, _%_, _^_, _<_, _≤_}
 use native.Mathlib.Nat.{zero-div}
 use native.Mathlib.Omega.{arith}
-use lib.Dec.{eqb}
-use lib.ListN.{length, getD}
-use Rattle.base.specs.Count.{countBelow}
+use lib.ListN.{length}
 use Rattle.runs.specs.Plan.{pre, post, placeNumber}
 use Rattle.plan_codes.specs.Cases.{valueOf}
-use Rattle.plan_format.specs.Format.{nodeCount, condCount, orderCount, flagCount, startFlag, nameChar, nameOf, wholeLength}
+use Rattle.plan_format.specs.Format.{condCount, orderCount, startFlag, nameChar, nameOf, wholeLength}
 use Rattle.plan_format.specs.Format.{condNode, condValue, earlierOf, laterOf}
-use Rattle.plan_rules.specs.Rules.{refusal}
-use Rattle.plan_check.proofs.Accepted.{Clean, clean}
+use Rattle.plan_check.proofs.Accepted.{clean}
 use Rattle.plan_layout.specs.Layout.{size}
 use Rattle.plan_layout.specs.Fields.{Laid}
 use Rattle.plan_draws.specs.declared.Recipe.{Recipe}
-use Rattle.plan_draws.specs.Drawn.{Allowed, each, Draws}
-use Rattle.plan_draws.specs.Generated.{kindDrawn, minutesDrawn, flagDrawn, needDrawn, leavingDrawn, beforeDrawn, comesBefore}
-use Rattle.plan_draws.specs.Generated.{orderNumber, orderedGroup, kindIn, minutesIn, valueIn, pick}
+use Rattle.plan_draws.specs.Drawn.{Allowed, each}
+use Rattle.plan_draws.specs.Generated.{kindDrawn, minutesDrawn, flagDrawn, needDrawn, leavingDrawn, comesBefore}
+use Rattle.plan_draws.specs.Generated.{orderNumber, orderedGroup}
 use Rattle.plan_draws.proofs.Drawn.{draws-of, draws-only}
 use Rattle.plan_draws.proofs.Each.{each-same, each-long, each-picked}
-use Rattle.plan_draws.proofs.Fields.{kind-root, kind-drawn, kind-task, minutes-group, minutes-drawn, value-need, value-leaving}
+use Rattle.plan_draws.proofs.Fields.{kind-root, kind-drawn, kind-task, minutes-group, minutes-drawn, value-need}
+use Rattle.plan_draws.proofs.Fields.{value-leaving}
 use Rattle.plan_generate.specs.Words.{rootName, numbered, NodeIs, conditionPairs, orderPairs, IsGenerated}
-use Rattle.plan_generate.specs.Generated.{rootChar, nameIn, parentIn, sizesIn, generated}
+use Rattle.plan_generate.specs.Generated.{rootChar, nameIn, sizesIn, generated}
 use Rattle.plan_generate.proofs.Bytes.{name-group, name-task, name-hundreds, name-tens, name-ones, parent-root}
 use Rattle.plan_generate.proofs.Bytes.{parent-group, parent-task}
 use Rattle.plan_generate.proofs.Accepted.{generated-accepted}
@@ -44,7 +41,8 @@ module _ (r : Recipe) (ok : Allowed r) (b : List ℕ) (l : Laid b (generated r))
   module _ (n : ℕ) (z : 0 < n) (h : n < 1 + r .groups + r .tasks) where
     hundreds : nameChar b (4 * n + 1) ≡ 48 + n / 100
     hundreds = let e : (4 * n + 1) / 4 ≡ n = omega arith in
-        name-at (4 * n + 1) (omega arith) ∙ sym (name-hundreds (r .groups) (4 * n + 1) (omega arith) (omega arith)) ∙ rw e
+        name-at (4 * n + 1) (omega arith)
+        ∙ sym (name-hundreds (r .groups) (4 * n + 1) (omega arith) (omega arith)) ∙ rw e
 
     tens : nameChar b (4 * n + 2) ≡ 48 + n / 10 % 10
     tens = let e : (4 * n + 2) / 4 ≡ n = omega arith in

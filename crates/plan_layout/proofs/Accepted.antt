@@ -1,28 +1,30 @@
 -- Bytes whose fields obey the rules are accepted. Assumes nothing.
 use mathlib.Core.Path.{_≡_, refl, sym, ap, _∙_}
-use mathlib.Core.Logic.{_≢_, _⊎_, inl, inr, ⊎-elim, by-cases}
-use mathlib.Core.Bool.{Bool, true, false, cond, not, _&&_, _||_, true≢false}
+use mathlib.Core.Logic.{_≢_, inl, inr, ⊎-elim, by-cases}
+use mathlib.Core.Bool.{Bool, true, false, not, _||_, true≢false}
 use mathlib.Core.List.{List}
-use Prim.Native.Nat.{ℕ, zero, suc, _+_, _-_, _*_, _/_, _%_, _^_, _<_, _≤_}
+use Prim.Native.Nat.{ℕ, suc, _+_, _-_, _*_, _/_, _%_, _^_, _<_}
 use native.Mathlib.Decide.{ℕ-discrete}
 use native.Mathlib.Numerals.{add-one}
 use native.Mathlib.Omega.{arith}
 use lib.ListN.{length, getD}
 use lib.Dec.{eqb, ltb, leb}
 use borrow.Author.Tests.{lt-ltb, le-ltb, eq-eqb, ne-eqb, eqb-true, leb-true, ltb-true}
-use Rattle.plan_codes.specs.Names.{nameAllowed}
 use Rattle.plan_codes.specs.Values.{flagOf, signOf, placeOf, valueBad}
-use Rattle.plan_format.specs.Format.{nodeCount, condCount, orderCount, flagCount, wholeLength, startFlag, nameChar}
-use Rattle.plan_format.specs.Format.{parentOf, kindOf, minutesOf, condNode, condValue, earlierOf, laterOf, isKind, isGroup}
-use Rattle.plan_rules.specs.Rules.{cause1, cause2, cause3, badStart, cause4, badChar, cause5, badEntry, cause6, badParent}
-use Rattle.plan_rules.specs.Rules.{cause7, childless, cause8, badCondition, cause9, notBelow, notRising, cause10, bothSigns}
-use Rattle.plan_rules.specs.Rules.{cause11, postOf, noPost, cause12, isChild, badPair, badOrder, cause13, cause14, refusal}
+use Rattle.plan_format.specs.Format.{nodeCount, condCount, orderCount, flagCount, wholeLength, startFlag}
+use Rattle.plan_format.specs.Format.{parentOf, kindOf, minutesOf, condNode, condValue, earlierOf, laterOf, isKind}
+use Rattle.plan_format.specs.Format.{isGroup}
+use Rattle.plan_rules.specs.Rules.{cause1, cause2, cause3, badStart, cause4, badChar, cause5, badEntry, cause6}
+use Rattle.plan_rules.specs.Rules.{badParent}
+use Rattle.plan_rules.specs.Rules.{cause7, childless, cause8, badCondition, cause9, notBelow, notRising, cause10}
+use Rattle.plan_rules.specs.Rules.{bothSigns}
+use Rattle.plan_rules.specs.Rules.{cause11, postOf, noPost, cause12, isChild, badPair, badOrder, cause13, cause14}
+use Rattle.plan_rules.specs.Rules.{refusal}
 use Rattle.runs.specs.Searches.{anyBelow}
 use Rattle.base.proofs.Booleans.{or-split, and-both, not-passed}
 use Rattle.runs.proofs.Searches.{none-all, some-yes}
 use Rattle.plan_rules.proofs.Causes.{both-signs}
-use Rattle.plan_check.proofs.Meaning.{kind-is, kind-of, group-is}
-use Rattle.plan_layout.specs.Layout.{size}
+use Rattle.plan_check.proofs.Meaning.{kind-of, group-is}
 use Rattle.plan_layout.specs.Fields.{Fields, Laid}
 use Rattle.plan_layout.proofs.Valid.{Below, Valid}
 
@@ -61,7 +63,8 @@ module _ (b : List ℕ) (f : Fields) (l : Laid b f) (v : Valid f) where
   unfolding isGroup
   is-group i m k =
       by-cases (ℕ-discrete (f .kind i) 1) (λ (e : f .kind i ≡ 1). rw (is-kind i 1 m e))
-      (λ x. by-cases (ℕ-discrete (f .kind i) 2) (λ (e : f .kind i ≡ 2). rw (is-kind i 2 m e) (second (isKind b i 1) (isKind b i 3)))
+      (λ x. by-cases (ℕ-discrete (f .kind i) 2)
+      (λ (e : f .kind i ≡ 2). rw (is-kind i 2 m e) (second (isKind b i 1) (isKind b i 3)))
       (λ y. rw (is-kind i 3 m (omega (arith, v .kinds i m))) (third (isKind b i 1 || isKind b i 2))))
     where
       second : (x z : Bool) → (x || true || z) ≡ true
@@ -114,7 +117,8 @@ module _ (b : List ℕ) (f : Fields) (l : Laid b f) (v : Valid f) where
   no-6 : cause6 b ≡ false
   unfolding cause6 badEntry
   no-6 = none-all (nodeCount b) (badEntry b) (λ i m. not-passed _ (absurd-or _ _
-      (absurd-or _ _ (λ (h : ltb 3 (kindOf b i) ≡ true). omega (arith, ltb-true 3 (kindOf b i) h, l .kind i (node-in m), v .kinds i (node-in m)))
+      (absurd-or _ _ (λ (h : ltb 3 (kindOf b i) ≡ true).
+      omega (arith, ltb-true 3 (kindOf b i) h, l .kind i (node-in m), v .kinds i (node-in m)))
       (λ h. let (x, y) = and-both (isGroup b i) (ltb 0 (minutesOf b i)) h in
       omega (
         arith,
@@ -152,7 +156,8 @@ module _ (b : List ℕ) (f : Fields) (l : Laid b f) (v : Valid f) where
       not-passed _ (absurd-or _ _
       (λ h. true≢false (sym k ∙ ap (λ (n : ℕ). isKind b n 0) (sym (l .task i (condition-in m))) ∙ not-true _ h))
       (absurd-or _ _
-      (λ (h : ltb 383 (condValue b i) ≡ true). omega (arith, ltb-true 383 (condValue b i) h, l .value i (condition-in m)))
+      (λ (h : ltb 383 (condValue b i) ≡ true).
+      omega (arith, ltb-true 383 (condValue b i) h, l .value i (condition-in m)))
       (λ h. omega (
         arith,
         leb-true (flagCount b) (flagOf (condValue b i)) h,
@@ -164,7 +169,13 @@ module _ (b : List ℕ) (f : Fields) (l : Laid b f) (v : Valid f) where
   unfolding cause10 notRising
   no-10 = none-all (condCount b - 1) (notRising (condNode b) (condValue b)) (λ i m.
       let q = l .conditions in
-      rw (add-one i, l .task i (omega arith), l .value i (omega arith), l .task (suc i) (omega arith), l .value (suc i) (omega arith))
+      rw (
+        add-one i,
+        l .task i (omega arith),
+        l .value i (omega arith),
+        l .task (suc i) (omega arith),
+        l .value (suc i) (omega arith),
+      )
       (below-test (f .task i) (f .value i) (f .task (suc i)) (f .value (suc i)) (v .rising i (omega arith))))
 
   no-11 : cause11 b ≡ false
@@ -222,8 +233,15 @@ module _ (b : List ℕ) (f : Fields) (l : Laid b f) (v : Valid f) where
   unfolding cause14 notRising
   no-14 = none-all (orderCount b - 1) (notRising (earlierOf b) (laterOf b)) (λ i m.
       let q = l .orders in
-      rw (add-one i, l .earlier i (omega arith), l .later i (omega arith), l .earlier (suc i) (omega arith), l .later (suc i) (omega arith))
-      (below-test (f .earlier i) (f .later i) (f .earlier (suc i)) (f .later (suc i)) (v .rising-orders i (omega arith))))
+      rw (
+        add-one i,
+        l .earlier i (omega arith),
+        l .later i (omega arith),
+        l .earlier (suc i) (omega arith),
+        l .later (suc i) (omega arith),
+      )
+      (below-test (f .earlier i) (f .later i) (f .earlier (suc i)) (f .later (suc i))
+      (v .rising-orders i (omega arith))))
 
   pub accepted : refusal b ≡ 0
   unfolding refusal

@@ -2,16 +2,16 @@
 use mathlib.Core.Path.{_≡_}
 use mathlib.Core.Logic.{by-cases}
 use mathlib.Core.Bool.{Bool, true, false, cond}
-use Prim.Native.Nat.{ℕ, _+_, _-_, _*_, _/_, _%_, _<_, _≤_}
+use Prim.Native.Nat.{ℕ, _-_, _*_, _/_, _%_, _<_, _≤_}
 use native.Mathlib.Decide.{decLt}
 use native.Mathlib.Omega.{arith}
 use lib.Dec.{eqb}
 use borrow.Author.Tests.{lt-ltb, le-ltb, eq-eqb, ne-eqb}
 use Rattle.plan_layout.specs.declared.Sizes.{Sizes}
-use Rattle.plan_layout.specs.declared.Part.{Part}
 use Rattle.plan_layout.specs.declared.Part.the-variants.{Size, Start, Name, Parent, Kind, MinutesLow, MinutesHigh}
 use Rattle.plan_layout.specs.declared.Part.the-variants.{Task, ValueLow, ValueHigh, Earlier, Later}
-use Rattle.plan_layout.specs.Layout.{Limited, sizeNumber, sizeByte, entryPart, valuePart, entriesAt, tasksAt, valuesAt, earlierAt}
+use Rattle.plan_layout.specs.Layout.{Limited, sizeNumber, sizeByte, entryPart, valuePart, entriesAt, tasksAt}
+use Rattle.plan_layout.specs.Layout.{valuesAt, earlierAt}
 use Rattle.plan_layout.specs.Layout.{laterAt, size, partAt, Within}
 
 -- ---- the fields of an entry, and the halves of a value
@@ -118,7 +118,8 @@ module _ (s : Sizes) where
   unfolding entryPart
   entry-within k l = at (eqb (k % 4) 0) (eqb (k % 4) 1) (eqb (k % 4) 2)
     where
-      at : (x y z : Bool) → Within s (cond x (Parent (k / 4)) (cond y (Kind (k / 4)) (cond z (MinutesLow (k / 4)) (MinutesHigh (k / 4)))))
+      at : (x y z : Bool) → Within s (cond x (Parent (k / 4))
+          (cond y (Kind (k / 4)) (cond z (MinutesLow (k / 4)) (MinutesHigh (k / 4)))))
       at true y z = omega arith
       at false true z = omega arith
       at false false true = omega arith

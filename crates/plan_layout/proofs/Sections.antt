@@ -10,13 +10,14 @@ use Rattle.base.proofs.Overlay.{length-overlay, at-overlay}
 use Rattle.plan_format.specs.Format.{u16At, nodeCount, condCount, orderCount, flagCount, nameChar, entryAt, parentOf}
 use Rattle.plan_format.specs.Format.{kindOf, minutesOf, condNode, condValue, earlierOf, laterOf}
 use Rattle.plan_layout.specs.declared.Part.{Part}
-use Rattle.plan_layout.specs.declared.Part.the-variants.{Size, Start, Name, Parent, Kind, MinutesLow, MinutesHigh}
-use Rattle.plan_layout.specs.declared.Part.the-variants.{Task, ValueLow, ValueHigh, Earlier, Later}
-use Rattle.plan_layout.specs.Layout.{sizeNumber, sizeByte, entryPart, valuePart, entriesAt, tasksAt, valuesAt}
+use Rattle.plan_layout.specs.declared.Part.the-variants.{Size, Start, Name}
+use Rattle.plan_layout.specs.declared.Part.the-variants.{Task, Earlier, Later}
+use Rattle.plan_layout.specs.Layout.{sizeNumber, entryPart, valuePart, entriesAt, tasksAt, valuesAt}
 use Rattle.plan_layout.specs.Layout.{earlierAt, laterAt, size, partAt}
 use Rattle.plan_layout.specs.Fields.{Fields, byteIn, byteAt, Laid}
 use Rattle.plan_layout.proofs.Parts.{entry-parent, entry-kind, entry-low, entry-high, value-low, value-high}
-use Rattle.plan_layout.proofs.Parts.{at-size, at-start, at-name, at-entry, at-task, at-value, at-earlier, at-later}
+use Rattle.plan_layout.proofs.Parts.{at-size, at-start, at-name, at-entry, at-task, at-value, at-earlier}
+use Rattle.plan_layout.proofs.Parts.{at-later}
 use Rattle.plan_layout.proofs.Parts.{number-nodes, number-conditions, number-orders, number-flags}
 use Rattle.plan_layout.proofs.Parts.{size-low, size-high}
 
@@ -108,14 +109,16 @@ module _ (f : Fields) (b : List ℕ) (long : length b ≡ size (f .sizes))
       let q = nodes-are in
       let k = 16 + 8 * nodeCount b + i in
       let e : k - tasksAt (f .sizes) ≡ i = omega arith in
-      holds k (Task (k - tasksAt (f .sizes))) (omega arith) (at-task (f .sizes) k (omega arith) (omega arith)) ∙ ap (f .task) e
+      holds k (Task (k - tasksAt (f .sizes))) (omega arith) (at-task (f .sizes) k (omega arith) (omega arith))
+      ∙ ap (f .task) e
 
   -- byte k of the values
   value-byte : (k i : ℕ) → k < 2 * f .sizes .conditions → i ≡ valuesAt (f .sizes) + k
       → getD b i 0 ≡ byteIn f (valuePart k)
   value-byte k i l e =
       let x : i - valuesAt (f .sizes) ≡ k = omega arith in
-      holds i (valuePart (i - valuesAt (f .sizes))) (omega arith) (at-value (f .sizes) i (omega arith) (omega arith)) ∙ rw x
+      holds i (valuePart (i - valuesAt (f .sizes))) (omega arith) (at-value (f .sizes) i (omega arith) (omega arith))
+      ∙ rw x
 
   value-is : (i : ℕ) → i < f .sizes .conditions → condValue b i ≡ f .value i
   unfolding condValue

@@ -36,7 +36,8 @@ pub record Valid (f : Fields) : Type 0 where
   pub on-task : (i : ℕ) → i < f .sizes .conditions → (f .task i < f .sizes .nodes) × (f .kind (f .task i) ≡ 0)
   pub values : (i : ℕ) → i < f .sizes .conditions → (f .value i ≤ 383) × (flagOf (f .value i) < f .sizes .flags)
   -- 10
-  pub rising : (i : ℕ) → suc i < f .sizes .conditions → Below (f .task i) (f .value i) (f .task (suc i)) (f .value (suc i))
+  pub rising : (i : ℕ) → suc i < f .sizes .conditions
+      → Below (f .task i) (f .value i) (f .task (suc i)) (f .value (suc i))
   -- 11
   pub one-sign : (i j : ℕ) → i < f .sizes .conditions → j < f .sizes .conditions → f .task j ≡ f .task i
       → placeOf (f .value j) ≡ placeOf (f .value i) → flagOf (f .value j) ≡ flagOf (f .value i)
@@ -46,7 +47,8 @@ pub record Valid (f : Fields) : Type 0 where
       → (j : ℕ) × (j < f .sizes .conditions) × (f .task j ≡ f .task i) × (flagOf (f .value j) ≡ flagOf (f .value i))
       × (placeOf (f .value j) ≡ 2)
   -- 13
-  pub siblings : (j : ℕ) → j < f .sizes .orders → (0 < f .earlier j) × (f .earlier j < f .later j) × (f .later j < f .sizes .nodes)
+  pub siblings : (j : ℕ) → j < f .sizes .orders
+      → (0 < f .earlier j) × (f .earlier j < f .later j) × (f .later j < f .sizes .nodes)
       × (f .parent (f .earlier j) ≡ f .parent (f .later j)) × (f .kind (f .parent (f .earlier j)) ≡ 1)
   -- 14
   pub rising-orders : (j : ℕ) → suc j < f .sizes .orders

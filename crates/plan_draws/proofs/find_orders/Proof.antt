@@ -43,7 +43,8 @@ loop-again c =
     (c .if2 .came)
 
 returns : tie.Need-returns Inv-loop μ-loop
-returns c = let s = c .before .before .before .before .before in found-all _ (s .pre .0) (omega arith) (c .before .before .loop .inv)
+returns c = let l = c .before .before in
+    found-all _ (l .before .before .before .pre .0) (omega arith) (l .loop .inv)
 
 pub find-orders-spec : {M : Type 1} → statement M
 find-orders-spec =

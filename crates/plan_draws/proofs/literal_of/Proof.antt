@@ -1,5 +1,4 @@
 -- `literal_of` meets its contract. Assumes nothing.
-use native.Mathlib.Omega.{arith}
 use borrow.Author.Needs.{needs}
 use Rattle.plan_draws.proofs.Fields.{literal-is}
 use Rattle.plan_draws.proofs.literal_of.Statement.{statement}

@@ -1,8 +1,9 @@
 -- `byte_of` meets its contract. Assumes nothing.
-use mathlib.Core.Path.{_≡_, refl, ap, _∙_}
+use mathlib.Core.Path.{_∙_}
 use native.Mathlib.Omega.{arith}
 use Rattle.plan_generate.specs.Generated.{generated}
-use Rattle.plan_generate.proofs.Bytes.{limited, size-is, node-in, condition-in, order-is, order-small, minutes-small, value-high}
+use Rattle.plan_generate.proofs.Bytes.{limited, size-is, node-in, condition-in, order-is, order-small}
+use Rattle.plan_generate.proofs.Bytes.{minutes-small, value-high}
 use borrow.Author.Needs.{needs}
 use Rattle.plan_generate.proofs.byte_of.Statement.{statement}
 use Rattle.plan_generate.proofs.byte_of.Tie as tie
@@ -25,7 +26,8 @@ cast-result : tie.Need-cast-result
 cast-result c =
     let s = c .before .before .before .before in
     let p = s .pre .0 in
-    omega (arith, condition-in p (rw (c .before .before .part6 .given .1) at (s .pre .1)), p .allowed .few-groups, p .allowed .few-tasks)
+    let i = condition-in p (rw (c .before .before .part6 .given .1) at (s .pre .1)) in
+    omega (arith, i, p .allowed .few-groups, p .allowed .few-tasks)
 
 literal-of-requires : tie.Need-literal-of-requires
 literal-of-requires c κs =
@@ -75,7 +77,9 @@ returns-5 c = rw (c .before .before .part4 .given .1) (c .kind-of .ensures)
 returns-6 : tie.Need-returns-6
 unfolding generated
 returns-6 c = let e = c .minutes-of .ensures in
-    rw (c .before .before .part5 .given .1) (omega (arith, e, minutes-small (c .before .before .before .before .args .recipe) (c .before .before .part5 .given .0 .0)))
+    let p = c .before .before in
+    rw (p .part5 .given .1)
+    (omega (arith, e, minutes-small (p .before .before .args .recipe) (p .part5 .given .0 .0)))
 
 returns-7 : tie.Need-returns-7
 unfolding generated
@@ -99,13 +103,15 @@ returns-11 : tie.Need-returns-11
 unfolding generated
 returns-11 c =
     let s = c .before .before .before .before in
-    rw (c .before .before .part9 .given .1) (omega (arith, order-is (s .pre .0) _ (rw (c .before .before .part9 .given .1) at (s .pre .1))))
+    let j = order-is (s .pre .0) _ (rw (c .before .before .part9 .given .1) at (s .pre .1)) in
+    rw (c .before .before .part9 .given .1) (omega (arith, j))
 
 returns-12 : tie.Need-returns-12
 unfolding generated
 returns-12 c =
     let s = c .before .before .before .before in
-    rw (c .before .before .part10 .given .1) (omega (arith, order-is (s .pre .0) _ (rw (c .before .before .part10 .given .1) at (s .pre .1))))
+    let j = order-is (s .pre .0) _ (rw (c .before .before .part10 .given .1) at (s .pre .1)) in
+    rw (c .before .before .part10 .given .1) (omega (arith, j))
 
 pub byte-of-spec : {M : Type 1} → statement M
 byte-of-spec =

@@ -67,7 +67,8 @@ returns-3 c =
     let n = length-is (recipe e) (f .find-orders .ensures) (p .plan-length .ensures) in
     let m = length-is (recipe e) (f .find-orders .ensures) refl in
     generates-plan (recipe e) _ (passes e) n (omega arith)
-    (w .write-plan .ensures ∙ ap (λ (k : ℕ). overlay (byteAt (generated (recipe e))) k (now (e .before .before .before .args .out))) m)
+    (w .write-plan .ensures
+    ∙ ap (λ (k : ℕ). overlay (byteAt (generated (recipe e))) k (now (e .before .before .before .args .out))) m)
 
 pub generate-spec : {M : Type 1} → statement M
 generate-spec =

@@ -16,7 +16,8 @@ use Rattle.plan_generate.proofs.write_plan.Statement.{statement}
 use Rattle.plan_generate.proofs.write_plan.Tie as tie
 
 abbrev Inv-loop : tie.InvT-loop
-Inv-loop recipe draws ordered sizes out₀ end i₀ out i = (i ≤ size sizes) × (out ≡ overlay (byteAt (generated recipe)) i out₀)
+Inv-loop recipe draws ordered sizes out₀ end i₀ out i = (i ≤ size sizes)
+    × (out ≡ overlay (byteAt (generated recipe)) i out₀)
 
 abbrev μ-loop : tie.MeasureT-loop
 μ-loop recipe draws ordered sizes out₀ end i₀ out i = size sizes - i
@@ -57,7 +58,8 @@ loop-again c =
     let l = c .before .before .before in
     let p = l .before .before .before .pre .0 in (
       omega arith,
-      rw (l .loop .inv .1, byte-is p (l .loop .i) (c .before .part-at .ensures) (c .byte-of .ensures)) (overlay-more _ _ _),
+      rw (l .loop .inv .1, byte-is p (l .loop .i) (c .before .part-at .ensures) (c .byte-of .ensures))
+          (overlay-more _ _ _),
     )
 
 same-length : tie.Need-same-length Inv-loop μ-loop

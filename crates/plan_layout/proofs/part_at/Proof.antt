@@ -2,7 +2,8 @@
 use mathlib.Core.Path.{_∙_}
 use native.Mathlib.Omega.{arith}
 use borrow.Author.Needs.{needs}
-use Rattle.plan_layout.proofs.Parts.{at-size, at-start, at-name, at-entry, at-task, at-value, at-earlier, at-later}
+use Rattle.plan_layout.proofs.Parts.{at-size, at-start, at-name, at-entry, at-task, at-value, at-earlier}
+use Rattle.plan_layout.proofs.Parts.{at-later}
 use Rattle.plan_layout.proofs.part_at.Statement.{statement}
 use Rattle.plan_layout.proofs.part_at.Tie as tie
 
