@@ -82,9 +82,9 @@ module _ (r : Recipe) where
 
 -- ---- what is read from the table
 module _ (r : Recipe) (ok : Allowed r) (draws : List ℕ) (d : Drew (r .seed) draws) where
-  pub kind-group : (n : ℕ) → 0 < n → n ≤ r .groups → 1 + getD draws (n - 1) 0 % 2 ≡ kindIn r n
+  pub kind-read : (n : ℕ) → 0 < n → n ≤ r .groups → getD draws (n - 1) 0 % 2 ≡ kindDrawn r (n - 1)
   unfolding kindDrawn
-  kind-group n z l = ap (λ (k : ℕ). 1 + k) (drawn-at d (n - 1) 2 (omega (arith, ok .few-groups))) ∙ kind-drawn r n z l
+  kind-read n z l = drawn-at d (n - 1) 2 (omega (arith, ok .few-groups))
 
   pub minutes-task : (n : ℕ) → r .groups < n → n < 1 + r .groups + r .tasks
       → getD draws (r .groups + 4 * (n - 1 - r .groups)) 0 % 60 ≡ minutesIn r n
@@ -93,28 +93,24 @@ module _ (r : Recipe) (ok : Allowed r) (draws : List ℕ) (d : Drew (r .seed) dr
       drawn-at d (r .groups + 4 * (n - 1 - r .groups)) 60 (omega (arith, ok .few-groups, ok .few-tasks))
       ∙ minutes-drawn r n h
 
-  module _ (i : ℕ) (l : i < 2 * r .tasks) where
-    first : ℕ
-    first = r .groups + 4 * (i / 2)
+  -- flag and sign of condition i, the sign from draw n
+  module _ (i n : ℕ) (l : i < 2 * r .tasks) (e : n ≡ r .groups + 4 * (i / 2) + 2 + i % 2) where
+    flag-read : getD draws (r .groups + 4 * (i / 2) + 1) 0 % 8 ≡ flagDrawn r (i / 2)
+    unfolding flagDrawn taskDraw
+    flag-read = drawn-at d (r .groups + 4 * (i / 2) + 1) 8 (omega (arith, ok .few-groups, ok .few-tasks))
 
-    flag-read : getD draws (first + 1) 0 % 8 ≡ flagDrawn r (i / 2)
-    unfolding flagDrawn taskDraw first
-    flag-read = drawn-at d (first + 1) 8 (omega (arith, ok .few-groups, ok .few-tasks))
+    need-read : i % 2 ≡ 0 → getD draws n 0 % 2 ≡ needDrawn r (i / 2)
+    unfolding needDrawn taskDraw
+    need-read z = let q : n ≡ r .groups + 4 * (i / 2) + 2 = omega arith in
+        rw q (drawn-at d (r .groups + 4 * (i / 2) + 2) 2 (omega (arith, ok .few-groups, ok .few-tasks)))
 
-    need-read : i % 2 ≡ 0 → getD draws (first + 2 + i % 2) 0 % 2 ≡ needDrawn r (i / 2)
-    unfolding needDrawn taskDraw first
-    need-read e = let q : first + 2 + i % 2 ≡ first + 2 = omega arith in
-        rw q (drawn-at d (first + 2) 2 (omega (arith, ok .few-groups, ok .few-tasks)))
+    leaving-read : i % 2 ≡ 1 → getD draws n 0 % 2 ≡ leavingDrawn r (i / 2)
+    unfolding leavingDrawn taskDraw
+    leaving-read z = let q : n ≡ r .groups + 4 * (i / 2) + 3 = omega arith in
+        rw q (drawn-at d (r .groups + 4 * (i / 2) + 3) 2 (omega (arith, ok .few-groups, ok .few-tasks)))
 
-    leaving-read : i % 2 ≡ 1 → getD draws (first + 2 + i % 2) 0 % 2 ≡ leavingDrawn r (i / 2)
-    unfolding leavingDrawn taskDraw first
-    leaving-read e = let q : first + 2 + i % 2 ≡ first + 3 = omega arith in
-        rw q (drawn-at d (first + 3) 2 (omega (arith, ok .few-groups, ok .few-tasks)))
-
-    pub literal-is : getD draws (r .groups + 4 * (i / 2) + 1) 0 % 8
-        + 64 * (getD draws (r .groups + 4 * (i / 2) + 2 + i % 2) 0 % 2) ≡ valueIn r i % 256
-    unfolding first
+    pub literal-is : getD draws (r .groups + 4 * (i / 2) + 1) 0 % 8 + 64 * (getD draws n 0 % 2) ≡ valueIn r i % 256
     literal-is =
         let x = flag-read in
-        by-cases (ℕ-discrete (i % 2) 0) (λ (e : i % 2 ≡ 0). omega (arith, need-read e, value-need r i e))
-        (λ e. let z : i % 2 ≡ 1 = omega arith in omega (arith, leaving-read z, value-leaving r i z))
+        by-cases (ℕ-discrete (i % 2) 0) (λ (z : i % 2 ≡ 0). omega (arith, need-read z, value-need r i z))
+        (λ z. let o : i % 2 ≡ 1 = omega arith in omega (arith, leaving-read o, value-leaving r i o))
