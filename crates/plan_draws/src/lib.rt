@@ -4,7 +4,7 @@ ghost use Prim.Native.Nat.{_+_, _*_, _%_, _<_};
 ghost use lib.ListN.{length};
 ghost use Rattle.plan_draws.specs.Drawn.{Allowed};
 ghost use Rattle.plan_draws.specs.Generated.{kindIn, minutesIn, valueIn};
-ghost use Rattle.plan_draws.specs.Inner.{GROUPS, Drew, OrdersFound};
+ghost use Rattle.plan_draws.specs.Inner.{GROUPS, DRAWS, Drew, OrdersFound};
 
 // What a plan is generated from.
 pub struct Recipe {
@@ -27,11 +27,11 @@ pub type Draws = [u16; DRAWS];
 // The groups, counted from 0, that come before the next.
 pub type Ordered = [u8; GROUPS];
 
-// All draws, one after another.
-pub fn draw_all(seed: u32) -> Draws
-    ensures { λ r. ⌜ Drew seed r ⌝ }
+// Makes all draws, one after another.
+pub fn draw_all(seed: u32, draws: &mut Draws)
+    requires { ⌜ length (now draws) ≡ DRAWS ⌝ }
+    ensures { λ _. ⌜ Drew seed (now (draws .exit)) ⌝ }
 {
-    let mut draws = [0u16; DRAWS];
     let mut state = seed;
     let mut n = 0;
     while n < DRAWS {
@@ -39,7 +39,6 @@ pub fn draw_all(seed: u32) -> Draws
         draws[n] = (state / 65536) as u16;
         n += 1;
     }
-    draws
 }
 
 // Finds the groups that come before the next, in rising order, and answers how many they are.

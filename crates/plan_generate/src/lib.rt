@@ -11,6 +11,7 @@ ghost use Rattle.plan_generate.specs.Model.{refused30};
 ghost use Rattle.plan_generate.specs.Inner.{Prepared};
 ghost use Rattle.plan_generate.specs.Calls.{Generates};
 use answers::Written;
+use plan_draws::DRAWS;
 use plan_draws::Draws;
 use plan_draws::GROUPS;
 use plan_draws::Ordered;
@@ -116,7 +117,8 @@ pub fn generate(seed: u32, groups: usize, tasks: usize, out: &mut [u8]) -> Writt
     if refused(recipe) {
         return Written::Refused(30);
     }
-    let draws = draw_all(seed);
+    let mut draws = [0u16; DRAWS];
+    draw_all(seed, &mut draws);
     let mut ordered = [0u8; GROUPS];
     let orders = find_orders(recipe, &draws, &mut ordered);
     let sizes = Sizes {

@@ -1,7 +1,6 @@
 -- `draw_all` meets its contract: the draws before n are made. Assumes nothing.
-use Prim.Native.Nat.{ℕ, _-_}
+use Prim.Native.Nat.{_-_}
 use native.Mathlib.Omega.{arith}
-use lib.ListN.{length-replicate}
 use borrow.Author.Needs.{needs}
 use Rattle.plan_draws.specs.Inner.{DRAWS}
 use Rattle.plan_draws.proofs.Fields.{DrewTo, drew-none, drew-more, drew-all}
@@ -15,7 +14,7 @@ abbrev μ-loop : tie.MeasureT-loop
 μ-loop seed draws₀ state₀ n₀ draws state n = DRAWS - n
 
 loop-holds : tie.Need-loop-holds Inv-loop μ-loop
-loop-holds c = drew-none _ (length-replicate {A = ℕ} DRAWS 0)
+loop-holds c = drew-none _ (c .pre)
 
 loop-again : tie.Need-loop-again Inv-loop μ-loop
 loop-again c = drew-more (omega arith) (c .wrapping-add-u32 .ensures) (c .before .before .loop .inv)

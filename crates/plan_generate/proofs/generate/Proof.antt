@@ -30,32 +30,32 @@ ok : (c : tie.Else1) → Allowed (recipe c)
 ok c = allowed (recipe c) (passes c)
 
 find-orders-requires : tie.Need-find-orders-requires
-find-orders-requires c κs = (ok (c .before .before .before), c .before .before .draw-all .ensures, refl)
-
-add-t15 : tie.Need-add-t15
-add-t15 c = omega (arith, ok (c .before .before .before .before) .few-groups)
+find-orders-requires c κs = (ok (c .before .before .before .before), c .before .before .draw-all .ensures, refl)
 
 add-t16 : tie.Need-add-t16
-add-t16 c = let k = ok (c .before .before .before .before) in omega (arith, k .few-groups, k .few-tasks)
+add-t16 c = omega (arith, ok (c .before .before .before .before .before) .few-groups)
 
-mul-t17 : tie.Need-mul-t17
-mul-t17 c = omega (arith, ok (c .before .before .before .before) .few-tasks)
+add-t17 : tie.Need-add-t17
+add-t17 c = let k = ok (c .before .before .before .before .before) in omega (arith, k .few-groups, k .few-tasks)
+
+mul-t18 : tie.Need-mul-t18
+mul-t18 c = omega (arith, ok (c .before .before .before .before .before) .few-tasks)
 
 plan-length-requires : tie.Need-plan-length-requires
-plan-length-requires c κs = let e = c .before .before .before .before in
+plan-length-requires c κs = let e = c .before .before .before .before .before in
     sizes-fit (recipe e) (c .find-orders .ensures) (ok e)
 
 returns-2 : tie.Need-returns-2
 returns-2 c =
     let f = c .before .before in
-    let e = f .before .before .before .before in
+    let e = f .before .before .before .before .before in
     generates-15 (recipe e) _ (passes e)
     (omega (arith, c .if2 .taken, length-is (recipe e) (f .find-orders .ensures) (c .before .plan-length .ensures)))
 
 write-plan-requires : tie.Need-write-plan-requires
 write-plan-requires c κs =
     let f = c .before .before .before .before .before in
-    let e = f .before .before .before .before in
+    let e = f .before .before .before .before .before in
     (prepared (recipe e) (f .find-orders .ensures) (ok e) (f .before .before .before .draw-all .ensures), omega arith)
 
 returns-3 : tie.Need-returns-3
@@ -63,7 +63,7 @@ returns-3 c =
     let w = c .before .before in
     let p = w .before .before .before .before .before in
     let f = p .before in
-    let e = f .before .before .before .before in
+    let e = f .before .before .before .before .before in
     let n = length-is (recipe e) (f .find-orders .ensures) (p .plan-length .ensures) in
     let m = length-is (recipe e) (f .find-orders .ensures) refl in
     generates-plan (recipe e) _ (passes e) n (omega arith)
@@ -78,9 +78,9 @@ generate-spec =
     returns
     (λ c κs. search needs)
     find-orders-requires
-    add-t15
     add-t16
-    mul-t17
+    add-t17
+    mul-t18
     plan-length-requires
     returns-2
     write-plan-requires
