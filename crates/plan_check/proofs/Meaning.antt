@@ -11,8 +11,7 @@ use native.Mathlib.Omega.{arith}
 use lib.Dec.{T, eqb, ltb, leb, ltb→lt, lt→ltb}
 use borrow.Author.Tests.{lt-ltb, eq-eqb, ne-eqb, eqb-true, ltb-true, ltb-false, leb-false, not-false}
 use Rattle.plan_codes.proofs.Values.{value-parts}
-use Rattle.plan_codes.specs.Values.{flagOf, signOf, placeOf, valueBad}
-use Rattle.plan_codes.specs.Cases.{valueOf}
+use Rattle.plan_codes.specs.Values.{flagOf, signOf, placeOf, valueBad, valueOf}
 use Rattle.plan_format.specs.Format.{nodeCount, condCount, orderCount, flagCount, parentOf, kindOf, minutesOf, condNode}
 use Rattle.plan_format.specs.Format.{condValue, earlierOf, laterOf, isKind, isGroup}
 use Rattle.plan_rules.specs.Rules.{refusal, badEntry, cause6, childless, cause8, bothSigns, cause11, noPost, postOf}

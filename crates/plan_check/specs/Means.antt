@@ -6,7 +6,7 @@ use mathlib.Core.Bool.{Bool}
 use mathlib.Core.List.{List}
 use mathlib.Core.Option.{some}
 use lib.Dec.{T}
-use Rattle.plan_codes.specs.Cases.{valueOf}
+use Rattle.plan_codes.specs.Values.{valueOf}
 use Rattle.plan_format.specs.Format.{nodeCount, condCount, flagCount, parentOf, kindOf, condNode, condValue}
 use Rattle.runs.specs.Plan.{Place, Plan, placeNumber, signNumber}
 use Rattle.runs.specs.Numbers.{kindNumber}

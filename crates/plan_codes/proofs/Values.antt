@@ -7,8 +7,8 @@ use mathlib.Core.Logic.{by-cases}
 use borrow.Author.Tests.{le-leb, lt-leb}
 use Rattle.plan_codes.specs.declared.value.Parsed.the-variants as parsed
 use Rattle.plan_codes.specs.declared.value.Condition.{Condition}
-use Rattle.plan_codes.specs.Values.{placeOf, signOf, flagOf}
-use Rattle.plan_codes.specs.Cases.{valueOf, parsedOf, placeAt, signAt, placeNum, signNum, valueNum}
+use Rattle.plan_codes.specs.Values.{placeOf, signOf, flagOf, valueOf}
+use Rattle.plan_codes.specs.Cases.{parsedOf, placeAt, signAt, placeNum, signNum, valueNum}
 
 pub parse-at : (v flag sign place : ℕ) → v ≡ valueOf flag sign place → flag < 64 → sign < 2 → place < 3
     → parsed.Accepted (record { place = placeAt place; sign = signAt sign; flag = flag }) ≡ parsedOf v

@@ -1,5 +1,5 @@
 -- Inner contracts: the value of a condition by the cases of the enums that it is parsed into. Definitions only.
-use Prim.Native.Nat.{ℕ, _+_, _*_}
+use Prim.Native.Nat.{ℕ}
 use mathlib.Core.Bool.{true, false, cond}
 use lib.Dec.{eqb, leb}
 use Rattle.runs.specs.Plan.{pre, inc, post, placeNumber, signNumber}
@@ -10,11 +10,7 @@ use Rattle.plan_codes.specs.declared.value.Sign.the-variants.{Clear, Set
 use Rattle.plan_codes.specs.declared.value.Condition.{Condition}
 use Rattle.plan_codes.specs.declared.value.Parsed.{Parsed}
 use Rattle.plan_codes.specs.declared.value.Parsed.the-variants as parsed
-use Rattle.plan_codes.specs.Values.{flagOf, signOf, placeOf}
-
--- the value of a flag, a sign and a place, by 01's numbers
-abbrev pub valueOf : ℕ → ℕ → ℕ → ℕ
-valueOf flag sign place = flag + 64 * sign + 128 * place
+use Rattle.plan_codes.specs.Values.{flagOf, signOf, placeOf, valueOf}
 
 -- 01's numbers of the enums' cases
 abbrev pub placeNum : Place → ℕ

@@ -1,7 +1,11 @@
 -- The value of a condition. Definitions only.
-use Prim.Native.Nat.{ℕ, _/_, _%_}
+use Prim.Native.Nat.{ℕ, _+_, _*_, _/_, _%_}
 use mathlib.Core.Bool.{Bool, _||_}
 use lib.Dec.{leb, ltb}
+
+-- the value of a flag, a sign and a place, by 01's numbers
+abbrev pub valueOf : ℕ → ℕ → ℕ → ℕ
+valueOf flag sign place = flag + 64 * sign + 128 * place
 
 -- the three parts of a value
 unfoldable pub flagOf : ℕ → ℕ

@@ -8,7 +8,7 @@ use native.Mathlib.Nat.{zero-div}
 use native.Mathlib.Omega.{arith}
 use lib.ListN.{length}
 use Rattle.runs.specs.Plan.{pre, post, placeNumber}
-use Rattle.plan_codes.specs.Cases.{valueOf}
+use Rattle.plan_codes.specs.Values.{valueOf}
 use Rattle.plan_format.specs.Format.{condCount, orderCount, startFlag, nameChar, nameOf, wholeLength}
 use Rattle.plan_format.specs.Format.{condNode, condValue, earlierOf, laterOf}
 use Rattle.plan_check.proofs.Accepted.{clean}

@@ -5,7 +5,7 @@ use mathlib.Core.List.{List, [], _∷_}
 use Prim.Native.Nat.{ℕ, _+_, _-_, _/_, _%_, _<_}
 use lib.Dec.{eqb}
 use Rattle.runs.specs.Plan.{pre, post, placeNumber}
-use Rattle.plan_codes.specs.Cases.{valueOf}
+use Rattle.plan_codes.specs.Values.{valueOf}
 use Rattle.plan_format.specs.Format.{nodeCount, condCount, orderCount, flagCount, startFlag, nameOf, parentOf, kindOf}
 use Rattle.plan_format.specs.Format.{minutesOf, condNode, condValue, earlierOf, laterOf}
 use Rattle.plan_rules.specs.Rules.{refusal}

@@ -6,7 +6,7 @@ use mathlib.Core.List.{List, [], _∷_}
 use lib.ListN.{replicate}
 use lib.Dec.{eqb, ltb}
 use Rattle.runs.specs.Plan.{Kind, task, all-of, any-of, Place, pre, inc, post, placeNumber, signNumber}
-use Rattle.plan_codes.specs.Cases.{valueOf}
+use Rattle.plan_codes.specs.Values.{valueOf}
 use Rattle.runs.specs.Execution.{Status, waiting, start, finish, skip}
 use Rattle.runs.specs.Verdict.{Verdict}
 use Rattle.runs.specs.Calls.{Call, one}

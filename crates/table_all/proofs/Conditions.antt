@@ -12,7 +12,7 @@ use lib.Seq.{getD-set-same, getD-set-other}
 use Rattle.base.specs.Words.{Says}
 use Rattle.base.proofs.Bits.{one-shl}
 use Rattle.base.proofs.Says.{says-map, says-eq, says-none, says-set}
-use Rattle.plan_codes.specs.Cases.{valueOf}
+use Rattle.plan_codes.specs.Values.{valueOf}
 use Rattle.plan_format.specs.Format.{condCount, condNode, condValue}
 use Rattle.plan_rules.specs.Rules.{refusal}
 use Rattle.runs.specs.Plan.{Place, placeNumber, signNumber}
