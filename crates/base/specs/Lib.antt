@@ -3,4 +3,5 @@ pub mod Bits
 pub mod Words
 pub mod Count
 pub mod Answers
+pub mod Bytes
 pub mod Zeros

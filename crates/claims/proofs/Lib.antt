@@ -8,3 +8,5 @@ pub mod Sequences
 -- `members-claim`: after every list of calls that include and exclude members, from nobody, the last answer is the
 -- verdict for the members, and the bytes show them (111).
 pub mod Members
+-- `one-plan` and `plans-same`: a recipe has one plan (110).
+pub mod Generated

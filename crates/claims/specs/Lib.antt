@@ -3,3 +3,4 @@ pub mod Left
 pub mod Promises
 pub mod Sequences
 pub mod Members
+pub mod Generated

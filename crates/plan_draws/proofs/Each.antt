@@ -4,7 +4,8 @@ use mathlib.Core.Bool.{Bool, true, false, cond}
 use mathlib.Core.List.{List, [], _∷_, _++_, append-assoc, append-nil}
 use Prim.Native.Nat.{ℕ, zero, suc, _+_, _*_, _<_, _≤_}
 use native.Mathlib.Omega.{arith}
-use lib.ListN.{length, length-append}
+use lib.ListN.{length, getD, length-append, List·getD-append}
+use lib.Seq.{getD-append-add}
 use Rattle.base.specs.Count.{num, countBelow}
 use Rattle.plan_draws.specs.Drawn.{each}
 use Rattle.plan_draws.specs.Generated.{pick}
@@ -27,6 +28,19 @@ each-same f g i (suc n) h = rw (
 pub each-long : (f : ℕ → List (ℕ × ℕ)) (w : ℕ) → ((m : ℕ) → length (f m) ≡ w) → (i n : ℕ) → length (each f i n) ≡ w * n
 each-long f w h i zero = omega arith
 each-long f w h i (suc n) = length-append (f i) (each f (suc i) n) ∙ omega (arith, h i, each-long f w h (suc i) n)
+
+-- element k of all is element c of what p draws, where each draws w
+pub each-at : (f : ℕ → List (ℕ × ℕ)) (w : ℕ) → ((m : ℕ) → length (f m) ≡ w) → (i n m c k p : ℕ) (d : ℕ × ℕ) → m < n
+    → c < w → k ≡ w * m + c → p ≡ i + m → getD (each f i n) k d ≡ getD (f p) c d
+each-at f w h i zero m c k p d l u x y = absurd (omega arith)
+each-at f w h i (suc n) zero c k p d l u x y =
+    let s : k ≡ c = omega arith in
+    let t : p ≡ i = omega arith in
+    rw (s, t) (List·getD-append (f i) (each f (suc i) n) d c (omega (arith, h i)))
+each-at f w h i (suc n) (suc m) c k p d l u x y =
+    let s : k ≡ length (f i) + (w * m + c) = omega (arith, h i) in
+    rw s (getD-append-add (f i) (each f (suc i) n) (w * m + c) d
+    ∙ each-at f w h (suc i) n m c (w * m + c) p d (omega arith) u refl (omega arith))
 
 -- of those below n the ones that pass a test, by their numbers or in turn
 module _ (q : ℕ → Bool) (f : ℕ → ℕ × ℕ) where

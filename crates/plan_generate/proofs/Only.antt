@@ -10,16 +10,16 @@ use native.Mathlib.Omega.{arith}
 use lib.ListN.{getD}
 use lib.Seq.{ext-getD}
 use borrow.Author.Tests.{eqb-false}
+use Rattle.base.specs.Bytes.{Bytes}
 use Rattle.base.proofs.Booleans.{not-passed}
 use Rattle.runs.specs.Plan.{pre, post, placeNumber}
-use Rattle.plan_codes.specs.Cases.{valueOf}
+use Rattle.plan_codes.specs.Values.{valueOf}
 use Rattle.plan_format.specs.Format.{condCount, orderCount, startFlag, nameChar, nameOf, condNode, condValue, earlierOf}
 use Rattle.plan_format.specs.Format.{laterOf}
 use Rattle.plan_check.proofs.Accepted.{clean, start-below}
 use Rattle.plan_layout.specs.Fields.{Laid}
 use Rattle.plan_layout.proofs.Exact.{laid-byte}
 use Rattle.plan_draws.specs.declared.Recipe.{Recipe}
-use Rattle.plan_draws.specs.Drawn.{Allowed}
 use Rattle.plan_draws.specs.Generated.{kindDrawn, minutesDrawn, orderNumber, orderedGroup, kindIn, minutesIn, valueIn}
 use Rattle.plan_draws.proofs.Drawn.{Numbered, draws-only}
 use Rattle.plan_draws.proofs.Each.{each-at}
@@ -80,7 +80,7 @@ no-bits x l h =
     let v : x < 2 = omega (arith, h 1 (omega arith)) in
     omega (arith, h 0 (omega arith))
 
-module _ (r : Recipe) (ok : Allowed r) (b : List ℕ) (h : IsGenerated r b) (small : (i : ℕ) → getD b i 0 < 256) where
+module _ (r : Recipe) (b : List ℕ) (h : IsGenerated r b) (small : Bytes b) where
   drawn : Numbered r (h .draws)
   drawn = draws-only r (h .draws)
 
@@ -204,11 +204,10 @@ module _ (r : Recipe) (ok : Allowed r) (b : List ℕ) (h : IsGenerated r b) (sma
     later = λ m l. ap (λ (p : ℕ × ℕ). p .1) (order-in m l);
   }
 
-pub generated-only : (r : Recipe) → Allowed r → (b c : List ℕ) → ((i : ℕ) → getD b i 0 < 256)
-    → ((i : ℕ) → getD c i 0 < 256) → IsGenerated r b → IsGenerated r c → b ≡ c
+pub generated-only : (r : Recipe) (b c : List ℕ) → Bytes b → Bytes c → IsGenerated r b → IsGenerated r c → b ≡ c
 unfolding generated
-generated-only r ok b c x y h k =
+generated-only r b c x y h k =
     let n = generated-long r b h in
     ext-getD 0 b c (n ∙ sym (generated-long r c k)) (λ i l.
-    laid-byte (generated r) b (generated-fields r ok b h x) x i (omega arith)
-    ∙ sym (laid-byte (generated r) c (generated-fields r ok c k y) y i (omega arith)))
+    laid-byte (generated r) b (generated-fields r b h x) x i (omega arith)
+    ∙ sym (laid-byte (generated r) c (generated-fields r c k y) y i (omega arith)))

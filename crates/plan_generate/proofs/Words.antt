@@ -155,7 +155,7 @@ module _ (r : Recipe) (ok : Allowed r) (b : List ℕ) (l : Laid b (generated r))
 
 -- ---- the length
 module _ (r : Recipe) (b : List ℕ) (h : IsGenerated r b) where
-  condition-count : condCount b ≡ 2 * r .tasks
+  pub condition-count : condCount b ≡ 2 * r .tasks
   condition-count = omega (
     arith,
     ap length (h .conditions),
@@ -165,14 +165,14 @@ module _ (r : Recipe) (b : List ℕ) (h : IsGenerated r b) where
         (r .tasks),
   )
 
-  orders-drawn : orderPairs b ≡ each (λ m. (1 + orderedGroup r m, 2 + orderedGroup r m) ∷ []) 0 (orderNumber r)
+  pub orders-drawn : orderPairs b ≡ each (λ m. (1 + orderedGroup r m, 2 + orderedGroup r m) ∷ []) 0 (orderNumber r)
   unfolding orderNumber orderedGroup comesBefore
   orders-drawn = h .orders
       ∙ each-same _ (λ i. cond (comesBefore r i) ((1 + i, 2 + i) ∷ []) []) 0 (r .groups - 1)
       (λ i z l. rw (draws-only r (h .draws) .before i (omega arith)))
       ∙ sym (each-picked (comesBefore r) (λ i. (1 + i, 2 + i)) (r .groups - 1))
 
-  order-count : orderCount b ≡ orderNumber r
+  pub order-count : orderCount b ≡ orderNumber r
   order-count = omega (
     arith,
     ap length orders-drawn,

@@ -6,6 +6,7 @@ use Prim.Native.Nat.{ℕ, zero, suc, _+_, _-_, _*_, _/_, _%_, _<_, _≤_}
 use native.Mathlib.Decide.{ℕ-discrete, decLt}
 use native.Mathlib.Omega.{arith}
 use lib.ListN.{getD}
+use Rattle.base.specs.Bytes.{Bytes}
 use Rattle.plan_format.specs.Format.{u16At, nodeCount, condCount, orderCount, flagCount, nameChar, entryAt, parentOf}
 use Rattle.plan_format.specs.Format.{kindOf, minutesOf, condNode, condValue, earlierOf, laterOf}
 use Rattle.plan_layout.specs.declared.Sizes.{Sizes}
@@ -19,7 +20,7 @@ use Rattle.plan_layout.proofs.Parts.{at-size, at-start, at-name, at-ent
 use Rattle.plan_layout.proofs.Parts.{at-later, number-nodes, number-conditions, number-orders, number-flags}
 use Rattle.plan_layout.proofs.Parts.{size-low, size-high}
 
-module _ (f : Fields) (b : List ℕ) (l : Laid b f) (small : (i : ℕ) → getD b i 0 < 256) where
+module _ (f : Fields) (b : List ℕ) (l : Laid b f) (small : Bytes b) where
   abbrev s : Sizes
   s = f .sizes
 

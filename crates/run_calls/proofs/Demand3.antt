@@ -26,7 +26,8 @@ use Rattle.runs.proofs.Calls.Demand3 as proved
 use Rattle.run_starts.specs.Starts.{ordinalIn}
 use Rattle.run_state.specs.State.{ordinalShown, statusIn, worldOf}
 use Rattle.run_calls.specs.Lists.{ListMade}
-use Rattle.run_calls.specs.Demand3.{Bytes, Demand3Of, Demand3}
+use Rattle.base.specs.Bytes.{Bytes}
+use Rattle.run_calls.specs.Demand3.{Demand3Of, Demand3}
 use Rattle.run_calls.proofs.Followed.{list-follows, list-made, list-each}
 
 module _ (b xs : List ℕ) (h : Bytes b) (acc : refusalUnder b xs ≡ 0) where

@@ -18,7 +18,8 @@ use Rattle.run_state.proofs.Shown.{fresh-started}
 use Rattle.run_monitor.specs.Model.{callState, callReturn}
 use Rattle.run_monitor.proofs.Called.{called}
 use Rattle.run_calls.specs.Lists.{Calls, no-calls, next-call, ListMade}
-use Rattle.run_calls.specs.Demand3.{Bytes, Shows, Follows, EachCall}
+use Rattle.base.specs.Bytes.{Bytes}
+use Rattle.run_calls.specs.Demand3.{Shows, Follows, EachCall}
 use Rattle.run_calls.proofs.Kept.{Kept, fresh-kept, called-kept, group-none, shown-is}
 
 -- one list of calls after another

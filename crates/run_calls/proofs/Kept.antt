@@ -37,7 +37,8 @@ use Rattle.run_monitor.proofs.Outcomes.{refused-22, accepted}
 use Rattle.run_step.proofs.Written.{byte-flags}
 use Rattle.run_step.proofs.After.{Fit, after, inside, after-flags, event-written}
 use Rattle.run_calls.specs.Shown.{numberByte, shownByte}
-use Rattle.run_calls.specs.Demand3.{Bytes, GroupByte}
+use Rattle.base.specs.Bytes.{Bytes}
+use Rattle.run_calls.specs.Demand3.{GroupByte}
 use Rattle.run_calls.proofs.Bytes.{flag-byte, made-small}
 
 pub record Kept (b s z : List ℕ) : Type 0 where

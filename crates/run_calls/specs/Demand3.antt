@@ -18,6 +18,7 @@ use Rattle.runs.specs.Violations.{NoViolation, Violation}
 use Rattle.run_starts.specs.Starts.{nodeByte, ordinalIn}
 use Rattle.run_state.specs.State.{worldOf, stateRefusalUnder}
 use Rattle.base.specs.Answers.{overlay}
+use Rattle.base.specs.Bytes.{Bytes}
 use Rattle.run_monitor.specs.declared.Progress.{Progress}
 use Rattle.run_monitor.specs.Status as status
 use Rattle.run_monitor.specs.Status.{COMPLETE, Told}
@@ -25,10 +26,6 @@ use Rattle.verdict.specs.declared.Answer.{Answer}
 use Rattle.verdict.specs.Verdict.{said, Assessed}
 use Rattle.run_calls.specs.Shown.{shownByte}
 use Rattle.run_calls.specs.Lists.{Calls, ListMade}
-
--- the numbers of a list are bytes
-abbrev pub Bytes : List ℕ → Type 0
-Bytes b = (i : ℕ) → getD b i 0 < 256
 
 -- what 01 works out from the plan and the calls: their returns, and the states after them
 abbrev pub WorkedOut : List ℕ → List ℕ → List Call → List ℕ → World → Type 0

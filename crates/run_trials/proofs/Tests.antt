@@ -30,7 +30,7 @@ use Rattle.runs.proofs.Reflect.{T-true, Reflects, r-both, r-T, r-eq, r-list, r-
 use Rattle.runs.proofs.Calls.First.{worked-only}
 use Rattle.run_calls.specs.Shown.{shownByte}
 use Rattle.verdict.specs.Verdict.{answerOf}
-use Rattle.run_calls.specs.Demand3.{Bytes}
+use Rattle.base.specs.Bytes.{Bytes}
 use Rattle.run_calls.proofs.Followed.{list-follows}
 use Rattle.run_trials.specs.Written.{bytesOf}
 use Rattle.run_trials.specs.Trial.{Shown, shown, ShownBy, AllShown, Trial, HoldsOf, AllHold}
