@@ -6,7 +6,7 @@ use Prim.Native.Nat.{ℕ}
 use lib.ListN.{take}
 use Rattle.base.specs.Bytes.{Bytes}
 use Rattle.plan_draws.specs.declared.Recipe.{Recipe}
-use Rattle.plan_generate.specs.Words.{IsGenerated}
+use Rattle.plan_generate.specs.Sentences.{IsGenerated}
 use Rattle.plan_generate.specs.Calls.{Generates}
 
 -- 02's words fit no other bytes

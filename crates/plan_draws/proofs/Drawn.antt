@@ -6,26 +6,26 @@ use Prim.Native.Nat.{ℕ, zero, suc, _+_, _-_, _<_, _≤_}
 use native.Mathlib.Decide.{ℕ-discrete}
 use native.Mathlib.Omega.{arith}
 use Rattle.plan_draws.specs.declared.Recipe.{Recipe}
-use Rattle.plan_draws.specs.Drawn.{Drawn, none, more, each, Draws}
-use Rattle.plan_draws.specs.Generated.{stateAfter, given, draw, kindDrawn, taskDraw, minutesDrawn, flagDrawn}
-use Rattle.plan_draws.specs.Generated.{needDrawn, leavingDrawn, beforeDrawn}
+use Rattle.plan_draws.specs.Drawn.{DrawnFrom, none, more, each, Draws}
+use Rattle.plan_draws.specs.Model.{stateAfter, given, draw, kindDrawn, taskDraw, minutesDrawn, flagDrawn}
+use Rattle.plan_draws.specs.Model.{preDrawn, postDrawn, beforeDrawn}
 
 module _ (seed : ℕ) where
   -- from the state after n draws, draw n comes first
-  to-first : (n : ℕ) {k v : ℕ} {ds : List (ℕ × ℕ)} → v ≡ draw seed n k → Drawn (stateAfter seed (suc n)) ds
-      → Drawn (stateAfter seed n) ((k, v) ∷ ds)
+  to-first : (n : ℕ) {k v : ℕ} {ds : List (ℕ × ℕ)} → v ≡ draw seed n k → DrawnFrom (stateAfter seed (suc n)) ds
+      → DrawnFrom (stateAfter seed n) ((k, v) ∷ ds)
   unfolding stateAfter given draw
   to-first n e d = more e d
 
-  of-first : (n : ℕ) {k v : ℕ} {ds : List (ℕ × ℕ)} → Drawn (stateAfter seed n) ((k, v) ∷ ds)
-      → (v ≡ draw seed n k) × Drawn (stateAfter seed (suc n)) ds
+  of-first : (n : ℕ) {k v : ℕ} {ds : List (ℕ × ℕ)} → DrawnFrom (stateAfter seed n) ((k, v) ∷ ds)
+      → (v ≡ draw seed n k) × DrawnFrom (stateAfter seed (suc n)) ds
   unfolding stateAfter given draw
   of-first n (more e d) = (e, d)
 
   -- each i draws the list f i from draw `at i` on
   module _ (f : ℕ → List (ℕ × ℕ)) (at : ℕ → ℕ) where
     abbrev from : ℕ → List (ℕ × ℕ) → Type 0
-    from i ds = Drawn (stateAfter seed (at i)) ds
+    from i ds = DrawnFrom (stateAfter seed (at i)) ds
 
     each-to : ((i : ℕ) (ds : List (ℕ × ℕ)) → from (suc i) ds → from i (f i ++ ds))
         → (i n : ℕ) (ds : List (ℕ × ℕ)) → from (i + n) ds → from i (each f i n ++ ds)
@@ -47,12 +47,12 @@ module _ (seed : ℕ) where
 
 module _ (r : Recipe) where
   -- a group draws once
-  single-to : (a i : ℕ) (ds : List (ℕ × ℕ)) → Drawn (stateAfter (r .seed) (a + suc i)) ds
-      → Drawn (stateAfter (r .seed) (a + i)) ((2, draw (r .seed) (a + i) 2) ∷ [] ++ ds)
+  single-to : (a i : ℕ) (ds : List (ℕ × ℕ)) → DrawnFrom (stateAfter (r .seed) (a + suc i)) ds
+      → DrawnFrom (stateAfter (r .seed) (a + i)) ((2, draw (r .seed) (a + i) 2) ∷ [] ++ ds)
   single-to a i ds d = let e : a + suc i ≡ suc (a + i) = omega arith in to-first (r .seed) (a + i) refl (rw e at d)
 
-  single-of : (v : ℕ → ℕ) (a i : ℕ) (ds : List (ℕ × ℕ)) → Drawn (stateAfter (r .seed) (a + i)) ((2, v i) ∷ [] ++ ds)
-      → (v i ≡ draw (r .seed) (a + i) 2) × Drawn (stateAfter (r .seed) (a + suc i)) ds
+  single-of : (v : ℕ → ℕ) (a i : ℕ) (ds : List (ℕ × ℕ)) → DrawnFrom (stateAfter (r .seed) (a + i)) ((2, v i) ∷ [] ++ ds)
+      → (v i ≡ draw (r .seed) (a + i) 2) × DrawnFrom (stateAfter (r .seed) (a + suc i)) ds
   single-of v a i ds d = let e : a + suc i ≡ suc (a + i) = omega arith in rw e (of-first (r .seed) (a + i) d)
 
   -- a task draws four times
@@ -70,10 +70,10 @@ module _ (r : Recipe) where
     unfolding taskDraw
     later = omega arith
 
-  task-to : (j : ℕ) (ds : List (ℕ × ℕ)) → Drawn (stateAfter (r .seed) (taskDraw r (suc j))) ds
-      → Drawn (stateAfter (r .seed) (taskDraw r j))
-      ((60, minutesDrawn r j) ∷ (8, flagDrawn r j) ∷ (2, needDrawn r j) ∷ (2, leavingDrawn r j) ∷ [] ++ ds)
-  unfolding minutesDrawn flagDrawn needDrawn leavingDrawn
+  task-to : (j : ℕ) (ds : List (ℕ × ℕ)) → DrawnFrom (stateAfter (r .seed) (taskDraw r (suc j))) ds
+      → DrawnFrom (stateAfter (r .seed) (taskDraw r j))
+      ((60, minutesDrawn r j) ∷ (8, flagDrawn r j) ∷ (2, preDrawn r j) ∷ (2, postDrawn r j) ∷ [] ++ ds)
+  unfolding minutesDrawn flagDrawn preDrawn postDrawn
   task-to j ds d =
       to-first (r .seed) (taskDraw r j) refl
       (to-first (r .seed) (suc (taskDraw r j)) (ap (λ (n : ℕ). draw (r .seed) n 8) (second j))
@@ -97,22 +97,22 @@ module _ (r : Recipe) where
   taskList m f n l = each (λ j. (60, m j) ∷ (8, f j) ∷ (2, n j) ∷ (2, l j) ∷ []) 0 (r .tasks)
 
   abbrev tasksDrawn : List (ℕ × ℕ)
-  tasksDrawn = taskList (minutesDrawn r) (flagDrawn r) (needDrawn r) (leavingDrawn r)
+  tasksDrawn = taskList (minutesDrawn r) (flagDrawn r) (preDrawn r) (postDrawn r)
 
   abbrev ordersDrawn : List (ℕ × ℕ)
   ordersDrawn = groupList (beforeDrawn r) (r .groups - 1)
 
-  orders-to : Drawn (stateAfter (r .seed) (taskDraw r (0 + r .tasks))) ordersDrawn
+  orders-to : DrawnFrom (stateAfter (r .seed) (taskDraw r (0 + r .tasks))) ordersDrawn
   unfolding beforeDrawn
   orders-to = rw (← orders-first, ← append-nil ordersDrawn) (each-to (r .seed) (λ i. (2, beforeDrawn r i) ∷ [])
       (λ i. taskDraw r (r .tasks) + i) (single-to (taskDraw r (r .tasks))) 0 (r .groups - 1) [] none)
 
-  tasks-to : Drawn (stateAfter (r .seed) (0 + r .groups)) (tasksDrawn ++ ordersDrawn)
+  tasks-to : DrawnFrom (stateAfter (r .seed) (0 + r .groups)) (tasksDrawn ++ ordersDrawn)
   tasks-to = rw (← tasks-first) (each-to (r .seed)
-      (λ j. (60, minutesDrawn r j) ∷ (8, flagDrawn r j) ∷ (2, needDrawn r j) ∷ (2, leavingDrawn r j) ∷ [])
+      (λ j. (60, minutesDrawn r j) ∷ (8, flagDrawn r j) ∷ (2, preDrawn r j) ∷ (2, postDrawn r j) ∷ [])
       (taskDraw r) task-to 0 (r .tasks) ordersDrawn orders-to)
 
-  pub all-drawn : Drawn (r .seed) (groupList (kindDrawn r) (r .groups) ++ (tasksDrawn ++ ordersDrawn))
+  pub all-drawn : DrawnFrom (r .seed) (groupList (kindDrawn r) (r .groups) ++ (tasksDrawn ++ ordersDrawn))
   unfolding stateAfter kindDrawn
   all-drawn = each-to (r .seed) (λ i. (2, draw (r .seed) i 2) ∷ []) (λ i. i) (λ i ds d. to-first (r .seed) i refl d)
       0 (r .groups) (tasksDrawn ++ ordersDrawn) tasks-to
@@ -123,25 +123,25 @@ module _ (r : Recipe) where
     before = beforeDrawn r;
     minutes = minutesDrawn r;
     flag = flagDrawn r;
-    need = needDrawn r;
-    leaving = leavingDrawn r;
+    pre = preDrawn r;
+    post = postDrawn r;
     drawn = rw append-assoc all-drawn;
   }
 
   -- the draws of a plan are those of these numbers
-  pub record Numbered (d : Draws r) : Type 0 where
+  pub record ByNumber (d : Draws r) : Type 0 where
     pub kind : (i : ℕ) → i < r .groups → d .kind i ≡ kindDrawn r i
     pub minutes : (j : ℕ) → j < r .tasks → d .minutes j ≡ minutesDrawn r j
     pub flag : (j : ℕ) → j < r .tasks → d .flag j ≡ flagDrawn r j
-    pub need : (j : ℕ) → j < r .tasks → d .need j ≡ needDrawn r j
-    pub leaving : (j : ℕ) → j < r .tasks → d .leaving j ≡ leavingDrawn r j
+    pub pre : (j : ℕ) → j < r .tasks → d .pre j ≡ preDrawn r j
+    pub post : (j : ℕ) → j < r .tasks → d .post j ≡ postDrawn r j
     pub before : (i : ℕ) → i < r .groups - 1 → d .before i ≡ beforeDrawn r i
 
   task-of : (m f n l : ℕ → ℕ) (j : ℕ) (ds : List (ℕ × ℕ))
-      → Drawn (stateAfter (r .seed) (taskDraw r j)) ((60, m j) ∷ (8, f j) ∷ (2, n j) ∷ (2, l j) ∷ [] ++ ds)
-      → ((m j ≡ minutesDrawn r j) × (f j ≡ flagDrawn r j) × (n j ≡ needDrawn r j) × (l j ≡ leavingDrawn r j))
-      × Drawn (stateAfter (r .seed) (taskDraw r (suc j))) ds
-  unfolding minutesDrawn flagDrawn needDrawn leavingDrawn
+      → DrawnFrom (stateAfter (r .seed) (taskDraw r j)) ((60, m j) ∷ (8, f j) ∷ (2, n j) ∷ (2, l j) ∷ [] ++ ds)
+      → ((m j ≡ minutesDrawn r j) × (f j ≡ flagDrawn r j) × (n j ≡ preDrawn r j) × (l j ≡ postDrawn r j))
+      × DrawnFrom (stateAfter (r .seed) (taskDraw r (suc j))) ds
+  unfolding minutesDrawn flagDrawn preDrawn postDrawn
   task-of m f n l j ds d =
       let x = of-first (r .seed) (taskDraw r j) d in
       let y = of-first (r .seed) (suc (taskDraw r j)) (x .1) in
@@ -149,18 +149,18 @@ module _ (r : Recipe) where
       let w = of-first (r .seed) (suc (suc (suc (taskDraw r j)))) (z .1) in
       ((x .0, rw (second j) (y .0), rw (third j) (z .0), rw (fourth j) (w .0)), rw (later j) (w .1))
 
-  pub draws-only : (d : Draws r) → Numbered d
+  pub draws-only : (d : Draws r) → ByNumber d
   unfolding stateAfter kindDrawn beforeDrawn
   draws-only d =
       let a = each-of (r .seed) (λ i. (2, d .kind i) ∷ []) (λ i. i) (λ i. d .kind i ≡ draw (r .seed) i 2)
       (λ i ds h. of-first (r .seed) i h) 0 (r .groups)
-      (taskList (d .minutes) (d .flag) (d .need) (d .leaving) ++ groupList (d .before) (r .groups - 1))
+      (taskList (d .minutes) (d .flag) (d .pre) (d .post) ++ groupList (d .before) (r .groups - 1))
       (rw append-assoc at (d .drawn)) in
       let b = each-of (r .seed)
-      (λ j. (60, d .minutes j) ∷ (8, d .flag j) ∷ (2, d .need j) ∷ (2, d .leaving j) ∷ []) (taskDraw r)
-      (λ j. (d .minutes j ≡ minutesDrawn r j) × (d .flag j ≡ flagDrawn r j) × (d .need j ≡ needDrawn r j)
-      × (d .leaving j ≡ leavingDrawn r j))
-      (task-of (d .minutes) (d .flag) (d .need) (d .leaving)) 0 (r .tasks) (groupList (d .before) (r .groups - 1))
+      (λ j. (60, d .minutes j) ∷ (8, d .flag j) ∷ (2, d .pre j) ∷ (2, d .post j) ∷ []) (taskDraw r)
+      (λ j. (d .minutes j ≡ minutesDrawn r j) × (d .flag j ≡ flagDrawn r j) × (d .pre j ≡ preDrawn r j)
+      × (d .post j ≡ postDrawn r j))
+      (task-of (d .minutes) (d .flag) (d .pre) (d .post)) 0 (r .tasks) (groupList (d .before) (r .groups - 1))
       (rw tasks-first (a .1)) in
       let c = each-of (r .seed) (λ i. (2, d .before i) ∷ []) (λ i. taskDraw r (r .tasks) + i)
       (λ i. d .before i ≡ draw (r .seed) (taskDraw r (r .tasks) + i) 2)
@@ -169,7 +169,7 @@ module _ (r : Recipe) where
         kind = λ i l. a .0 i (omega arith) (omega arith);
         minutes = λ j l. b .0 j (omega arith) (omega arith) .0;
         flag = λ j l. b .0 j (omega arith) (omega arith) .1;
-        need = λ j l. b .0 j (omega arith) (omega arith) .2;
-        leaving = λ j l. b .0 j (omega arith) (omega arith) .3;
+        pre = λ j l. b .0 j (omega arith) (omega arith) .2;
+        post = λ j l. b .0 j (omega arith) (omega arith) .3;
         before = λ i l. c .0 i (omega arith) (omega arith);
       }

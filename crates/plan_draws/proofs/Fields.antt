@@ -10,10 +10,9 @@ use lib.ListN.{length, getD, set, length-set}
 use lib.Seq.{getD-set-same, getD-set-other}
 use borrow.Author.Tests.{eq-eqb, ne-eqb, le-leb, lt-leb}
 use Rattle.plan_draws.specs.declared.Recipe.{Recipe}
-use Rattle.plan_draws.specs.Drawn.{Allowed, next}
-use Rattle.plan_draws.specs.Generated.{stateAfter, given, draw, kindDrawn, taskDraw, minutesDrawn, flagDrawn}
-use Rattle.plan_draws.specs.Generated.{needDrawn, leavingDrawn}
-use Rattle.plan_draws.specs.Generated.{kindIn, minutesIn, valueIn}
+use Rattle.plan_draws.specs.Drawn.{Allowed, nextState}
+use Rattle.plan_draws.specs.Model.{stateAfter, given, draw, kindDrawn, taskDraw, minutesDrawn, flagDrawn}
+use Rattle.plan_draws.specs.Model.{preDrawn, postDrawn, kindIn, minutesIn, valueIn}
 use Rattle.plan_draws.specs.Inner.{DRAWS, Drew}
 
 -- ---- the first n draws are made, and the state is the one after them
@@ -26,11 +25,11 @@ pub drew-none : (seed : ℕ) {draws : List ℕ} → length draws ≡ DRAWS → D
 unfolding stateAfter
 drew-none seed e = record { long = e; state-is = refl; at = λ m l. absurd (omega arith) }
 
-pub drew-more : {seed : ℕ} {draws : List ℕ} {state state′ n : ℕ} → n < DRAWS → state′ ≡ next state
+pub drew-more : {seed : ℕ} {draws : List ℕ} {state state′ n : ℕ} → n < DRAWS → state′ ≡ nextState state
     → DrewTo seed draws state n → DrewTo seed (set draws n (state′ / 65536)) state′ (n + 1)
 unfolding stateAfter given
 drew-more {seed} {draws} {state} {state′} {n} l e d =
-    let s : state′ ≡ next (stateAfter seed n) = e ∙ ap next (d .state-is) in
+    let s : state′ ≡ nextState (stateAfter seed n) = e ∙ ap nextState (d .state-is) in
     record {
       long = length-set draws n (state′ / 65536) ∙ d .long;
       state-is = rw (add-one n) s;
@@ -72,13 +71,13 @@ module _ (r : Recipe) where
   minutes-drawn n l = rw (lt-leb n (r .groups) l)
 
   -- ---- values of conditions
-  pub value-need : (i : ℕ) → i % 2 ≡ 0 → valueIn r i ≡ flagDrawn r (i / 2) + 64 * needDrawn r (i / 2)
+  pub value-pre : (i : ℕ) → i % 2 ≡ 0 → valueIn r i ≡ flagDrawn r (i / 2) + 64 * preDrawn r (i / 2)
   unfolding valueIn
-  value-need i e = rw (eq-eqb (i % 2) 0 e) (omega arith)
+  value-pre i e = rw (eq-eqb (i % 2) 0 e) (omega arith)
 
-  pub value-leaving : (i : ℕ) → i % 2 ≡ 1 → valueIn r i ≡ flagDrawn r (i / 2) + 64 * leavingDrawn r (i / 2) + 256
+  pub value-post : (i : ℕ) → i % 2 ≡ 1 → valueIn r i ≡ flagDrawn r (i / 2) + 64 * postDrawn r (i / 2) + 256
   unfolding valueIn
-  value-leaving i e = rw (ne-eqb (i % 2) 0 (λ z. omega arith)) (omega arith)
+  value-post i e = rw (ne-eqb (i % 2) 0 (λ z. omega arith)) (omega arith)
 
 -- ---- what is read from the table
 module _ (r : Recipe) (ok : Allowed r) (draws : List ℕ) (d : Drew (r .seed) draws) where
@@ -99,18 +98,18 @@ module _ (r : Recipe) (ok : Allowed r) (draws : List ℕ) (d : Drew (r .seed) dr
     unfolding flagDrawn taskDraw
     flag-read = drawn-at d (r .groups + 4 * (i / 2) + 1) 8 (omega (arith, ok .few-groups, ok .few-tasks))
 
-    need-read : i % 2 ≡ 0 → getD draws n 0 % 2 ≡ needDrawn r (i / 2)
-    unfolding needDrawn taskDraw
-    need-read z = let q : n ≡ r .groups + 4 * (i / 2) + 2 = omega arith in
+    pre-read : i % 2 ≡ 0 → getD draws n 0 % 2 ≡ preDrawn r (i / 2)
+    unfolding preDrawn taskDraw
+    pre-read z = let q : n ≡ r .groups + 4 * (i / 2) + 2 = omega arith in
         rw q (drawn-at d (r .groups + 4 * (i / 2) + 2) 2 (omega (arith, ok .few-groups, ok .few-tasks)))
 
-    leaving-read : i % 2 ≡ 1 → getD draws n 0 % 2 ≡ leavingDrawn r (i / 2)
-    unfolding leavingDrawn taskDraw
-    leaving-read z = let q : n ≡ r .groups + 4 * (i / 2) + 3 = omega arith in
+    post-read : i % 2 ≡ 1 → getD draws n 0 % 2 ≡ postDrawn r (i / 2)
+    unfolding postDrawn taskDraw
+    post-read z = let q : n ≡ r .groups + 4 * (i / 2) + 3 = omega arith in
         rw q (drawn-at d (r .groups + 4 * (i / 2) + 3) 2 (omega (arith, ok .few-groups, ok .few-tasks)))
 
     pub literal-is : getD draws (r .groups + 4 * (i / 2) + 1) 0 % 8 + 64 * (getD draws n 0 % 2) ≡ valueIn r i % 256
     literal-is =
         let x = flag-read in
-        by-cases (ℕ-discrete (i % 2) 0) (λ (z : i % 2 ≡ 0). omega (arith, need-read z, value-need r i z))
-        (λ z. let o : i % 2 ≡ 1 = omega arith in omega (arith, leaving-read o, value-leaving r i o))
+        by-cases (ℕ-discrete (i % 2) 0) (λ (z : i % 2 ≡ 0). omega (arith, pre-read z, value-pre r i z))
+        (λ z. let o : i % 2 ≡ 1 = omega arith in omega (arith, post-read o, value-post r i o))

@@ -14,7 +14,7 @@ use Rattle.base.specs.Count.{num, countBelow}
 use Rattle.base.proofs.Count.{count-more}
 use Rattle.plan_draws.specs.declared.Recipe.{Recipe}
 use Rattle.plan_draws.specs.Drawn.{Allowed}
-use Rattle.plan_draws.specs.Generated.{pick, taskDraw, beforeDrawn, comesBefore, orderNumber, orderedGroup}
+use Rattle.plan_draws.specs.Model.{pick, taskDraw, beforeDrawn, comesBefore, orderNumber, orderedGroup}
 use Rattle.plan_draws.specs.Inner.{GROUPS, Drew, OrdersFound}
 use Rattle.plan_draws.proofs.Picked.{pick-new, pick-stays}
 use Rattle.plan_draws.proofs.Fields.{drawn-at}

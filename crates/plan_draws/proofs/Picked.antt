@@ -8,7 +8,7 @@ use native.Mathlib.Omega.{arith}
 use lib.Dec.{eqb}
 use borrow.Author.Tests.{eq-eqb, ne-eqb}
 use Rattle.base.specs.Count.{num, countBelow}
-use Rattle.plan_draws.specs.Generated.{pick}
+use Rattle.plan_draws.specs.Model.{pick}
 
 pub record Picked (q : ℕ → Bool) (n m x : ℕ) : Type 0 where
   pub below : x < n

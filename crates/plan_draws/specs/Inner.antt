@@ -4,7 +4,7 @@ use mathlib.Core.List.{List}
 use Prim.Native.Nat.{ℕ, _+_, _-_, _*_, _<_}
 use lib.ListN.{getD}
 use Rattle.plan_draws.specs.declared.Recipe.{Recipe}
-use Rattle.plan_draws.specs.Generated.{given, orderNumber, orderedGroup}
+use Rattle.plan_draws.specs.Model.{given, orderNumber, orderedGroup}
 
 -- as the code has them
 abbrev pub GROUPS : ℕ

@@ -1,4 +1,4 @@
 -- The draws of a generated plan: one after another, by their numbers, and the fields that they give.
 pub mod Drawn
-pub mod Generated
+pub mod Model
 pub mod Inner

@@ -3,10 +3,12 @@ ghost use mathlib.Core.Path.{_≡_};
 ghost use Prim.Native.Nat.{_+_, _*_, _%_, _<_};
 ghost use lib.ListN.{length};
 ghost use Rattle.plan_draws.specs.Drawn.{Allowed};
-ghost use Rattle.plan_draws.specs.Generated.{kindIn, minutesIn, valueIn};
+ghost use Rattle.plan_draws.specs.Model.{kindIn, minutesIn, valueIn};
 ghost use Rattle.plan_draws.specs.Inner.{GROUPS, DRAWS, Drew, OrdersFound};
+use base::kinds::ALL_OF;
+use base::kinds::TASK;
 
-// What a plan is generated from.
+// What a plan is generated from: 02's seed, g and t.
 pub struct Recipe {
     pub seed: u32,
     pub groups: usize,
@@ -21,14 +23,14 @@ pub const TASKS: usize = 60;
 // One draw for each group, four for each task, one for each group but the last.
 pub const DRAWS: usize = GROUPS + 4 * TASKS + GROUPS - 1;
 
-// What each draw gives, before it is taken below its own number.
-pub type Draws = [u16; DRAWS];
+// What each draw gives before the remainder: the upper half of the state.
+pub type DrawTable = [u16; DRAWS];
 
 // The groups, counted from 0, that come before the next.
-pub type Ordered = [u8; GROUPS];
+pub type OrderTable = [u8; GROUPS];
 
 // Makes all draws, one after another.
-pub fn draw_all(seed: u32, draws: &mut Draws)
+pub fn draw_all(seed: u32, draws: &mut DrawTable)
     requires { ⌜ length (now draws) ≡ DRAWS ⌝ }
     ensures { λ _. ⌜ Drew seed (now (draws .exit)) ⌝ }
 {
@@ -42,7 +44,7 @@ pub fn draw_all(seed: u32, draws: &mut Draws)
 }
 
 // Finds the groups that come before the next, in rising order, and answers how many they are.
-pub fn find_orders(recipe: Recipe, draws: &Draws, ordered: &mut Ordered) -> usize
+pub fn find_orders(recipe: Recipe, draws: &DrawTable, ordered: &mut OrderTable) -> usize
     requires { ⌜ Allowed recipe × Drew (recipe .seed) (now draws) × (length (now ordered) ≡ GROUPS) ⌝ }
     ensures { λ r. ⌜ OrdersFound recipe r (now (ordered .exit)) ⌝ }
 {
@@ -60,21 +62,21 @@ pub fn find_orders(recipe: Recipe, draws: &Draws, ordered: &mut Ordered) -> usiz
 }
 
 // The kind of a node: the root is all-of, a group's is drawn.
-pub fn kind_of(recipe: Recipe, draws: &Draws, node: usize) -> u8
+pub fn kind_of(recipe: Recipe, draws: &DrawTable, node: usize) -> u8
     requires { ⌜ Allowed recipe × Drew (recipe .seed) (now draws) ⌝ }
     ensures { λ r. ⌜ r ≡ kindIn recipe node ⌝ }
 {
     if node == 0 {
-        return 1;
+        return ALL_OF;
     }
     if node <= recipe.groups {
-        return 1 + (draws[node - 1] % 2) as u8;
+        return ALL_OF + (draws[node - 1] % 2) as u8;
     }
-    0
+    TASK
 }
 
 // The minutes of a node: a task's are drawn.
-pub fn minutes_of(recipe: Recipe, draws: &Draws, node: usize) -> u8
+pub fn minutes_of(recipe: Recipe, draws: &DrawTable, node: usize) -> u8
     requires { ⌜ Allowed recipe × (node < 1 + recipe .groups + recipe .tasks) × Drew (recipe .seed) (now draws) ⌝ }
     ensures { λ r. ⌜ r ≡ minutesIn recipe node ⌝ }
 {
@@ -85,8 +87,8 @@ pub fn minutes_of(recipe: Recipe, draws: &Draws, node: usize) -> u8
     (draws[first] % 60) as u8
 }
 
-// The low byte of the value of condition i, flag and sign: those of task i / 2, its need, then its leaving.
-pub fn literal_of(recipe: Recipe, draws: &Draws, i: usize) -> u8
+// The low byte of the value of condition i, its flag and sign: task i / 2 has a precondition, then a postcondition.
+pub fn literal_of(recipe: Recipe, draws: &DrawTable, i: usize) -> u8
     requires { ⌜ Allowed recipe × (i < 2 * recipe .tasks) × Drew (recipe .seed) (now draws) ⌝ }
     ensures { λ r. ⌜ r ≡ valueIn recipe i % 256 ⌝ }
 {

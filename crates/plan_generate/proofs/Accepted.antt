@@ -1,7 +1,7 @@
 -- "Every book made passes the book rules" (02). Assumes nothing.
 use mathlib.Core.Path.{_≡_, refl, sym, ap, _∙_}
 use mathlib.Core.Logic.{_≢_, inl, inr, by-cases}
-use mathlib.Core.Bool.{Bool, true, false, cond, _&&_, _||_}
+use mathlib.Core.Bool.{Bool, true, false, cond, _&&_, or-true}
 use mathlib.Core.List.{List}
 use Prim.Native.Nat.{ℕ, suc, _+_, _-_, _*_, _/_, _%_, _^_, _<_, _≤_}
 use native.Mathlib.Nat.{mod-eq-of-lt, zero-div}
@@ -12,19 +12,18 @@ use borrow.Author.Tests.{le-leb}
 use Rattle.plan_codes.specs.Names.{nameAllowed}
 use Rattle.plan_codes.specs.Values.{flagOf, signOf, placeOf}
 use Rattle.plan_rules.specs.Rules.{refusal}
+use Rattle.plan_rules.proofs.Rising.{Below}
 use Rattle.plan_layout.specs.Fields.{Laid}
-use Rattle.plan_layout.proofs.Valid.{Below, Valid}
+use Rattle.plan_layout.proofs.Valid.{Valid}
 use Rattle.plan_layout.proofs.Accepted.{accepted}
 use Rattle.plan_draws.specs.declared.Recipe.{Recipe}
 use Rattle.plan_draws.specs.Drawn.{Allowed}
-use Rattle.plan_draws.specs.Generated.{kindDrawn, comesBefore, orderNumber}
-use Rattle.plan_draws.specs.Generated.{orderedGroup, kindIn, valueIn}
+use Rattle.plan_draws.specs.Model.{kindDrawn, comesBefore, orderNumber, orderedGroup, kindIn, valueIn}
 use Rattle.plan_draws.proofs.Picked.{pick-rises}
-use Rattle.plan_draws.proofs.Fields.{kind-root, kind-drawn, kind-task, minutes-group, value-need, value-leaving}
-use Rattle.plan_generate.specs.Generated.{rootChar, numberChar, nameIn, parentIn, generated}
+use Rattle.plan_draws.proofs.Fields.{kind-root, kind-drawn, kind-task, minutes-group, value-pre, value-post}
+use Rattle.plan_generate.specs.Model.{rootChar, numberChar, nameIn, parentIn, generated}
 use Rattle.plan_generate.proofs.Bytes.{parent-root, parent-group, parent-task, turn, draw-small, flag-small}
-use Rattle.plan_generate.proofs.Bytes.{need-small}
-use Rattle.plan_generate.proofs.Bytes.{leaving-small, minutes-small, order-at, few-orders}
+use Rattle.plan_generate.proofs.Bytes.{pre-small, post-small, minutes-small, order-at, sizes-limited}
 
 -- ---- names
 digit-allowed : (d : ℕ) → d ≤ 9 → nameAllowed (48 + d) ≡ true
@@ -33,11 +32,7 @@ digit-allowed d l = rw (le-leb 48 (48 + d) (omega arith), le-leb (48 + d) 57 (om
 
 letter-allowed : (d : ℕ) → 65 ≤ d → d ≤ 90 → nameAllowed d ≡ true
 unfolding nameAllowed
-letter-allowed d l m = rw (le-leb 65 d l, le-leb d 90 m) (at (leb 48 d && leb d 57))
-  where
-    at : (x : Bool) → (x || true) ≡ true
-    at true = refl
-    at false = refl
+letter-allowed d l m = rw (le-leb 65 d l, le-leb d 90 m) (or-true (leb 48 d && leb d 57))
 
 root-allowed : (c : ℕ) → nameAllowed (rootChar c) ≡ true
 unfolding rootChar
@@ -119,7 +114,7 @@ module _ (r : Recipe) (ok : Allowed r) where
       ))
 
   -- ---- conditions
-  pub record ValueIn (i : ℕ) : Type 0 where
+  record ValueIn (i : ℕ) : Type 0 where
     few : valueIn r i ≤ 383
     flag : flagOf (valueIn r i) < 8
     place : placeOf (valueIn r i) ≡ 2 * (i % 2)
@@ -133,8 +128,8 @@ module _ (r : Recipe) (ok : Allowed r) where
       let x = flag-small r (i / 2) in
       by-cases (ℕ-discrete (i % 2) 0)
       (λ (e : i % 2 ≡ 0).
-      let v = value-need r i e in
-      let y = need-small r (i / 2) in
+      let v = value-pre r i e in
+      let y = pre-small r (i / 2) in
       record {
         few = omega arith;
         flag = omega arith;
@@ -143,8 +138,8 @@ module _ (r : Recipe) (ok : Allowed r) where
         high = λ u. omega arith;
       })
       (λ ne.
-      let v = value-leaving r i (omega arith) in
-      let y = leaving-small r (i / 2) in
+      let v = value-post r i (omega arith) in
+      let y = post-small r (i / 2) in
       record {
         few = omega arith;
         flag = omega arith;
@@ -191,11 +186,8 @@ module _ (r : Recipe) (ok : Allowed r) where
   unfolding generated
   generated-valid = record {
     some-node = omega arith;
-    few-nodes = omega (arith, ok .few-groups, ok .few-tasks);
-    few-conditions = omega (arith, ok .few-tasks);
-    few-orders = omega (arith, few-orders r, ok .few-groups);
     some-flag = omega arith;
-    few-flags = omega arith;
+    limited = sizes-limited r ok;
     starts = λ k l m. no-bit (2 ^ (k % 8));
     names = λ k l. name-allowed (r .groups) k (omega (arith, ok .few-groups, ok .few-tasks));
     kinds = λ n l. kind-limit n;

@@ -13,17 +13,17 @@ use borrow.Author.Tests.{eq-eqb, ne-eqb, le-leb, lt-leb}
 use Rattle.base.proofs.Count.{count-le}
 use Rattle.plan_layout.specs.declared.Sizes.{Sizes}
 use Rattle.plan_layout.specs.declared.Part.{Part}
-use Rattle.plan_layout.specs.Layout.{Limited, sizeByte, size, partAt}
+use Rattle.plan_layout.specs.Layout.{Limited, sizeByte, planLength, partAt}
 use Rattle.plan_layout.specs.Fields.{byteIn, byteAt}
 use Rattle.plan_draws.specs.declared.Recipe.{Recipe}
 use Rattle.plan_draws.specs.Drawn.{Allowed}
 use Rattle.plan_draws.specs.Inner.{Drew, OrdersFound}
-use Rattle.plan_draws.specs.Generated.{draw, taskDraw, minutesDrawn, flagDrawn, needDrawn, leavingDrawn, comesBefore}
-use Rattle.plan_draws.specs.Generated.{orderNumber}
-use Rattle.plan_draws.specs.Generated.{orderedGroup, minutesIn, valueIn}
+use Rattle.plan_draws.specs.Model.{draw, taskDraw, minutesDrawn, flagDrawn, preDrawn, postDrawn, comesBefore}
+use Rattle.plan_draws.specs.Model.{orderNumber, orderedGroup, minutesIn, valueIn}
 use Rattle.plan_draws.proofs.Picked.{Picked, picked}
-use Rattle.plan_draws.proofs.Fields.{value-need, value-leaving}
-use Rattle.plan_generate.specs.Generated.{rootChar, numberChar, nameIn, parentIn, sizesIn, generated}
+use Rattle.plan_draws.proofs.Fields.{value-pre, value-post}
+use Rattle.plan_generate.specs.Sentences.{rootName, numberedName}
+use Rattle.plan_generate.specs.Model.{rootChar, numberChar, nameIn, parentIn, sizesIn, generated}
 use Rattle.plan_generate.specs.Inner.{Prepared}
 
 -- ---- names
@@ -70,6 +70,29 @@ module _ (g k : ℕ) where
     ne-eqb (k % 4) 2 (λ x. omega arith),
   )
 
+-- ---- the four characters of node n
+abbrev pub four : (ℕ → ℕ) → ℕ → List ℕ
+four f n = f (4 * n) ∷ f (4 * n + 1) ∷ f (4 * n + 2) ∷ f (4 * n + 3) ∷ []
+
+pub root-chars : (g : ℕ) → rootName ≡ four (nameIn g) 0
+unfolding nameIn rootChar
+root-chars g = refl
+
+pub number-chars : (g n c : ℕ) → 0 < n → c ≡ nameIn g (4 * n) → numberedName c n ≡ four (nameIn g) n
+number-chars g n c z e =
+    let x : (4 * n + 1) / 4 ≡ n = omega arith in
+    let y : (4 * n + 2) / 4 ≡ n = omega arith in
+    let w : (4 * n + 3) / 4 ≡ n = omega arith in
+    rw (
+      e,
+      ← name-hundreds g (4 * n + 1) (omega arith) (omega arith),
+      ← name-tens g (4 * n + 2) (omega arith) (omega arith),
+      ← name-ones g (4 * n + 3) (omega arith) (omega arith),
+      x,
+      y,
+      w,
+    )
+
 -- ---- parents
 module _ (g n : ℕ) where
   pub parent-root : n ≡ 0 → 255 ≡ parentIn g n
@@ -97,21 +120,21 @@ module _ (r : Recipe) where
   unfolding flagDrawn
   flag-small j = draw-small _ _ 8 (omega arith)
 
-  pub need-small : (j : ℕ) → needDrawn r j < 2
-  unfolding needDrawn
-  need-small j = draw-small _ _ 2 (omega arith)
+  pub pre-small : (j : ℕ) → preDrawn r j < 2
+  unfolding preDrawn
+  pre-small j = draw-small _ _ 2 (omega arith)
 
-  pub leaving-small : (j : ℕ) → leavingDrawn r j < 2
-  unfolding leavingDrawn
-  leaving-small j = draw-small _ _ 2 (omega arith)
+  pub post-small : (j : ℕ) → postDrawn r j < 2
+  unfolding postDrawn
+  post-small j = draw-small _ _ 2 (omega arith)
 
   -- the high byte of a value
   pub value-high : (i : ℕ) → i % 2 ≡ valueIn r i / 256
   value-high i =
       let x = flag-small (i / 2) in
       by-cases (ℕ-discrete (i % 2) 0)
-      (λ (e : i % 2 ≡ 0). omega (arith, need-small (i / 2), value-need r i e))
-      (λ e. let z : i % 2 ≡ 1 = omega arith in omega (arith, leaving-small (i / 2), value-leaving r i z))
+      (λ (e : i % 2 ≡ 0). omega (arith, pre-small (i / 2), value-pre r i e))
+      (λ e. let z : i % 2 ≡ 1 = omega arith in omega (arith, post-small (i / 2), value-post r i z))
 
   pub minutes-small : (n : ℕ) → minutesIn r n < 60
   unfolding minutesIn minutesDrawn
@@ -149,8 +172,8 @@ module _ (r : Recipe) {found : ℕ} {ordered : List ℕ} (f : OrdersFound r foun
   pub sizes-fit : Allowed r → Limited sizesWith
   sizes-fit ok = rw (f .number) (sizes-limited r ok)
 
-  pub length-is : {n : ℕ} → n ≡ size sizesWith → n ≡ size (sizesIn r)
-  length-is e = e ∙ ap size sizes-are
+  pub length-is : {n : ℕ} → n ≡ planLength sizesWith → n ≡ planLength (sizesIn r)
+  length-is e = e ∙ ap planLength sizes-are
 
   pub prepared : {draws : List ℕ} → Allowed r → Drew (r .seed) draws → Prepared r draws ordered sizesWith
   prepared ok d = record { allowed = ok; drew = d; found = f; sized = sizes-are }

@@ -11,16 +11,16 @@ use borrow.Author.Tests.{lt-ltb, le-ltb, ltb-false}
 use Rattle.base.specs.Answers.{overlay}
 use Rattle.base.proofs.Booleans.{or-none}
 use Rattle.base.proofs.Overlay.{length-overlay, past-overlay}
-use Rattle.plan_layout.specs.Layout.{size}
+use Rattle.plan_layout.specs.Layout.{planLength}
 use Rattle.plan_layout.specs.Fields.{byteAt}
 use Rattle.plan_layout.proofs.Sections.{laid-in}
 use Rattle.plan_draws.specs.declared.Recipe.{Recipe}
 use Rattle.plan_draws.specs.Drawn.{Allowed}
-use Rattle.plan_generate.specs.Words.{IsGenerated}
-use Rattle.plan_generate.specs.Generated.{sizesIn, generated}
-use Rattle.plan_generate.specs.Model.{refused30, generateRefusal, generateAnswer, generateLeft}
-use Rattle.plan_generate.specs.Calls.{TooShort, Generates}
-use Rattle.plan_generate.proofs.Words.{is-generated, generated-long}
+use Rattle.plan_generate.specs.Sentences.{IsGenerated}
+use Rattle.plan_generate.specs.Model.{sizesIn, generated, refused30, generateRefusal, generateAnswer}
+use Rattle.plan_generate.specs.Model.{generateLeft}
+use Rattle.plan_generate.specs.Calls.{PlanLonger, Generates}
+use Rattle.plan_generate.proofs.Sentences.{is-generated, generated-long}
 
 -- ---- 30
 module _ (r : Recipe) where
@@ -48,20 +48,20 @@ module _ (r : Recipe) where
   )
 
   -- ---- the plan at the beginning of lent memory, and by itself
-  pub plan-in : Allowed r → (out : List ℕ) → size (sizesIn r) ≤ length out
-      → IsGenerated r (take (size (sizesIn r)) (overlay (byteAt (generated r)) (size (sizesIn r)) out))
+  pub plan-in : Allowed r → (out : List ℕ) → planLength (sizesIn r) ≤ length out
+      → IsGenerated r (take (planLength (sizesIn r)) (overlay (byteAt (generated r)) (planLength (sizesIn r)) out))
   unfolding generated
   plan-in ok out l = is-generated r ok _ (laid-in (generated r) out l)
 
   alone : List ℕ
-  alone = replicate (size (sizesIn r)) 0
+  alone = replicate (planLength (sizesIn r)) 0
 
-  alone-long : length alone ≡ size (sizesIn r)
+  alone-long : length alone ≡ planLength (sizesIn r)
   unfolding alone
-  alone-long = length-replicate {A = ℕ} (size (sizesIn r)) 0
+  alone-long = length-replicate {A = ℕ} (planLength (sizesIn r)) 0
 
   planBytes : List ℕ
-  planBytes = take (size (sizesIn r)) (overlay (byteAt (generated r)) (size (sizesIn r)) alone)
+  planBytes = take (planLength (sizesIn r)) (overlay (byteAt (generated r)) (planLength (sizesIn r)) alone)
 
   plan-is : Allowed r → IsGenerated r planBytes
   unfolding planBytes
@@ -103,11 +103,11 @@ module _ (r : Recipe) (out : List ℕ) where
     ok : Allowed r
     ok = allowed r h
 
-    pub generates-15 : length out < size (sizesIn r) → Generates r out (inl 15) out
+    pub generates-15 : length out < planLength (sizesIn r) → Generates r out (inl 15) out
     unfolding generateRefusal generateAnswer generateLeft
     generates-15 l = record {
-      returns = rw (h, lt-ltb (length out) (size (sizesIn r)) l);
-      leaves = rw (h, lt-ltb (length out) (size (sizesIn r)) l);
+      returns = rw (h, lt-ltb (length out) (planLength (sizesIn r)) l);
+      leaves = rw (h, lt-ltb (length out) (planLength (sizesIn r)) l);
       refused-30 = (λ e. absurd (other (same-refusal e)), λ no. absurd (no ok));
       refused-15 = (λ e. short, λ s. refl);
       refused = λ m e. inr (sym (same-refusal e));
@@ -121,7 +121,7 @@ module _ (r : Recipe) (out : List ℕ) where
         other : _≡_ {A = ℕ} 15 30 → ⊥
         other e = omega arith
 
-        short : TooShort r out
+        short : PlanLonger r out
         short = record {
           allowed = ok;
           plan = planBytes r;
@@ -129,12 +129,12 @@ module _ (r : Recipe) (out : List ℕ) where
           longer = omega (arith, generated-long r (planBytes r) (plan-is r ok));
         }
 
-    pub generates-plan : {m : ℕ} {out′ : List ℕ} → m ≡ size (sizesIn r) → size (sizesIn r) ≤ length out
-        → out′ ≡ overlay (byteAt (generated r)) (size (sizesIn r)) out → Generates r out (inr m) out′
+    pub generates-plan : {m : ℕ} {out′ : List ℕ} → m ≡ planLength (sizesIn r) → planLength (sizesIn r) ≤ length out
+        → out′ ≡ overlay (byteAt (generated r)) (planLength (sizesIn r)) out → Generates r out (inr m) out′
     unfolding generateRefusal generateAnswer generateLeft
     generates-plan {m} {out′} e l q = record {
-      returns = rw (h, le-ltb (length out) (size (sizesIn r)) l, e);
-      leaves = rw (h, le-ltb (length out) (size (sizesIn r)) l) q;
+      returns = rw (h, le-ltb (length out) (planLength (sizesIn r)) l, e);
+      leaves = rw (h, le-ltb (length out) (planLength (sizesIn r)) l) q;
       refused-30 = (λ z. absurd (refused-not (sym z)), λ no. absurd (no ok));
       refused-15 = (λ z. absurd (refused-not (sym z)), λ s. absurd (long s));
       refused = λ k z. absurd (refused-not (sym z));
@@ -142,9 +142,9 @@ module _ (r : Recipe) (out : List ℕ) where
       fits = λ k z. omega (arith, same-length z);
       made = λ k z. rw (q, ← same-length z, e) (plan-in r ok out l);
       kept = λ k z i u. rw q
-          (past-overlay (byteAt (generated r)) out (size (sizesIn r)) i (omega (arith, same-length z)));
-      as-long = rw q (length-overlay (byteAt (generated r)) out (size (sizesIn r)));
+          (past-overlay (byteAt (generated r)) out (planLength (sizesIn r)) i (omega (arith, same-length z)));
+      as-long = rw q (length-overlay (byteAt (generated r)) out (planLength (sizesIn r)));
     }
       where
-        long : TooShort r out → ⊥
+        long : PlanLonger r out → ⊥
         long s = omega (arith, s .longer, generated-long r (s .plan) (s .is-generated))

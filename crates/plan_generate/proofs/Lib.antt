@@ -2,7 +2,7 @@
 -- and is the only one (`generated-only`); the rows hold (`rows-hold`, `small-left`).
 pub mod Bytes
 pub mod Accepted
-pub mod Words
+pub mod Sentences
 pub mod Only
 pub mod Calls
 pub mod Rows

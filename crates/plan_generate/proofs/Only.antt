@@ -20,21 +20,18 @@ use Rattle.plan_check.proofs.Accepted.{clean, start-below}
 use Rattle.plan_layout.specs.Fields.{Laid}
 use Rattle.plan_layout.proofs.Exact.{laid-byte}
 use Rattle.plan_draws.specs.declared.Recipe.{Recipe}
-use Rattle.plan_draws.specs.Generated.{kindDrawn, minutesDrawn, orderNumber, orderedGroup, kindIn, minutesIn, valueIn}
-use Rattle.plan_draws.proofs.Drawn.{Numbered, draws-only}
+use Rattle.plan_draws.specs.Model.{kindDrawn, minutesDrawn, orderNumber, orderedGroup, kindIn, minutesIn, valueIn}
+use Rattle.plan_draws.proofs.Drawn.{ByNumber, draws-only}
 use Rattle.plan_draws.proofs.Each.{each-at}
-use Rattle.plan_draws.proofs.Fields.{kind-root, kind-drawn, kind-task, minutes-group, minutes-drawn, value-need}
-use Rattle.plan_draws.proofs.Fields.{value-leaving}
-use Rattle.plan_generate.specs.Words.{rootName, numbered, NodeIs, IsGenerated}
-use Rattle.plan_generate.specs.Generated.{rootChar, nameIn, parentIn, generated}
-use Rattle.plan_generate.proofs.Bytes.{name-group, name-task, name-hundreds, name-tens, name-ones, parent-root}
+use Rattle.plan_draws.proofs.Fields.{kind-root, kind-drawn, kind-task, minutes-group, minutes-drawn, value-pre}
+use Rattle.plan_draws.proofs.Fields.{value-post}
+use Rattle.plan_generate.specs.Sentences.{NodeIs, IsGenerated}
+use Rattle.plan_generate.specs.Model.{nameIn, parentIn, generated}
+use Rattle.plan_generate.proofs.Bytes.{name-group, name-task, four, root-chars, number-chars, parent-root}
 use Rattle.plan_generate.proofs.Bytes.{parent-group, parent-task}
-use Rattle.plan_generate.proofs.Words.{condition-count, orders-drawn, order-count, generated-long}
+use Rattle.plan_generate.proofs.Sentences.{condition-count, orders-drawn, order-count, generated-long}
 
--- ---- four characters make a name
-abbrev four : (ℕ → ℕ) → ℕ → List ℕ
-four f n = f (4 * n) ∷ f (4 * n + 1) ∷ f (4 * n + 2) ∷ f (4 * n + 3) ∷ []
-
+-- ---- names that are equal have equal characters
 four-at : (f : ℕ → ℕ) (n c : ℕ) → c < 4 → getD (four f n) c 0 ≡ f (4 * n + c)
 four-at f n zero l = let e : 4 * n + 0 ≡ 4 * n = omega arith in rw e
 four-at f n (suc zero) l = refl
@@ -42,31 +39,11 @@ four-at f n (suc (suc zero)) l = refl
 four-at f n (suc (suc (suc zero))) l = refl
 four-at f n (suc (suc (suc (suc c)))) l = absurd (omega arith)
 
--- names that are equal have equal characters
 same-four : (f g : ℕ → ℕ) (k : ℕ) → four f (k / 4) ≡ four g (k / 4) → f k ≡ g k
 same-four f g k e =
     let q : 4 * (k / 4) + k % 4 ≡ k = omega arith in
     rw q at (sym (four-at f (k / 4) (k % 4) (omega arith)) ∙ ap (λ (c : List ℕ). getD c (k % 4) 0) e
     ∙ four-at g (k / 4) (k % 4) (omega arith))
-
-root-chars : (g : ℕ) → rootName ≡ four (nameIn g) 0
-unfolding nameIn rootChar
-root-chars g = refl
-
-number-chars : (g n c : ℕ) → 0 < n → c ≡ nameIn g (4 * n) → numbered c n ≡ four (nameIn g) n
-number-chars g n c z e =
-    let x : (4 * n + 1) / 4 ≡ n = omega arith in
-    let y : (4 * n + 2) / 4 ≡ n = omega arith in
-    let w : (4 * n + 3) / 4 ≡ n = omega arith in
-    rw (
-      e,
-      ← name-hundreds g (4 * n + 1) (omega arith) (omega arith),
-      ← name-tens g (4 * n + 2) (omega arith) (omega arith),
-      ← name-ones g (4 * n + 3) (omega arith) (omega arith),
-      x,
-      y,
-      w,
-    )
 
 -- a byte without a bit
 no-bits : (x : ℕ) → x < 256 → ((c : ℕ) → c < 8 → x / 2 ^ c % 2 ≡ 0) → x ≡ 0
@@ -81,7 +58,7 @@ no-bits x l h =
     omega (arith, h 0 (omega arith))
 
 module _ (r : Recipe) (b : List ℕ) (h : IsGenerated r b) (small : Bytes b) where
-  drawn : Numbered r (h .draws)
+  drawn : ByNumber r (h .draws)
   drawn = draws-only r (h .draws)
 
   -- ---- nodes
@@ -138,8 +115,8 @@ module _ (r : Recipe) (b : List ℕ) (h : IsGenerated r b) (small : Bytes b) whe
 
   -- ---- conditions
   abbrev pairsOf : ℕ → List (ℕ × ℕ)
-  pairsOf j = (1 + r .groups + j, valueOf (h .draws .flag j) (h .draws .need j) (placeNumber pre))
-      ∷ (1 + r .groups + j, valueOf (h .draws .flag j) (h .draws .leaving j) (placeNumber post)) ∷ []
+  pairsOf j = (1 + r .groups + j, valueOf (h .draws .flag j) (h .draws .pre j) (placeNumber pre))
+      ∷ (1 + r .groups + j, valueOf (h .draws .flag j) (h .draws .post j) (placeNumber post)) ∷ []
 
   -- condition i is number c of those of task j
   pair-of : (i j c : ℕ) → j < r .tasks → c < 2 → i ≡ 2 * j + c
@@ -158,9 +135,9 @@ module _ (r : Recipe) (b : List ℕ) (h : IsGenerated r b) (small : Bytes b) whe
       let v = drawn .flag j m in
       by-cases (ℕ-discrete (i % 2) 0)
       (λ (e : i % 2 ≡ 0). pair-of i j 0 m (omega arith) (omega arith)
-      ∙ ap (λ (k : ℕ). (1 + r .groups + j, k)) (omega (arith, drawn .need j m, value-need r i e)))
+      ∙ ap (λ (k : ℕ). (1 + r .groups + j, k)) (omega (arith, drawn .pre j m, value-pre r i e)))
       (λ z. let e : i % 2 ≡ 1 = omega arith in pair-of i j 1 m (omega arith) (omega arith)
-      ∙ ap (λ (k : ℕ). (1 + r .groups + j, k)) (omega (arith, drawn .leaving j m, value-leaving r i e)))
+      ∙ ap (λ (k : ℕ). (1 + r .groups + j, k)) (omega (arith, drawn .post j m, value-post r i e)))
 
   -- ---- orders
   order-in : (m : ℕ) → m < orderNumber r

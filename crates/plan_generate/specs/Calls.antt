@@ -7,11 +7,11 @@ use Prim.Native.Nat.{ℕ, _<_, _≤_}
 use lib.ListN.{length, getD, take}
 use Rattle.plan_draws.specs.declared.Recipe.{Recipe}
 use Rattle.plan_draws.specs.Drawn.{Allowed}
-use Rattle.plan_generate.specs.Words.{IsGenerated}
+use Rattle.plan_generate.specs.Sentences.{IsGenerated}
 use Rattle.plan_generate.specs.Model.{generateAnswer, generateLeft}
 
 -- the plan of the recipe is longer than the lent memory
-pub record TooShort (r : Recipe) (out : List ℕ) : Type 0 where
+pub record PlanLonger (r : Recipe) (out : List ℕ) : Type 0 where
   pub allowed : Allowed r
   pub plan : List ℕ
   pub is-generated : IsGenerated r plan
@@ -23,7 +23,7 @@ pub record Generates (r : Recipe) (out : List ℕ) (a : ℕ ⊎ ℕ) (out′ : L
   pub leaves : out′ ≡ generateLeft r out
   -- "30 when g is not 1 to 60 or t is not g to 60, first of all; 15 when the output is too short", and nothing else
   pub refused-30 : (a ≡ inl 30) ↔ (¬ Allowed r)
-  pub refused-15 : (a ≡ inl 15) ↔ TooShort r out
+  pub refused-15 : (a ≡ inl 15) ↔ PlanLonger r out
   pub refused : (n : ℕ) → a ≡ inl n → (n ≡ 30) ⊎ (n ≡ 15)
   pub unchanged : (n : ℕ) → a ≡ inl n → out′ ≡ out
   -- the plan from the first byte on; "Its length is returned and later bytes are kept"

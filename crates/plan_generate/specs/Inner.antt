@@ -6,7 +6,7 @@ use Rattle.plan_layout.specs.declared.Sizes.{Sizes}
 use Rattle.plan_draws.specs.declared.Recipe.{Recipe}
 use Rattle.plan_draws.specs.Drawn.{Allowed}
 use Rattle.plan_draws.specs.Inner.{Drew, OrdersFound}
-use Rattle.plan_generate.specs.Generated.{sizesIn}
+use Rattle.plan_generate.specs.Model.{sizesIn}
 
 -- the tables of draws and of orders, and the sizes, are those of the recipe
 pub record Prepared (r : Recipe) (draws ordered : List ℕ) (sizes : Sizes) : Type 0 where

@@ -1,6 +1,5 @@
 -- Generated plans (02: soak books).
-pub mod Words
-pub mod Generated
+pub mod Sentences
 pub mod Model
 pub mod Inner
 pub mod Calls

@@ -7,25 +7,25 @@ use lib.ListN.{length}
 use Rattle.plan_draws.specs.declared.Recipe.{Recipe}
 use Rattle.plan_generate.specs.Calls.{Generates}
 
-pub record Row : Type 0 where
+pub record RecipeRow : Type 0 where
   pub recipe : Recipe
   pub room : ℕ
   pub answer : ℕ ⊎ ℕ
 
-abbrev pub Answers : Row → Type 0
-Answers w = (out out′ : List ℕ) (a : ℕ ⊎ ℕ) → length out ≡ w .room → Generates (w .recipe) out a out′ → a ≡ w .answer
+abbrev pub RowAnswers : RecipeRow → Type 0
+RowAnswers w = (out out′ : List ℕ) (a : ℕ ⊎ ℕ) → length out ≡ w .room → Generates (w .recipe) out a out′ → a ≡ w .answer
 
-abbrev pub AllAnswer : List Row → Type 0
-AllAnswer [] = Unit {0}
-AllAnswer (w ∷ l) = Answers w × AllAnswer l
+abbrev pub AllRowsAnswer : List RecipeRow → Type 0
+AllRowsAnswer [] = Unit {0}
+AllRowsAnswer (w ∷ l) = RowAnswers w × AllRowsAnswer l
 
 abbrev recipe : ℕ → ℕ → ℕ → Recipe
 recipe s g t = record { seed = s; groups = g; tasks = t }
 
-abbrev row : ℕ → ℕ → ℕ → ℕ → ℕ ⊎ ℕ → Row
+abbrev row : ℕ → ℕ → ℕ → ℕ → ℕ ⊎ ℕ → RecipeRow
 row s g t n a = record { recipe = recipe s g t; room = n; answer = a }
 
-abbrev pub rows : List Row
+abbrev pub rows : List RecipeRow
 rows =
     -- 30, before 15: no group, too many, fewer tasks than groups, too many
     row 1 0 0 0 (inl 30)

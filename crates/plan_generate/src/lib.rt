@@ -1,20 +1,20 @@
 // Generated plans (02: soak books).
 ghost use mathlib.Core.Path.{_≡_};
-ghost use Prim.Native.Nat.{_≤_, _<_, _+_, _*_};
+ghost use Prim.Native.Nat.{_≤_, _<_};
 ghost use lib.ListN.{length};
 ghost use Rattle.base.specs.Answers.{overlay};
 ghost use Rattle.answers.specs.Written.{told};
-ghost use Rattle.plan_layout.specs.Layout.{size, Within};
+ghost use Rattle.plan_layout.specs.Layout.{planLength, PartOf};
 ghost use Rattle.plan_layout.specs.Fields.{byteIn, byteAt};
-ghost use Rattle.plan_generate.specs.Generated.{nameIn, parentIn, generated};
-ghost use Rattle.plan_generate.specs.Model.{refused30};
+ghost use Rattle.plan_draws.specs.Inner.{GROUPS};
+ghost use Rattle.plan_generate.specs.Model.{nameIn, parentIn, generated, refused30};
 ghost use Rattle.plan_generate.specs.Inner.{Prepared};
 ghost use Rattle.plan_generate.specs.Calls.{Generates};
 use answers::Written;
 use plan_draws::DRAWS;
-use plan_draws::Draws;
+use plan_draws::DrawTable;
 use plan_draws::GROUPS;
-use plan_draws::Ordered;
+use plan_draws::OrderTable;
 use plan_draws::Recipe;
 use plan_draws::TASKS;
 use plan_draws::draw_all;
@@ -29,7 +29,7 @@ use plan_layout::plan_length;
 use plan_layout::size_byte;
 
 // Character k of the names: SOAK, then G or T and the node number in three digits.
-fn name_char(groups: usize, k: usize) -> u8
+fn name_byte(groups: usize, k: usize) -> u8
     requires { ⌜ k < 512 ⌝ }
     ensures { λ r. ⌜ r ≡ nameIn groups k ⌝ }
 {
@@ -48,7 +48,7 @@ fn name_char(groups: usize, k: usize) -> u8
 
 // The parent of a node: none of the root, the root of a group, and the groups in turn of the tasks.
 fn parent_of(groups: usize, node: usize) -> u8
-    requires { ⌜ (0 < groups) × (groups ≤ 60) ⌝ }
+    requires { ⌜ (0 < groups) × (groups ≤ GROUPS) ⌝ }
     ensures { λ r. ⌜ r ≡ parentIn groups node ⌝ }
 {
     if node == 0 {
@@ -61,14 +61,14 @@ fn parent_of(groups: usize, node: usize) -> u8
 }
 
 // The byte of a part.
-fn byte_of(recipe: Recipe, draws: &Draws, ordered: &Ordered, sizes: Sizes, part: Part) -> u8
-    requires { ⌜ Prepared recipe (now draws) (now ordered) sizes × Within sizes part ⌝ }
+fn byte_of(recipe: Recipe, draws: &DrawTable, ordered: &OrderTable, sizes: Sizes, part: Part) -> u8
+    requires { ⌜ Prepared recipe (now draws) (now ordered) sizes × PartOf sizes part ⌝ }
     ensures { λ r. ⌜ r ≡ byteIn (generated recipe) part ⌝ }
 {
     match part {
         Part::Size(i) => size_byte(sizes, i),
         Part::Start(_) => 0,
-        Part::Name(k) => name_char(recipe.groups, k),
+        Part::Name(k) => name_byte(recipe.groups, k),
         Part::Parent(n) => parent_of(recipe.groups, n),
         Part::Kind(n) => kind_of(recipe, draws, n),
         Part::MinutesLow(n) => minutes_of(recipe, draws, n),
@@ -82,9 +82,9 @@ fn byte_of(recipe: Recipe, draws: &Draws, ordered: &Ordered, sizes: Sizes, part:
 }
 
 // Writes the plan from the first byte.
-fn write_plan(recipe: Recipe, draws: &Draws, ordered: &Ordered, sizes: Sizes, out: &mut [u8])
-    requires { ⌜ Prepared recipe (now draws) (now ordered) sizes × (size sizes ≤ length (now out)) ⌝ }
-    ensures { λ _. ⌜ now (out .exit) ≡ overlay (byteAt (generated recipe)) (size sizes) (now (out .entry)) ⌝ }
+fn write_plan(recipe: Recipe, draws: &DrawTable, ordered: &OrderTable, sizes: Sizes, out: &mut [u8])
+    requires { ⌜ Prepared recipe (now draws) (now ordered) sizes × (planLength sizes ≤ length (now out)) ⌝ }
+    ensures { λ _. ⌜ now (out .exit) ≡ overlay (byteAt (generated recipe)) (planLength sizes) (now (out .entry)) ⌝ }
 {
     let end = plan_length(sizes);
     let mut i = 0;
@@ -95,7 +95,7 @@ fn write_plan(recipe: Recipe, draws: &Draws, ordered: &Ordered, sizes: Sizes, ou
     }
 }
 
-// 30.
+// 30: g or t is not allowed.
 fn refused(recipe: Recipe) -> bool
     ensures { λ r. ⌜ r ≡ refused30 recipe ⌝ }
 {

@@ -1,7 +1,7 @@
 -- Bytes whose fields obey the rules are accepted. Assumes nothing.
 use mathlib.Core.Path.{_≡_, refl, sym, ap, _∙_}
 use mathlib.Core.Logic.{_≢_, inl, inr, ⊎-elim, by-cases}
-use mathlib.Core.Bool.{Bool, true, false, not, _||_, true≢false}
+use mathlib.Core.Bool.{Bool, true, false, not, _||_, true≢false, or-true}
 use mathlib.Core.List.{List}
 use Prim.Native.Nat.{ℕ, suc, _+_, _-_, _*_, _/_, _%_, _^_, _<_}
 use native.Mathlib.Decide.{ℕ-discrete}
@@ -9,41 +9,31 @@ use native.Mathlib.Numerals.{add-one}
 use native.Mathlib.Omega.{arith}
 use lib.ListN.{length, getD}
 use lib.Dec.{eqb, ltb, leb}
-use borrow.Author.Tests.{lt-ltb, le-ltb, eq-eqb, ne-eqb, eqb-true, leb-true, ltb-true}
+use borrow.Author.Tests.{lt-ltb, le-ltb, eq-eqb, ne-eqb, eqb-true, leb-true, ltb-true, not-true}
 use Rattle.plan_codes.specs.Values.{flagOf, signOf, placeOf, valueBad}
-use Rattle.plan_format.specs.Format.{nodeCount, condCount, orderCount, flagCount, wholeLength, startFlag}
-use Rattle.plan_format.specs.Format.{parentOf, kindOf, minutesOf, condNode, condValue, earlierOf, laterOf, isKind}
-use Rattle.plan_format.specs.Format.{isGroup}
+use Rattle.plan_format.specs.Format.{nodeCount, condCount, orderCount, flagCount, wholeLength, startFlag, parentOf}
+use Rattle.plan_format.specs.Format.{kindOf, minutesOf, condNode, condValue, earlierOf, laterOf, isKind, isGroup}
 use Rattle.plan_rules.specs.Rules.{cause1, cause2, cause3, badStart, cause4, badChar, cause5, badEntry, cause6}
-use Rattle.plan_rules.specs.Rules.{badParent}
-use Rattle.plan_rules.specs.Rules.{cause7, childless, cause8, badCondition, cause9, notBelow, notRising, cause10}
-use Rattle.plan_rules.specs.Rules.{bothSigns}
-use Rattle.plan_rules.specs.Rules.{cause11, postOf, noPost, cause12, isChild, badPair, badOrder, cause13, cause14}
-use Rattle.plan_rules.specs.Rules.{refusal}
+use Rattle.plan_rules.specs.Rules.{badParent, cause7, childless, cause8, badCondition, cause9, notBelow, notRising}
+use Rattle.plan_rules.specs.Rules.{cause10, bothSigns, cause11, postOf, noPost, cause12, isChild, badPair, badOrder}
+use Rattle.plan_rules.specs.Rules.{cause13, cause14, refusal}
 use Rattle.runs.specs.Searches.{anyBelow}
 use Rattle.base.proofs.Booleans.{or-split, and-both, not-passed}
 use Rattle.runs.proofs.Searches.{none-all, some-yes}
 use Rattle.plan_rules.proofs.Causes.{both-signs}
 use Rattle.plan_check.proofs.Meaning.{kind-of, group-is}
+use Rattle.plan_rules.proofs.Rising.{Below}
 use Rattle.plan_layout.specs.Fields.{Fields, Laid}
-use Rattle.plan_layout.proofs.Valid.{Below, Valid}
+use Rattle.plan_layout.proofs.Valid.{Valid}
 
 -- a test that passes where it must not
 absurd-or : {A : Type 0} (a b : Bool) → (a ≡ true → A) → (b ≡ true → A) → (a || b) ≡ true → A
 absurd-or a b x y h = ⊎-elim x y (or-split a b h)
 
-not-true : (a : Bool) → not a ≡ true → a ≡ false
-not-true true h = absurd (true≢false (sym h))
-not-true false h = refl
-
 below-test : (a b c d : ℕ) → Below a b c d → notBelow a b c d ≡ false
 unfolding notBelow
 below-test a b c d (inl l) = rw (lt-ltb a c l)
-below-test a b c d (inr (e, l)) = rw (eq-eqb a c e, lt-ltb b d l) (at (ltb a c))
-  where
-    at : (x : Bool) → not (x || true) ≡ false
-    at true = refl
-    at false = refl
+below-test a b c d (inr (e, l)) = rw (eq-eqb a c e, lt-ltb b d l, or-true (ltb a c))
 
 module _ (b : List ℕ) (f : Fields) (l : Laid b f) (v : Valid f) where
   node-in : {i : ℕ} → i < nodeCount b → i < f .sizes .nodes
@@ -64,16 +54,8 @@ module _ (b : List ℕ) (f : Fields) (l : Laid b f) (v : Valid f) where
   is-group i m k =
       by-cases (ℕ-discrete (f .kind i) 1) (λ (e : f .kind i ≡ 1). rw (is-kind i 1 m e))
       (λ x. by-cases (ℕ-discrete (f .kind i) 2)
-      (λ (e : f .kind i ≡ 2). rw (is-kind i 2 m e) (second (isKind b i 1) (isKind b i 3)))
-      (λ y. rw (is-kind i 3 m (omega (arith, v .kinds i m))) (third (isKind b i 1 || isKind b i 2))))
-    where
-      second : (x z : Bool) → (x || true || z) ≡ true
-      second true z = refl
-      second false z = refl
-
-      third : (x : Bool) → (x || true) ≡ true
-      third true = refl
-      third false = refl
+      (λ (e : f .kind i ≡ 2). rw (is-kind i 2 m e, or-true (isKind b i 1)))
+      (λ y. rw (is-kind i 3 m (omega (arith, v .kinds i m)), or-true (isKind b i 1 || isKind b i 2))))
 
   no-1 : cause1 b ≡ false
   unfolding cause1
@@ -87,11 +69,11 @@ module _ (b : List ℕ) (f : Fields) (l : Laid b f) (v : Valid f) where
     l .orders,
     l .flags,
     le-ltb (f .sizes .nodes) 1 (v .some-node),
-    le-ltb 128 (f .sizes .nodes) (v .few-nodes),
-    le-ltb 1024 (f .sizes .conditions) (v .few-conditions),
-    le-ltb 512 (f .sizes .orders) (v .few-orders),
+    le-ltb 128 (f .sizes .nodes) (v .limited .nodes),
+    le-ltb 1024 (f .sizes .conditions) (v .limited .conditions),
+    le-ltb 512 (f .sizes .orders) (v .limited .orders),
     le-ltb (f .sizes .flags) 1 (v .some-flag),
-    le-ltb 64 (f .sizes .flags) (v .few-flags),
+    le-ltb 64 (f .sizes .flags) (v .limited .flags),
   )
 
   no-3 : cause3 b ≡ false

@@ -13,7 +13,8 @@ use Rattle.plan_layout.specs.declared.Sizes.{Sizes}
 use Rattle.plan_layout.specs.declared.Part.{Part}
 use Rattle.plan_layout.specs.declared.Part.the-variants.{Size, Start, Name, Parent, Kind, MinutesLow, MinutesHigh}
 use Rattle.plan_layout.specs.declared.Part.the-variants.{Task, ValueLow, ValueHigh, Earlier, Later}
-use Rattle.plan_layout.specs.Layout.{sizeNumber, entriesAt, tasksAt, valuesAt, earlierAt, laterAt, size, partAt}
+use Rattle.plan_layout.specs.Layout.{sizeNumber, entriesAt, tasksAt, valuesAt, earlierAt, laterAt, planLength}
+use Rattle.plan_layout.specs.Layout.{partAt}
 use Rattle.plan_layout.specs.Fields.{Fields, byteIn, byteAt, Laid}
 use Rattle.plan_layout.proofs.Parts.{entry-parent, entry-kind, entry-low, entry-high, value-low, value-high}
 use Rattle.plan_layout.proofs.Parts.{at-size, at-start, at-name, at-entry, at-task, at-value, at-earlier}
@@ -119,7 +120,7 @@ module _ (f : Fields) (b : List ℕ) (l : Laid b f) (small : Bytes b) where
       let j = 16 + 8 * nodeCount b + 3 * condCount b + k in
       holds i j (Earlier k) (at-earlier s i h m) (omega arith) (l .earlier k (omega arith))
 
-  later-is : (i : ℕ) → laterAt s ≤ i → i < size s → getD b i 0 ≡ byteAt f i
+  later-is : (i : ℕ) → laterAt s ≤ i → i < planLength s → getD b i 0 ≡ byteAt f i
   unfolding laterOf
   later-is i h m =
       let c = l .nodes in
@@ -129,7 +130,7 @@ module _ (f : Fields) (b : List ℕ) (l : Laid b f) (small : Bytes b) where
       let j = 16 + 8 * nodeCount b + 3 * condCount b + orderCount b + k in
       holds i j (Later k) (at-later s i h) (omega arith) (l .later k (omega arith))
 
-  pub laid-byte : (i : ℕ) → i < size s → getD b i 0 ≡ byteAt f i
+  pub laid-byte : (i : ℕ) → i < planLength s → getD b i 0 ≡ byteAt f i
   laid-byte i h =
       by-cases (decLt i 8) (λ (m : i < 8). size-is i m)
       (λ p. by-cases (decLt i 16) (λ (m : i < 16). start-is i (omega arith) m)

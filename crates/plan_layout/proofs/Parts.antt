@@ -11,8 +11,7 @@ use Rattle.plan_layout.specs.declared.Sizes.{Sizes}
 use Rattle.plan_layout.specs.declared.Part.the-variants.{Size, Start, Name, Parent, Kind, MinutesLow, MinutesHigh}
 use Rattle.plan_layout.specs.declared.Part.the-variants.{Task, ValueLow, ValueHigh, Earlier, Later}
 use Rattle.plan_layout.specs.Layout.{Limited, sizeNumber, sizeByte, entryPart, valuePart, entriesAt, tasksAt}
-use Rattle.plan_layout.specs.Layout.{valuesAt, earlierAt}
-use Rattle.plan_layout.specs.Layout.{laterAt, size, partAt, Within}
+use Rattle.plan_layout.specs.Layout.{valuesAt, earlierAt, laterAt, planLength, partAt, PartOf}
 
 -- ---- the fields of an entry, and the halves of a value
 module _ (k : ℕ) where
@@ -114,27 +113,27 @@ module _ (s : Sizes) (i : ℕ) where
 
 -- ---- every byte of a plan holds a part that the plan has
 module _ (s : Sizes) where
-  entry-within : (k : ℕ) → k < 4 * s .nodes → Within s (entryPart k)
+  entry-within : (k : ℕ) → k < 4 * s .nodes → PartOf s (entryPart k)
   unfolding entryPart
   entry-within k l = at (eqb (k % 4) 0) (eqb (k % 4) 1) (eqb (k % 4) 2)
     where
-      at : (x y z : Bool) → Within s (cond x (Parent (k / 4))
+      at : (x y z : Bool) → PartOf s (cond x (Parent (k / 4))
           (cond y (Kind (k / 4)) (cond z (MinutesLow (k / 4)) (MinutesHigh (k / 4)))))
       at true y z = omega arith
       at false true z = omega arith
       at false false true = omega arith
       at false false false = omega arith
 
-  value-within : (k : ℕ) → k < 2 * s .conditions → Within s (valuePart k)
+  value-within : (k : ℕ) → k < 2 * s .conditions → PartOf s (valuePart k)
   unfolding valuePart
   value-within k l = at (eqb (k % 2) 0)
     where
-      at : (x : Bool) → Within s (cond x (ValueLow (k / 2)) (ValueHigh (k / 2)))
+      at : (x : Bool) → PartOf s (cond x (ValueLow (k / 2)) (ValueHigh (k / 2)))
       at true = omega arith
       at false = omega arith
 
-  pub within : (i : ℕ) → i < size s → Within s (partAt s i)
-  within i l =
+  pub part-of : (i : ℕ) → i < planLength s → PartOf s (partAt s i)
+  part-of i l =
       by-cases (decLt i 8) (λ (a : i < 8). rw (← at-size s i a) a)
       (λ a. by-cases (decLt i 16) (λ (b : i < 16). rw (← at-start s i (omega arith) b) (omega arith))
       (λ b. by-cases (decLt i (entriesAt s)) (λ (c : i < entriesAt s). rw (← at-name s i (omega arith) c) (omega arith))

@@ -12,20 +12,19 @@ use Rattle.plan_format.specs.Format.{kindOf, minutesOf, condNode, condValue, ea
 use Rattle.plan_layout.specs.declared.Part.{Part}
 use Rattle.plan_layout.specs.declared.Part.the-variants.{Size, Start, Name}
 use Rattle.plan_layout.specs.declared.Part.the-variants.{Task, Earlier, Later}
-use Rattle.plan_layout.specs.Layout.{sizeNumber, entryPart, valuePart, entriesAt, tasksAt, valuesAt}
-use Rattle.plan_layout.specs.Layout.{earlierAt, laterAt, size, partAt}
+use Rattle.plan_layout.specs.Layout.{sizeNumber, entryPart, valuePart, entriesAt, tasksAt, valuesAt, earlierAt}
+use Rattle.plan_layout.specs.Layout.{laterAt, planLength, partAt}
 use Rattle.plan_layout.specs.Fields.{Fields, byteIn, byteAt, Laid}
 use Rattle.plan_layout.proofs.Parts.{entry-parent, entry-kind, entry-low, entry-high, value-low, value-high}
 use Rattle.plan_layout.proofs.Parts.{at-size, at-start, at-name, at-entry, at-task, at-value, at-earlier}
-use Rattle.plan_layout.proofs.Parts.{at-later}
-use Rattle.plan_layout.proofs.Parts.{number-nodes, number-conditions, number-orders, number-flags}
+use Rattle.plan_layout.proofs.Parts.{at-later, number-nodes, number-conditions, number-orders, number-flags}
 use Rattle.plan_layout.proofs.Parts.{size-low, size-high}
 
 -- the bytes b, as many as the fields take, are those of the fields
-module _ (f : Fields) (b : List ℕ) (long : length b ≡ size (f .sizes))
-    (is : (i : ℕ) → i < size (f .sizes) → getD b i 0 ≡ byteAt f i) where
+module _ (f : Fields) (b : List ℕ) (long : length b ≡ planLength (f .sizes))
+    (is : (i : ℕ) → i < planLength (f .sizes) → getD b i 0 ≡ byteAt f i) where
   -- a byte, by the part that it holds
-  holds : (i : ℕ) (x : Part) → i < size (f .sizes) → x ≡ partAt (f .sizes) i → getD b i 0 ≡ byteIn f x
+  holds : (i : ℕ) (x : Part) → i < planLength (f .sizes) → x ≡ partAt (f .sizes) i → getD b i 0 ≡ byteIn f x
   unfolding byteAt
   holds i x l e = is i l ∙ ap (byteIn f) (sym e)
 
@@ -173,10 +172,10 @@ module _ (f : Fields) (b : List ℕ) (long : length b ≡ size (f .sizes))
   }
 
 -- lent memory with the bytes written from its first on: as far as they go, it has the fields
-pub laid-in : (f : Fields) (out : List ℕ) → size (f .sizes) ≤ length out
-    → Laid (take (size (f .sizes)) (overlay (byteAt f) (size (f .sizes)) out)) f
+pub laid-in : (f : Fields) (out : List ℕ) → planLength (f .sizes) ≤ length out
+    → Laid (take (planLength (f .sizes)) (overlay (byteAt f) (planLength (f .sizes)) out)) f
 laid-in f out l =
-    let n = size (f .sizes) in
+    let n = planLength (f .sizes) in
     laid-of f (take n (overlay (byteAt f) n out))
     (length-take n (overlay (byteAt f) n out) ∙ omega (arith, length-overlay (byteAt f) out n))
     (λ i h. getD-take n (overlay (byteAt f) n out) i 0 h ∙ at-overlay (byteAt f) out n i l h)

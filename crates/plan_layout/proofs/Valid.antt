@@ -1,24 +1,19 @@
 -- The rules 2 and 4 to 14 of 01 (with 02's kind 3), in words, of a plan's fields. Assumes nothing.
 use Prim.Native.Nat.{ℕ, suc, _/_, _%_, _^_, _*_, _<_, _≤_}
 use mathlib.Core.Path.{_≡_}
-use mathlib.Core.Logic.{_≢_, _⊎_}
+use mathlib.Core.Logic.{_≢_}
 use mathlib.Core.Bool.{true}
 use Rattle.plan_codes.specs.Names.{nameAllowed}
 use Rattle.plan_codes.specs.Values.{flagOf, signOf, placeOf}
+use Rattle.plan_rules.proofs.Rising.{Below}
+use Rattle.plan_layout.specs.Layout.{Limited}
 use Rattle.plan_layout.specs.Fields.{Fields}
-
--- the pair (a, b) is below (c, d)
-abbrev pub Below : ℕ → ℕ → ℕ → ℕ → Type 0
-Below a b c d = (a < c) ⊎ ((a ≡ c) × (b < d))
 
 pub record Valid (f : Fields) : Type 0 where
   -- 2
   pub some-node : 1 ≤ f .sizes .nodes
-  pub few-nodes : f .sizes .nodes ≤ 128
-  pub few-conditions : f .sizes .conditions ≤ 1024
-  pub few-orders : f .sizes .orders ≤ 512
   pub some-flag : 1 ≤ f .sizes .flags
-  pub few-flags : f .sizes .flags ≤ 64
+  pub limited : Limited (f .sizes)
   -- 4
   pub starts : (k : ℕ) → k < 64 → f .sizes .flags ≤ k → f .start (k / 8) / 2 ^ (k % 8) % 2 ≡ 0
   -- 5

@@ -9,7 +9,7 @@ use Rattle.plan_layout.specs.declared.Sizes.{Sizes}
 use Rattle.plan_layout.specs.declared.Part.{Part}
 use Rattle.plan_layout.specs.declared.Part.the-variants.{Size, Start, Name, Parent, Kind, MinutesLow, MinutesHigh}
 use Rattle.plan_layout.specs.declared.Part.the-variants.{Task, ValueLow, ValueHigh, Earlier, Later}
-use Rattle.plan_layout.specs.Layout.{sizeByte, size, partAt}
+use Rattle.plan_layout.specs.Layout.{sizeByte, planLength, partAt}
 
 pub record Fields : Type 0 where
   pub sizes : Sizes
@@ -49,7 +49,7 @@ module _ (f : Fields) where
 
 -- the bytes b have the fields f, by the functions of a plan's bytes that all rules and meanings rest on
 pub record Laid (b : List ℕ) (f : Fields) : Type 0 where
-  pub long : length b ≡ size (f .sizes)
+  pub long : length b ≡ planLength (f .sizes)
   pub nodes : nodeCount b ≡ f .sizes .nodes
   pub conditions : condCount b ≡ f .sizes .conditions
   pub orders : orderCount b ≡ f .sizes .orders

@@ -1,4 +1,4 @@
--- What each byte of a plan holds, by the plan's sizes (01: "What a book is"). Definitions only.
+-- What each byte of a plan holds, by the plan's sizes (01: 'Book'). Definitions only.
 use Prim.Native.Nat.{ℕ, _+_, _-_, _*_, _/_, _%_, _<_, _≤_}
 use mathlib.Core.Bool.{cond}
 use lib.Dec.{eqb, ltb}
@@ -7,7 +7,7 @@ use Rattle.plan_layout.specs.declared.Part.{Part}
 use Rattle.plan_layout.specs.declared.Part.the-variants.{Size, Start, Name, Parent, Kind, MinutesLow, MinutesHigh}
 use Rattle.plan_layout.specs.declared.Part.the-variants.{Task, ValueLow, ValueHigh, Earlier, Later}
 
--- 01's limits
+-- 01's greatest sizes
 pub record Limited (s : Sizes) : Type 0 where
   pub nodes : s .nodes ≤ 128
   pub conditions : s .conditions ≤ 1024
@@ -48,8 +48,8 @@ module _ (s : Sizes) where
   abbrev pub laterAt : ℕ
   laterAt = earlierAt + s .orders
 
-  abbrev pub size : ℕ
-  size = 16 + 8 * s .nodes + 3 * s .conditions + 2 * s .orders
+  abbrev pub planLength : ℕ
+  planLength = 16 + 8 * s .nodes + 3 * s .conditions + 2 * s .orders
 
   -- what byte i holds
   unfoldable pub partAt : ℕ → Part
@@ -64,16 +64,16 @@ module _ (s : Sizes) where
       (Later (i - laterAt))))))))
 
 -- a part that a plan of these sizes has
-abbrev pub Within : Sizes → Part → Type 0
-Within s (Size i) = i < 8
-Within s (Start k) = k < 8
-Within s (Name k) = k < 4 * s .nodes
-Within s (Parent n) = n < s .nodes
-Within s (Kind n) = n < s .nodes
-Within s (MinutesLow n) = n < s .nodes
-Within s (MinutesHigh n) = n < s .nodes
-Within s (Task i) = i < s .conditions
-Within s (ValueLow i) = i < s .conditions
-Within s (ValueHigh i) = i < s .conditions
-Within s (Earlier j) = j < s .orders
-Within s (Later j) = j < s .orders
+abbrev pub PartOf : Sizes → Part → Type 0
+PartOf s (Size i) = i < 8
+PartOf s (Start k) = k < 8
+PartOf s (Name k) = k < 4 * s .nodes
+PartOf s (Parent n) = n < s .nodes
+PartOf s (Kind n) = n < s .nodes
+PartOf s (MinutesLow n) = n < s .nodes
+PartOf s (MinutesHigh n) = n < s .nodes
+PartOf s (Task i) = i < s .conditions
+PartOf s (ValueLow i) = i < s .conditions
+PartOf s (ValueHigh i) = i < s .conditions
+PartOf s (Earlier j) = j < s .orders
+PartOf s (Later j) = j < s .orders

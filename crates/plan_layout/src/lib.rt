@@ -1,7 +1,8 @@
 // The layout of a plan: what each of its bytes holds.
 ghost use mathlib.Core.Path.{_≡_};
 ghost use Prim.Native.Nat.{_<_};
-ghost use Rattle.plan_layout.specs.Layout.{Limited, sizeNumber, sizeByte, size, entryPart, valuePart, partAt};
+ghost use Rattle.plan_layout.specs.Layout.{Limited, sizeNumber, sizeByte, planLength, entryPart, valuePart};
+ghost use Rattle.plan_layout.specs.Layout.{partAt};
 
 // 01's N, C, K and V.
 pub struct Sizes {
@@ -31,7 +32,7 @@ pub enum Part {
 // The length of a plan of these sizes.
 pub fn plan_length(sizes: Sizes) -> usize
     requires { ⌜ Limited sizes ⌝ }
-    ensures { λ r. ⌜ r ≡ size sizes ⌝ }
+    ensures { λ r. ⌜ r ≡ planLength sizes ⌝ }
 {
     16 + 8 * sizes.nodes + 3 * sizes.conditions + 2 * sizes.orders
 }

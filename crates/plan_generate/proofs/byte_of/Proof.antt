@@ -1,7 +1,7 @@
 -- `byte_of` meets its contract. Assumes nothing.
 use mathlib.Core.Path.{_∙_}
 use native.Mathlib.Omega.{arith}
-use Rattle.plan_generate.specs.Generated.{generated}
+use Rattle.plan_generate.specs.Model.{generated}
 use Rattle.plan_generate.proofs.Bytes.{limited, size-is, node-in, condition-in, order-is, order-small}
 use Rattle.plan_generate.proofs.Bytes.{minutes-small, value-high}
 use borrow.Author.Needs.{needs}
@@ -11,8 +11,8 @@ use Rattle.plan_generate.proofs.byte_of.Tie as tie
 size-byte-requires : tie.Need-size-byte-requires
 size-byte-requires c κs = limited (c .before .before .before .pre .0)
 
-name-char-requires : tie.Need-name-char-requires
-name-char-requires c κs =
+name-byte-requires : tie.Need-name-byte-requires
+name-byte-requires c κs =
     let s = c .before .before .before in
     omega (arith, rw (c .before .part2 .given .1) at (s .pre .1), limited (s .pre .0) .nodes)
 
@@ -64,7 +64,7 @@ returns-2 c = rw (c .enum-told .given .1)
 
 returns-3 : tie.Need-returns-3
 unfolding generated
-returns-3 c = rw (c .before .before .part2 .given .1) (c .name-char .ensures)
+returns-3 c = rw (c .before .before .part2 .given .1) (c .name-byte .ensures)
 
 returns-4 : tie.Need-returns-4
 unfolding generated
@@ -121,7 +121,7 @@ byte-of-spec =
     size-byte-requires
     (λ c. search needs)
     (λ c. search needs)
-    name-char-requires
+    name-byte-requires
     (λ c. search needs)
     (λ c κs. search needs)
     (λ c. search needs)

@@ -6,10 +6,9 @@ use denote.Ref.{now}
 use native.Mathlib.Omega.{arith}
 use Rattle.base.specs.Answers.{overlay}
 use Rattle.plan_layout.specs.Fields.{byteAt}
-use Rattle.plan_generate.specs.Generated.{generated}
+use Rattle.plan_generate.specs.Model.{generated, refused30}
 use Rattle.plan_draws.specs.declared.Recipe.{Recipe}
 use Rattle.plan_draws.specs.Drawn.{Allowed}
-use Rattle.plan_generate.specs.Model.{refused30}
 use Rattle.plan_generate.proofs.Bytes.{sizes-fit, length-is, prepared}
 use Rattle.plan_generate.proofs.Calls.{allowed, generates-30, generates-15, generates-plan}
 use borrow.Author.Needs.{needs}

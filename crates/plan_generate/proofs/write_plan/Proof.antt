@@ -6,21 +6,21 @@ use lib.ListN.{length}
 use native.Mathlib.Omega.{arith}
 use Rattle.base.specs.Answers.{overlay}
 use Rattle.base.proofs.Overlay.{overlay-none, overlay-more, length-overlay}
-use Rattle.plan_layout.specs.Layout.{size}
+use Rattle.plan_layout.specs.Layout.{planLength}
 use Rattle.plan_layout.specs.Fields.{byteAt}
-use Rattle.plan_layout.proofs.Parts.{within}
-use Rattle.plan_generate.specs.Generated.{generated}
+use Rattle.plan_layout.proofs.Parts.{part-of}
+use Rattle.plan_generate.specs.Model.{generated}
 use Rattle.plan_generate.proofs.Bytes.{limited, byte-is}
 use borrow.Author.Needs.{needs}
 use Rattle.plan_generate.proofs.write_plan.Statement.{statement}
 use Rattle.plan_generate.proofs.write_plan.Tie as tie
 
 abbrev Inv-loop : tie.InvT-loop
-Inv-loop recipe draws ordered sizes out₀ end i₀ out i = (i ≤ size sizes)
+Inv-loop recipe draws ordered sizes out₀ end i₀ out i = (i ≤ planLength sizes)
     × (out ≡ overlay (byteAt (generated recipe)) i out₀)
 
 abbrev μ-loop : tie.MeasureT-loop
-μ-loop recipe draws ordered sizes out₀ end i₀ out i = size sizes - i
+μ-loop recipe draws ordered sizes out₀ end i₀ out i = planLength sizes - i
 
 plan-length-requires : tie.Need-plan-length-requires Inv-loop μ-loop
 plan-length-requires c κs = limited (c .before .pre .0)
@@ -34,7 +34,7 @@ part-at-requires c κs = limited (c .before .before .before .before .pre .0)
 byte-of-requires : tie.Need-byte-of-requires Inv-loop μ-loop
 byte-of-requires c κs =
     let s = c .before .before .before .before .before in
-    (s .pre .0, rw (c .part-at .ensures) (within (s .args .sizes) (c .before .before .loop .i) (omega arith)))
+    (s .pre .0, rw (c .part-at .ensures) (part-of (s .args .sizes) (c .before .before .loop .i) (omega arith)))
 
 slice-write-out : tie.Need-slice-write-out Inv-loop μ-loop
 slice-write-out c =
@@ -46,12 +46,6 @@ slice-write-out c =
       length-overlay (byteAt (generated (s .args .recipe))) (now (s .args .out)) (l .loop .i),
       s .pre .1,
     )
-
-add-i : tie.Need-add-i Inv-loop μ-loop
-add-i c = search needs
-
-loop-less : tie.Need-loop-less Inv-loop μ-loop
-loop-less c = search needs
 
 loop-again : tie.Need-loop-again Inv-loop μ-loop
 loop-again c =
@@ -72,7 +66,7 @@ returns : tie.Need-returns Inv-loop μ-loop
 returns c =
     let l = c .before in
     let s = l .before .before .before in
-    let e : l .loop .i ≡ size (s .args .sizes) = omega arith in
+    let e : l .loop .i ≡ planLength (s .args .sizes) = omega arith in
     l .loop .inv .1 ∙ ap (λ (n : ℕ). overlay (byteAt (generated (s .args .recipe))) n (now (s .args .out))) e
 
 pub write-plan-spec : {M : Type 1} → statement M
@@ -86,8 +80,8 @@ write-plan-spec =
     part-at-requires
     byte-of-requires
     slice-write-out
-    add-i
-    loop-less
+    (λ c. search needs)
+    (λ c. search needs)
     loop-again
     same-length
     returns)

@@ -6,21 +6,21 @@ use lib.Dec.{eqb, leb}
 use Rattle.base.specs.Count.{countBelow}
 use Rattle.plan_codes.specs.Values.{valueOf}
 use Rattle.plan_draws.specs.declared.Recipe.{Recipe}
-use Rattle.plan_draws.specs.Drawn.{next}
+use Rattle.plan_draws.specs.Drawn.{nextState}
 
 -- the state after n draws
 unfoldable pub stateAfter : ℕ → ℕ → ℕ
 stateAfter s zero = s
-stateAfter s (suc n) = next (stateAfter s n)
+stateAfter s (suc n) = nextState (stateAfter s n)
 
--- draw n, counted from 0: what it gives before it is taken below a number, and below k
+-- what draw n, counted from 0, gives: before the remainder, and below k
 unfoldable pub given : ℕ → ℕ → ℕ
 given s n = stateAfter s (suc n) / 65536
 
 unfoldable pub draw : ℕ → ℕ → ℕ → ℕ
 draw s n k = given s n % k
 
--- the number m, counted from 0, of those below n that pass a test
+-- of the numbers below n that pass a test, number m, counted from 0
 unfoldable pub pick : (ℕ → Bool) → ℕ → ℕ → ℕ
 pick q zero m = 0
 pick q (suc n) m = cond (q n && eqb (countBelow n q) m) n (pick q n m)
@@ -40,11 +40,11 @@ module _ (r : Recipe) where
   unfoldable pub flagDrawn : ℕ → ℕ
   flagDrawn j = draw (r .seed) (taskDraw j + 1) 8
 
-  unfoldable pub needDrawn : ℕ → ℕ
-  needDrawn j = draw (r .seed) (taskDraw j + 2) 2
+  unfoldable pub preDrawn : ℕ → ℕ
+  preDrawn j = draw (r .seed) (taskDraw j + 2) 2
 
-  unfoldable pub leavingDrawn : ℕ → ℕ
-  leavingDrawn j = draw (r .seed) (taskDraw j + 3) 2
+  unfoldable pub postDrawn : ℕ → ℕ
+  postDrawn j = draw (r .seed) (taskDraw j + 3) 2
 
   -- then each group but the last has one
   unfoldable pub beforeDrawn : ℕ → ℕ
@@ -67,7 +67,7 @@ module _ (r : Recipe) where
   unfoldable pub minutesIn : ℕ → ℕ
   minutesIn n = cond (leb n (r .groups)) 0 (minutesDrawn (n - 1 - r .groups))
 
-  -- value of condition i: a need and a leaving of each task
+  -- value of condition i: a precondition and a postcondition of each task
   unfoldable pub valueIn : ℕ → ℕ
-  valueIn i = cond (eqb (i % 2) 0) (valueOf (flagDrawn (i / 2)) (needDrawn (i / 2)) 0)
-      (valueOf (flagDrawn (i / 2)) (leavingDrawn (i / 2)) 2)
+  valueIn i = cond (eqb (i % 2) 0) (valueOf (flagDrawn (i / 2)) (preDrawn (i / 2)) 0)
+      (valueOf (flagDrawn (i / 2)) (postDrawn (i / 2)) 2)

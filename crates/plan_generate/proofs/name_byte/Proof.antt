@@ -1,9 +1,9 @@
--- `name_char` meets its contract. Assumes nothing.
+-- `name_byte` meets its contract. Assumes nothing.
 use native.Mathlib.Omega.{arith}
 use Rattle.plan_generate.proofs.Bytes.{name-root, name-group, name-task, name-hundreds, name-tens, name-ones}
 use borrow.Author.Needs.{needs}
-use Rattle.plan_generate.proofs.name_char.Statement.{statement}
-use Rattle.plan_generate.proofs.name_char.Tie as tie
+use Rattle.plan_generate.proofs.name_byte.Statement.{statement}
+use Rattle.plan_generate.proofs.name_byte.Tie as tie
 
 returns : tie.Need-returns
 returns c = name-root _ _ (omega arith)
@@ -23,8 +23,8 @@ returns-5 c = name-tens _ _ (omega arith) (omega arith)
 returns-6 : tie.Need-returns-6
 returns-6 c = name-ones _ _ (omega arith) (omega arith)
 
-pub name-char-spec : {M : Type 1} → statement M
-name-char-spec =
+pub name-byte-spec : {M : Type 1} → statement M
+name-byte-spec =
     tie.close
     (tie.spec
     (λ c. search needs)
