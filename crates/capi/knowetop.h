@@ -97,11 +97,11 @@ uint32_t knowetop_exclude(const uint8_t *plan, size_t plan_len, uint8_t *members
    under node 1 + j mod g. Names are G or T and the node number in three digits. There are 8 flags,
    all clear at the start. The rest is drawn: a state of 32 bits begins as the seed, and a draw
    below k adds 2,654,435,769 to it, modulo 2^32, and gives (state / 65,536, whole) mod k. Drawn
-   are, in this order: for each group, below 2, whether it is all of (0) or any of (1); for each
+   are, in this order: for each group, below 2, whether it is all-of (0) or any-of (1); for each
    task its minutes below 60, a flag below 8, and below 2 the sign of its need of that flag, then
    that of its leaving; for each group but the last, below 2, whether it is before the next (1).
-   Returns 256 + the length of the plan, which is 1,462 at most; or 30 (g is not 1 to 60, or t is
-   not g to 60), whatever out_len is, or 15 (out_len under the length). It takes no plan. */
+   Returns 256 + the length of the plan; or 30 (g is not 1 to 60, or t is not g to 60), whatever
+   out_len is, or 15 (out_len under the length; 1,462 are always enough). It takes no plan. */
 #define KNOWETOP_PLAN 256
 uint32_t knowetop_generate(uint32_t seed, size_t groups, size_t tasks, uint8_t *out, size_t out_len);
 
