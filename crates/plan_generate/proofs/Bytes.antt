@@ -28,12 +28,11 @@ use Rattle.plan_generate.specs.Inner.{Prepared}
 
 -- ---- names
 module _ (g k : ℕ) where
-  pub name-root : k / 4 ≡ 0 → getD {A = ℕ} (83 ∷ 79 ∷ 65 ∷ 75 ∷ []) (k % 4) 0 ≡ nameIn g k
+  pub name-root : k / 4 ≡ 0 → getD rootName (k % 4) 0 ≡ nameIn g k
   unfolding nameIn rootChar
   name-root e = rw (eq-eqb (k / 4) 0 e) (at (k % 4) (omega arith))
     where
-      at : (c : ℕ) → c < 4 → getD {A = ℕ} (83 ∷ 79 ∷ 65 ∷ 75 ∷ []) c 0
-          ≡ cond (eqb c 0) 83 (cond (eqb c 1) 79 (cond (eqb c 2) 65 75))
+      at : (c : ℕ) → c < 4 → getD rootName c 0 ≡ cond (eqb c 0) 83 (cond (eqb c 1) 79 (cond (eqb c 2) 65 75))
       at zero l = refl
       at (suc zero) l = refl
       at (suc (suc zero)) l = refl

@@ -8,7 +8,6 @@ use native.Mathlib.Omega.{arith}
 use lib.Dec.{ltb}
 use lib.ListN.{length, take, replicate, length-replicate}
 use borrow.Author.Tests.{lt-ltb, le-ltb, ltb-false}
-use Rattle.base.specs.Answers.{overlay}
 use Rattle.base.proofs.Booleans.{or-none}
 use Rattle.base.proofs.Overlay.{length-overlay, past-overlay}
 use Rattle.plan_layout.specs.Layout.{planLength}
@@ -18,7 +17,7 @@ use Rattle.plan_draws.specs.declared.Recipe.{Recipe}
 use Rattle.plan_draws.specs.Drawn.{Allowed}
 use Rattle.plan_generate.specs.Sentences.{IsGenerated}
 use Rattle.plan_generate.specs.Model.{sizesIn, generated, refused30, generateRefusal, generateAnswer}
-use Rattle.plan_generate.specs.Model.{generateLeft}
+use Rattle.plan_generate.specs.Model.{withPlan, generateLeft}
 use Rattle.plan_generate.specs.Calls.{PlanLonger, Generates}
 use Rattle.plan_generate.proofs.Sentences.{is-generated, generated-long}
 
@@ -49,7 +48,7 @@ module _ (r : Recipe) where
 
   -- ---- the plan at the beginning of lent memory, and by itself
   pub plan-in : Allowed r → (out : List ℕ) → planLength (sizesIn r) ≤ length out
-      → IsGenerated r (take (planLength (sizesIn r)) (overlay (byteAt (generated r)) (planLength (sizesIn r)) out))
+      → IsGenerated r (take (planLength (sizesIn r)) (withPlan r out))
   unfolding generated
   plan-in ok out l = is-generated r ok _ (laid-in (generated r) out l)
 
@@ -61,7 +60,7 @@ module _ (r : Recipe) where
   alone-long = length-replicate {A = ℕ} (planLength (sizesIn r)) 0
 
   planBytes : List ℕ
-  planBytes = take (planLength (sizesIn r)) (overlay (byteAt (generated r)) (planLength (sizesIn r)) alone)
+  planBytes = take (planLength (sizesIn r)) (withPlan r alone)
 
   plan-is : Allowed r → IsGenerated r planBytes
   unfolding planBytes
@@ -130,7 +129,7 @@ module _ (r : Recipe) (out : List ℕ) where
         }
 
     pub generates-plan : {m : ℕ} {out′ : List ℕ} → m ≡ planLength (sizesIn r) → planLength (sizesIn r) ≤ length out
-        → out′ ≡ overlay (byteAt (generated r)) (planLength (sizesIn r)) out → Generates r out (inr m) out′
+        → out′ ≡ withPlan r out → Generates r out (inr m) out′
     unfolding generateRefusal generateAnswer generateLeft
     generates-plan {m} {out′} e l q = record {
       returns = rw (h, le-ltb (length out) (planLength (sizesIn r)) l, e);
