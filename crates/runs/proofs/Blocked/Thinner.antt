@@ -189,7 +189,7 @@ module _ (p : Plan) (w : WellFormed p) (t : Tree) (o : ℕ → ℕ → Bool) (wq
         not_after = λ y. x.not_after (before_out ha y);
       }
 
-  concurrent_in : {n y z : ℕ} → Thinner p t o n → Concurrent q y z n → Concurrent p y z n
+  concurrent_in : {y z n : ℕ} → Thinner p t o n → Concurrent q y z n → Concurrent p y z n
   concurrent_in {n} th (at_group k c d hc hd un uy uz) = let kp = kind_of_lem th itself ∙ k in
       let hcp = th.no_other n c itself hc in let hdp = th.no_other n d itself hd in
       at_group kp c d hcp hdp (unordered_in th kp hcp hdp un)
@@ -213,7 +213,7 @@ module _ (p : Plan) (w : WellFormed p) (t : Tree) (o : ℕ → ℕ → Bool) (wq
         opposes = m.opposes;
       })
 
-  pub must_clobber_out : {n f : ℕ} {v : Bool} → Thinner p t o n → MustClobber p f v n → MustClobber q f v n
+  pub must_clobber_out : {f : ℕ} {v : Bool} {n : ℕ} → Thinner p t o n → MustClobber p f v n → MustClobber q f v n
   must_clobber_out {n} th (by_any_of k a) = by_any_of (sym (kind_of_lem th itself) ∙ k)
       (λ c hc. must_clobber_out (thinner_below p t o th (child_under q hc)) (a c (th.no_other n c itself hc)))
   must_clobber_out {n} th (by_child k c hc d u) = let hq : Child q n c = part_out th k hc in

@@ -1,8 +1,8 @@
 -- The ordinals of starts: after any list of calls, a task's ordinal is the position of its start among the accepted
 -- starts of the list.
 use Rattle.runs.proofs.Base.{◌≡◌, refl, sym, ap, ◌∙◌, ◌≢◌, ◌⊎◌, inl, inr, ◌↔◌, Bool, false, none, some, List, []}
-use Rattle.runs.proofs.Base.{◌∷◌, ◌++◌, append_nil, append_assoc, ℕ, suc, ◌<◌, arith, ℕ_discrete, eqb, get_or}
-use Rattle.runs.proofs.Base.{length, Among, here, there}
+use Rattle.runs.proofs.Base.{◌∷◌, ◌++◌, append-nil, append_assoc, ℕ, suc, ◌<◌, arith, ℕ_discrete, eqb, get_or}
+use Rattle.runs.proofs.Base.{cond, length, Among, here, there}
 use mathlib.Core.Logic.{by_cases}
 use native.Mathlib.Decide.{dec_lt}
 use lib.ListN.{length-append, get_or-append}
@@ -11,7 +11,7 @@ use borrow.Author.Tests.{eq-eqb, ne_eqb}
 use Rattle.runs.specs.Plan.{Plan}
 use Rattle.runs.specs.Execution.{Status, waiting, running, Status-discrete, start, finish, skip}
 use Rattle.runs.specs.Calls.{Call, one, together, finishes, World, fresh, happen, happen_all, Refusal, number}
-use Rattle.runs.specs.Calls.{Task, accepted, refused, Worked, no_calls, next_call, accepted_starts}
+use Rattle.runs.specs.Calls.{Task, Answered, accepted, refused, started_by, Worked, no_calls, next_call, accepted_starts}
 use Rattle.runs.specs.Demand3.{Numbered}
 use Rattle.runs.proofs.Reflect.{clash}
 use Rattle.runs.proofs.Calls.First.{number_inj}
@@ -123,25 +123,30 @@ number_some : (r : Refusal) → eqb (number r) 0 ≡ false
 number_some r = ne_eqb (number r) 0 (λ q. let e = number_inj {o = some r} {x = none} q in clash cc)
 
 module _ (whole p : Plan) where
+  -- one call after starts in the order of l
+  answered_numbered : {a : World} {c : Call} {n : ℕ} {b : World} (l : List ℕ) → Answered whole p a c n b
+      → Numbered whole l a
+      → Numbered whole (l ++ cond (eqb n 0) (started_by c) []) b
+  answered_numbered {a = a} {c = one (start t)} l (accepted k) h =
+      start_numbered whole p l a h t k.0 (found (Status-discrete _ _) k.1.0)
+  answered_numbered {a = a} {c = one (finish t)} l (accepted k) h = rw (append-nil l)
+      (finish_numbered whole p l a h t k.0 (running_begun (λ n. k.1.0 (inr n))))
+  answered_numbered {a = a} {c = one (skip g)} l (accepted k) h = rw (append-nil l)
+      (skip_numbered whole p l a h g (λ y. k.0 (λ o. let q = sym y.is_task ∙ o.is_optional in clash cc)))
+  answered_numbered {a = a} {c = together ts} l (accepted k) h = rw (append-nil l)
+      (finishes_numbered whole p l a h ts
+      (λ t i. (λ n. k.1.0 (t, i, n), running_begun (λ n. k.1.1.0 (t, i, inr n)))))
+  answered_numbered l (refused r k) h = rw (number_some r, append-nil l) h
+
   -- calls after starts in the order of l
   pub worked_numbered : {a z : World} {cs : List Call} {ns : List ℕ} (l : List ℕ) → Worked whole p a cs ns z
       → Numbered whole l a
       → Numbered whole (l ++ accepted_starts cs ns) z
   unfolding accepted_starts
-  worked_numbered l no_calls h = rw (append_nil l) h
-  worked_numbered l (next_call {a = a} {c = one (start t)} {cs = cs} {ns = ns} (accepted k) w) h =
-      rw (← append_assoc l (t ∷ []) (accepted_starts cs ns))
-      (worked_numbered (l ++ (t ∷ [])) w
-      (start_numbered whole p l a h t k.0 (found (Status-discrete _ _) k.1.0)))
-  worked_numbered l (next_call {a = a} {c = one (finish t)} (accepted k) w) h =
-      worked_numbered l w (finish_numbered whole p l a h t k.0 (running_begun (λ n. k.1.0 (inr n))))
-  worked_numbered l (next_call {a = a} {c = one (skip g)} (accepted k) w) h =
-      worked_numbered l w (skip_numbered whole p l a h g
-      (λ y. k.0 (λ o. let q = sym y.is_task ∙ o.is_optional in clash cc)))
-  worked_numbered l (next_call {a = a} {c = together ts} (accepted k) w) h =
-      worked_numbered l w (finishes_numbered whole p l a h ts
-      (λ t i. (λ n. k.1.0 (t, i, n), running_begun (λ n. k.1.1.0 (t, i, inr n)))))
-  worked_numbered l (next_call (refused r k) w) h = rw (number_some r) (worked_numbered l w h)
+  worked_numbered l no_calls h = rw (append-nil l) h
+  worked_numbered l (next_call {c = c} {cs = cs} {n = n} {ns = ns} x w) h =
+      rw (← append_assoc l (cond (eqb n 0) (started_by c) []) (accepted_starts cs ns))
+      (worked_numbered (l ++ cond (eqb n 0) (started_by c) []) w (answered_numbered l x h))
 
   -- and after no start
   pub fresh_numbered : (F : ℕ → Bool) → Numbered whole [] (fresh F)

@@ -1,7 +1,7 @@
 -- Tasks that run at once: if two do after some execution, they stand under unordered children of one all_of group; and
 -- any two such tasks can be made to.
 use Rattle.runs.proofs.Base.{◌≡◌, refl, sym, ap, ◌∙◌, ◌≢◌, ◌⊎◌, inl, inr, Bool, not, some, [], ◌∷◌, ◌++◌}
-use Rattle.runs.proofs.Base.{append_nil, ℕ, ℕ_discrete, T}
+use Rattle.runs.proofs.Base.{append-nil, ℕ, ℕ_discrete, T}
 use Rattle.runs.specs.Plan.{Kind, task, all_of, any_of, optional, Picks, Plan, Node, Child, Under, Before, direct}
 use Rattle.runs.specs.Plan.{chain, Unordered, Concurrent, at_group, deeper}
 use Rattle.runs.specs.WellFormed.{WellFormed}
@@ -131,7 +131,7 @@ module _ (p : Plan) (w : WellFormed p) where
           go optional k = in_choice ((pick_execution p w h (picks_optional k)).0 x.execution)
 
   -- either way round: opposite leavings concern both literals of a flag
-  concurrent_sym : {n t u : ℕ} → Concurrent p t u n → Concurrent p u t n
+  concurrent_sym : {t u n : ℕ} → Concurrent p t u n → Concurrent p u t n
   concurrent_sym (at_group k c d hc hd un ut uu) = at_group k d c hd hc (record {
     distinct = λ q. un.distinct (sym q);
     not_before = un.not_after;
@@ -167,8 +167,8 @@ module _ (p : Plan) (w : WellFormed p) where
       at_all_of kn = record {
         before = h;
         execution = λ g f. extend p w g h kn hc (λ a ha o. s.got a ha (direct o)) s.execution
-            (rw (empty, append_nil g) f);
-        same = λ g x u. sym (rw (empty, append_nil g) at (agree_append p w c g (part p w c h) h (after_part p w c h) x
+            (rw (empty, append-nil g) f);
+        same = λ g x u. sym (rw (empty, append-nil g) at (agree_append p w c g (part p w c h) h (after_part p w c h) x
             u));
       }
         where
@@ -184,8 +184,8 @@ module _ (p : Plan) (w : WellFormed p) where
       at_choice : Picks (p.tree.kind n) → Opened n c
       at_choice k = record {
         before = [];
-        execution = λ g f. rw (append_nil g) (pick_join p w k hc f);
-        same = λ g x u. rw (append_nil g);
+        execution = λ g f. rw (append-nil g) (pick_join p w k hc f);
+        same = λ g x u. rw (append-nil g);
       }
 
       go : (k : Kind) → p.tree.kind n ≡ k → Opened n c
@@ -237,10 +237,10 @@ module _ (p : Plan) (w : WellFormed p) where
       pub both_go : (u : BothReady c d) (k₁ k₂ : History) → Execution p c k₁ → Execution p d k₂
           → Execution p n (k₂ ++ (k₁ ++ u.h))
       both_go u k₁ k₂ f₁ f₂ = extend p w k₂ (k₁ ++ u.h) kn hd (λ a ha o. complete_stays p w k₁ u.h one
-          (u.done_d a ha o)) one (rw (still_d, append_nil k₂) f₂)
+          (u.done_d a ha o)) one (rw (still_d, append-nil k₂) f₂)
         where
           one : Execution p n (k₁ ++ u.h)
-          one = extend p w k₁ u.h kn hc u.done_c u.execution (rw (u.empty_c, append_nil k₁) f₁)
+          one = extend p w k₁ u.h kn hc u.done_c u.execution (rw (u.empty_c, append-nil k₁) f₁)
 
           still_d : part p w d (k₁ ++ u.h) ≡ []
           still_d = part_append p w d k₁ u.h ∙ rw (part_other p w hc hd un.distinct (execution_under p w f₁))
@@ -250,7 +250,7 @@ module _ (p : Plan) (w : WellFormed p) where
           → part p w c (k₂ ++ (k₁ ++ u.h)) ≡ k₁
       still_c u k₁ k₂ f₁ f₂ = part_append p w c k₂ (k₁ ++ u.h) ∙ rw (part_other p w hd hc (λ q. un.distinct (sym q))
           (execution_under p w f₂)) (part_append p w c k₁ u.h
-          ∙ rw (part_own p w (execution_under p w f₁), u.empty_c) (append_nil k₁))
+          ∙ rw (part_own p w (execution_under p w f₁), u.empty_c) (append-nil k₁))
 
       -- so what runs in c by itself runs then
       pub runs_c : (u : BothReady c d) (k₁ k₂ : History) → Execution p c k₁ → Execution p d k₂ → (t : ℕ) → Under p c t
@@ -258,9 +258,9 @@ module _ (p : Plan) (w : WellFormed p) where
       runs_c u k₁ k₂ f₁ f₂ t ut r = sym (after_part p w c (k₂ ++ (k₁ ++ u.h)) t ut) ∙ rw (still_c u k₁ k₂ f₁ f₂) r
 
   -- any two tasks under unordered children of one all_of group can be made to run at once
-  pub concurrent_at_once : {n t u : ℕ} → p.tree.kind t ≡ task → p.tree.kind u ≡ task → Concurrent p t u n
+  pub concurrent_at_once : {t u n : ℕ} → p.tree.kind t ≡ task → p.tree.kind u ≡ task → Concurrent p t u n
       → AtOnce p n t u
-  concurrent_at_once {n} {t} {u} kt ku (at_group kn c d hc hd un ut uu) = build (both_ready kn c d hc hd un)
+  concurrent_at_once {t} {u} {n} kt ku (at_group kn c d hc hd un ut uu) = build (both_ready kn c d hc hd un)
     where
       build : BothReady kn c d → AtOnce p n t u
       build b = let (r₁, f₁) = reached p w hc.node (start t) kt ut in let (r₂, f₂) = reached p w hd.node
@@ -272,7 +272,7 @@ module _ (p : Plan) (w : WellFormed p) where
                 f₁ f₂ t ut (after_same (start t) r₁);
             runs_too = after_same (start u) (r₂ ++ ((start t ∷ r₁) ++ b.h));
           }
-  concurrent_at_once {n} {t} {u} kt ku (deeper c hc x) = up (concurrent_at_once kt ku x) (opened hc)
+  concurrent_at_once {t} {u} {n} kt ku (deeper c hc x) = up (concurrent_at_once kt ku x) (opened hc)
     where
       up : AtOnce p c t u → Opened n c → AtOnce p n t u
       up a o = record {

@@ -1,6 +1,6 @@
 -- Last (`MayLast`): its rules by children. At a choice it is `may_any`, `may_optional` with `last_skip`.
 use Rattle.runs.proofs.Base.{◌≡◌, refl, ap, ◌∙◌, sym, ◌⊎◌, inl, inr, ◌↔◌, Iff·trans, ◌≢◌, [], ◌∷◌, ◌++◌}
-use Rattle.runs.proofs.Base.{append_nil, ℕ, arith, ℕ_discrete, T}
+use Rattle.runs.proofs.Base.{append-nil, ℕ, arith, ℕ_discrete, T}
 use Rattle.runs.specs.Plan.{task, all_of, Plan, Child, Under, Before, direct}
 use Rattle.runs.specs.WellFormed.{WellFormed}
 use Rattle.runs.specs.Execution.{Event, start, finish, skip, History, node_of, status_after, all_done, Complete}
@@ -52,6 +52,7 @@ module _ (p : Plan) (w : WellFormed p) (Q H : Event → Type 0) where
       to : LastIs Q H (whole n) → H (finish n) ⊎ (Q (finish n) × H (start n))
       to (here x) = inl x
       to (past q (here x)) = inr (q, x)
+      to (past q (past _ x)) = elim x [ ]
 
       from : H (finish n) ⊎ (Q (finish n) × H (start n)) → LastIs Q H (whole n)
       from (inl x) = here x
@@ -63,6 +64,7 @@ module _ (p : Plan) (w : WellFormed p) (Q H : Event → Type 0) where
     where
       to : LastIs Q H (skip_only n) → H (skip n)
       to (here x) = x
+      to (past _ x) = elim x [ ]
 
   abbrev pub LastAll : ℕ → Type 0
   LastAll n = (c : ℕ) × Child p n c × MayLast p Q H c × ((b : ℕ) → Child p n b → Before p c b → MayQuiet p Q b)
@@ -103,7 +105,7 @@ module _ (p : Plan) (w : WellFormed p) (Q H : Event → Type 0) where
           record {
             history = part p w a (g ++ (e ∷ r));
             completed = part_completed p w k wh ha;
-            holds = rw (part_append p w a g (e ∷ r), nil, append_nil (part p w a g)) (part_all p w a q);
+            holds = rw (part_append p w a g (e ∷ r), nil, append-nil (part p w a g)) (part_all p w a q);
           }
 
   -- some children of n run to their end, the others not begun, and in the whole an event in H has only Q after it
@@ -183,7 +185,7 @@ module _ (p : Plan) (w : WellFormed p) (Q H : Event → Type 0) where
           (λ e. before_irrefl p w (direct (rw e at o))),
           λ q. before_irrefl p w (before_trans p q (direct o)),
         ))
-        first.execution (rw (empty₁ d hd (λ x. x.1 refl), append_nil m.history) m.completed)
+        first.execution (rw (empty₁ d hd (λ x. x.1 refl), append-nil m.history) m.completed)
 
     abbrev h₂ : History
     h₂ = m.history ++ h₁
@@ -199,7 +201,7 @@ module _ (p : Plan) (w : WellFormed p) (Q H : Event → Type 0) where
     third = stage p w Q n k h₂ Later dec_later
         (λ a ha x. let y = after a ha x.0 x.1 in (
           y.history,
-          rw (empty₂ a ha (λ e. not_self e x.1) (λ z. z.2 x.1), append_nil y.history)
+          rw (empty₂ a ha (λ e. not_self e x.1) (λ z. z.2 x.1), append-nil y.history)
               y.completed,
           y.holds,
         ))

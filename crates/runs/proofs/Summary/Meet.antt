@@ -1,5 +1,5 @@
 -- Meet (`MayMeet`): its rules by children.
-use Rattle.runs.proofs.Base.{◌≡◌, ◌∙◌, ◌⊎◌, inl, inr, ◌↔◌, [], ◌∷◌, ◌++◌, append_nil, ℕ, arith}
+use Rattle.runs.proofs.Base.{◌≡◌, ◌∙◌, ◌⊎◌, inl, inr, ◌↔◌, [], ◌∷◌, ◌++◌, append-nil, ℕ, arith}
 use Rattle.runs.specs.Plan.{task, all_of, any_of, optional, Plan, Child, Before, direct, chain}
 use Rattle.runs.specs.WellFormed.{WellFormed}
 use Rattle.runs.specs.Execution.{Event, start, finish, skip, History, node_of, status_after}
@@ -118,7 +118,7 @@ module _ (p : Plan) (w : WellFormed p) (Q H : Event → Type 0) where
             s.execution
             (rw (
               s.kept c hc (λ q. omega (arith, before_rank p w q)) ∙ part_nil p w c,
-              append_nil (m.event ∷ m.before),
+              append-nil (m.event ∷ m.before),
             ) m.execution);
       }
 

@@ -1,5 +1,5 @@
 -- An all_of group that may clobber has a pair: the children are read off the execution by projection.
-use Rattle.runs.proofs.Base.{◌≡◌, sym, ◌∙◌, ◌≢◌, inl, inr, Bool, not, some, [], ◌∷◌, ◌++◌, append_nil, ℕ}
+use Rattle.runs.proofs.Base.{◌≡◌, sym, ◌∙◌, ◌≢◌, inl, inr, Bool, not, some, [], ◌∷◌, ◌++◌, append-nil, ℕ}
 use Rattle.runs.specs.Plan.{all_of, inc, Plan, Child, Under, Before, Concurrent, at_group, deeper, pre, post}
 use Rattle.runs.specs.WellFormed.{WellFormed}
 use Rattle.runs.specs.Execution.{running, Event, start, finish, skip, History, node_of, status_after, Execution}
@@ -64,7 +64,7 @@ module _ (p : Plan) (w : WellFormed p) where
     nothing_after {b} {d} g e r hb hd fr u q a =
         let ne : ¬ Under p b (node_of e) = λ x. before_irrefl p w (rw (one_branch p w hd hb u x) at q) in
         let nil : part p w b (e ∷ r) ≡ [] = part_out p w b e r ne ∙ apart p w fr hb q u in
-        rw (part_append p w b g (e ∷ r), nil, append_nil (part p w b g)) (part_all p w b a)
+        rw (part_append p w b g (e ∷ r), nil, append-nil (part p w b g)) (part_all p w b a)
 
     pre_to_pairs : (ev : Event) (g : History) (e : Event) (r : History) → Execution p n (ev ∷ (g ++ (e ∷ r)))
         → pre_of p.conditions ev f ≡ some v

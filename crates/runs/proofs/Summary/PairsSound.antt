@@ -1,5 +1,5 @@
 -- A pair clobbers: prefixes of the two children, one after the other, after what stands before them.
-use Rattle.runs.proofs.Base.{◌≡◌, ◌∙◌, ◌⊎◌, inl, inr, Bool, not, some, none, [], ◌∷◌, ◌++◌, append_nil, ℕ}
+use Rattle.runs.proofs.Base.{◌≡◌, ◌∙◌, ◌⊎◌, inl, inr, Bool, not, some, none, [], ◌∷◌, ◌++◌, append-nil, ℕ}
 use Rattle.runs.specs.Plan.{all_of, pre, inc, post, Plan, Child, Under, Before, direct, chain, Unordered, deeper}
 use Rattle.runs.specs.WellFormed.{WellFormed}
 use Rattle.runs.specs.Execution.{Event, start, finish, History, node_of, Execution, asserts, last_asserted}
@@ -129,5 +129,5 @@ module _ (p : Plan) (w : WellFormed p) where
           clobbers = precondition m.hit (last_some p f (last_past m.quiet s.is));
           execution = extend p w (m.event ∷ m.before) s.history kn hc (λ a ha o. s.got a ha (direct o))
               s.execution
-              (rw (s.kept c hc (before_irrefl p w), append_nil (m.event ∷ m.before)) m.execution);
+              (rw (s.kept c hc (before_irrefl p w), append-nil (m.event ∷ m.before)) m.execution);
         }

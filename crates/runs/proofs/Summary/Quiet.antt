@@ -1,5 +1,5 @@
 -- Quiet (`MayQuiet`): its rules by children. At a choice it is `may_any`, `may_optional` with `quiet_skip`.
-use Rattle.runs.proofs.Base.{◌≡◌, inl, ◌↔◌, Iff·trans, [], ◌++◌, append_nil, ℕ, T}
+use Rattle.runs.proofs.Base.{◌≡◌, inl, ◌↔◌, Iff·trans, [], ◌++◌, append-nil, ℕ, T}
 use Rattle.runs.proofs.Summary.MayMust.{whole, skip_only, may_task}
 use Rattle.runs.specs.Plan.{task, all_of, Plan, Child, Node}
 use Rattle.runs.specs.WellFormed.{WellFormed}
@@ -29,7 +29,7 @@ module _ (p : Plan) (w : WellFormed p) (Q : Event → Type 0) where
       → ((c : ℕ) → Child p n c → D c → MayQuiet p Q c) → Staged p w Q n [] D
   quiet_stage {n} k D dec_d closed history = stage p w Q n k [] D dec_d
       (λ c hc d. let m = history c hc d in
-      (m.history, rw (part_nil p w c, append_nil m.history) m.completed, m.holds))
+      (m.history, rw (part_nil p w c, append-nil m.history) m.completed, m.holds))
       (λ a b ha hb db o. inl (closed a b ha hb db o)) none_yet
 
   -- all_of: every child is quiet
