@@ -43,6 +43,7 @@ module _ (p : Plan) (F : ℕ → Bool) where
       at (inr k) ih = ih k
 
   rest_once : {seen xs : List ℕ} → Rest p F seen xs → Once xs
+  rest_once (all_seen _) c x = elim x [ ]
   rest_once (then m r) c (at_front i) = rest_new r c i (here refl)
   rest_once (then m r) c (further_on y) = rest_once r c y
 
