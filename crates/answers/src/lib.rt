@@ -1,4 +1,5 @@
 // What calls answer that write into lent memory.
+#![tactic(auto)]
 
 // A refusal, or the length of what was written.
 #[derive(Drop)]

@@ -1,4 +1,6 @@
 // Numbers and a conversion that many crates use.
+#![tactic(auto)]
+
 ghost use Rattle.std.specs.Prelude.{◌≡◌, ◌<◌};
 
 pub mod kinds;

@@ -1,4 +1,6 @@
 // The C interface: knowetop.h.
+#![tactic(auto)]
+
 ghost use Rattle.std.specs.Prelude.{◌≡◌};
 ghost use Rattle.plan_rules.specs.Rules.{refusal};
 ghost use Rattle.summary.specs.Summary.{Summarised};

@@ -1,1 +1,2 @@
 // Closed claims over what the calls answer. No code.
+#![tactic(auto)]

@@ -1,4 +1,6 @@
 // Reads a plan from standard input, and prints its listing or its refusal.
+#![tactic(auto)]
+
 ghost use Rattle.std.specs.Prelude.{◌≡◌, length};
 
 use libc::STDOUT_FILENO;

@@ -1,4 +1,6 @@
 // The listing of a plan, and all that the program prints.
+#![tactic(auto)]
+
 ghost use Rattle.listing.specs.Listing.{Lists, Prints};
 
 use answers::Written;

@@ -1,6 +1,8 @@
 // The flags that pass from a child d of an all-of group to a child c after it: may pass, where every child between the
 // two can avoid the flag; always pass, where no task under any other child asserts it, unless that child stands before
 // d or after c.
+#![tactic(auto)]
+
 ghost use Rattle.std.specs.Prelude.{◌↔◌, ℕ, ◌<◌, T, get_or};
 ghost use Rattle.base.specs.Bits.{bit};
 ghost use Rattle.tables.specs.Segments.{AtSegment, AtPair};

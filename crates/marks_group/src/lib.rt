@@ -1,5 +1,7 @@
 // The row of an any-of or optional group from the rows of its children; that of an all-of group but for the pairs of
 // children that clobber.
+#![tactic(auto)]
+
 ghost use Rattle.std.specs.Prelude.{◌≤◌, ◌<◌};
 ghost use Rattle.marks_row.specs.Columns.{RowIs};
 ghost use Rattle.tables.specs.Segments.{AtSegment};

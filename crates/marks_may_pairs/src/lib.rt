@@ -1,5 +1,7 @@
 // The pairs of children of an all-of group that may clobber a literal: a search that ends as soon as a pair is found,
 // asked again for what is still wanted.
+#![tactic(auto)]
+
 ghost use Rattle.tables.specs.Segments.{AtSegment};
 ghost use Rattle.marks_may_pairs.specs.Search.{SearchedTo, Search, AllPairs};
 

@@ -1,5 +1,7 @@
 // Rule (b) of must clobber: the pairs of children of an all-of group that clobber a literal in every completed
 // execution; for all flags at once.
+#![tactic(auto)]
+
 ghost use Rattle.std.specs.Prelude.{◌<◌, get_or};
 ghost use Rattle.tables.specs.Segments.{AtSegment, AtPair};
 ghost use Rattle.marks_between.specs.Passing.{PairWord};

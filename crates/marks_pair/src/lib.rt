@@ -1,5 +1,7 @@
 // The literals that a pair of children of an all-of group may clobber: for all flags at once, from the rows of the
 // children.
+#![tactic(auto)]
+
 ghost use Rattle.std.specs.Prelude.{◌<◌, get_or};
 ghost use Rattle.tables.specs.Segments.{AtPair};
 ghost use Rattle.marks_between.specs.Passing.{PairWord};

@@ -1,5 +1,7 @@
 // Rows of words, one for each column (specs/Columns.antt): bit f of a word speaks of flag f. The rows of tasks; what is
 // read off a row.
+#![tactic(auto)]
+
 pub mod columns;
 
 ghost use Rattle.std.specs.Prelude.{◌≡◌, Bool, ◌+◌, ◌*◌, ◌<◌, length, get_or};

@@ -1,4 +1,6 @@
 // What the siblings of a child in an all-of group allow: for all flags at once, from their rows.
+#![tactic(auto)]
+
 ghost use Rattle.std.specs.Prelude.{◌↔◌, ◌<◌, T};
 ghost use Rattle.base.specs.Bits.{bit};
 ghost use Rattle.tables.specs.Segments.{AtSegment};

@@ -1,5 +1,7 @@
 // The rows of a plan's nodes, by functions that call each other: for all_of groups, and for any-of and optional groups;
 // for the children of a group, and for a node of either kind.
+#![tactic(auto)]
+
 ghost use Rattle.std.specs.Prelude.{◌≡◌, ◌≤◌, ◌<◌, length};
 ghost use Rattle.runs.specs.Plan.{all_of, Picks};
 ghost use Rattle.marks_row.specs.Columns.{RowIs};

@@ -1,5 +1,7 @@
 // The marks of a node as words over the flags, from its row and from any tables that represent a plan; the literals
 // that fail at the root.
+#![tactic(auto)]
+
 pub mod marks;
 
 ghost use Rattle.std.specs.Prelude.{◌≡◌, ◌<◌, length, get_or};

@@ -1,5 +1,7 @@
 // Members of an all_of root come and go (02: aboard, off): each call answers with the verdict for those that are
 // members after it.
+#![tactic(auto)]
+
 ghost use Rattle.std.specs.Prelude.{◌≡◌, ◌≤◌, length};
 ghost use Rattle.plan_format.specs.Format.{node_count};
 ghost use Rattle.plan_rules.specs.Rules.{refusal};

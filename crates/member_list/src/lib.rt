@@ -1,4 +1,6 @@
 // The list of members (02: who is aboard), a byte for each node: whether it is refused (15, 16), and which nodes stand.
+#![tactic(auto)]
+
 ghost use Rattle.std.specs.Prelude.{◌≡◌, ◌≤◌, ◌<◌, length};
 ghost use Rattle.plan_format.specs.Format.{node_count};
 ghost use Rattle.plan_rules.specs.Rules.{refusal};

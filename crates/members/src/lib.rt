@@ -1,1 +1,2 @@
 // Definitions and laws only: members of an all-of root.
+#![tactic(auto)]

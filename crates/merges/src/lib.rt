@@ -1,1 +1,2 @@
 // Definitions and laws only: two plans merged under a new root.
+#![tactic(auto)]

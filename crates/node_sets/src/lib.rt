@@ -1,4 +1,6 @@
 // Sets of nodes: a table that marks one, or those of a list; whether a list strictly rises.
+#![tactic(auto)]
+
 ghost use Rattle.std.specs.Prelude.{◌≡◌, ◌<◌};
 ghost use Rattle.runs.specs.Searches.{listed};
 ghost use Rattle.runs.specs.Model.Monitor.{rising_b};

@@ -1,4 +1,6 @@
 // Blocked nodes (02: struck): whether a list of them is accepted (28, 29), and which nodes stand.
+#![tactic(auto)]
+
 ghost use Rattle.std.specs.Prelude.{◌≡◌, false, ◌<◌};
 ghost use Rattle.plan_format.specs.Format.{node_count};
 ghost use Rattle.plan_rules.specs.Rules.{refusal};

@@ -1,4 +1,6 @@
 // Rules 1 to 14: whether a plan (01: book) is accepted.
+#![tactic(auto)]
+
 ghost use Rattle.std.specs.Prelude.{◌≡◌, ◌≤◌, length};
 ghost use Rattle.plan_format.specs.Format.{whole_length};
 ghost use Rattle.plan_format.specs.Whole.{Limits, Whole};

@@ -1,4 +1,6 @@
 // The draws of a generated plan, and the fields that they give.
+#![tactic(auto)]
+
 ghost use Rattle.std.specs.Prelude.{◌≡◌, ◌+◌, ◌*◌, ◌%◌, ◌<◌, length};
 ghost use Rattle.plan_draws.specs.Drawn.{Allowed};
 ghost use Rattle.plan_draws.specs.Model.{kind_in, minutes_in, value_in};

@@ -1,4 +1,6 @@
 // Generated plans (02: soak books).
+#![tactic(auto)]
+
 ghost use Rattle.std.specs.Prelude.{◌≡◌, ◌≤◌, ◌<◌, length};
 ghost use Rattle.base.specs.Answers.{overlay};
 ghost use Rattle.answers.specs.Written.{told};

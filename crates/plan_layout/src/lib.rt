@@ -1,4 +1,6 @@
 // The layout of a plan: what each of its bytes holds.
+#![tactic(auto)]
+
 ghost use Rattle.std.specs.Prelude.{◌≡◌, ◌<◌};
 ghost use Rattle.plan_layout.specs.Layout.{Limited, size_number, size_byte, plan_length, entry_part, value_part};
 ghost use Rattle.plan_layout.specs.Layout.{part_at};

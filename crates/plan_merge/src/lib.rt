@@ -1,4 +1,6 @@
 // Merged plans (02: pooled books).
+#![tactic(auto)]
+
 ghost use Rattle.std.specs.Prelude.{◌≡◌, true, ◌≤◌, length};
 ghost use Rattle.base.specs.Answers.{overlay};
 ghost use Rattle.answers.specs.Written.{told};

@@ -1,4 +1,6 @@
 // A plan by its parts: its sizes, the byte of a part, and parts of one plan after another's.
+#![tactic(auto)]
+
 ghost use Rattle.std.specs.Prelude.{◌≡◌, false, ◌≤◌, ◌<◌, length};
 ghost use Rattle.plan_format.specs.Whole.{Whole};
 ghost use Rattle.plan_layout.specs.Layout.{PartOf};

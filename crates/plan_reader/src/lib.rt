@@ -1,5 +1,7 @@
 // A reader hands over the nodes, conditions and orders of a plan (01: book) one after another: `item_at` does the work
 // on the slice and the position. `table_all::fill_items` draws them all.
+#![tactic(auto)]
+
 ghost use Rattle.std.specs.Prelude.{◌≡◌, ◌<◌};
 ghost use Rattle.plan_format.specs.Whole.{Whole};
 ghost use Rattle.plan_reader.specs.Items.{item_count, item_of, advanced};

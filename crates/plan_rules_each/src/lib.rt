@@ -1,5 +1,7 @@
 // The rules that test each flag, character, node, condition or order by itself: one search for an index that breaks the
 // rule.
+#![tactic(auto)]
+
 ghost use Rattle.std.specs.Prelude.{◌≡◌, ◌-◌, ◌<◌};
 ghost use Rattle.plan_format.specs.Whole.{Whole};
 ghost use Rattle.plan_rules_each.specs.Indexed.{count_of, test_of, cause_of};

@@ -1,4 +1,6 @@
 // The rules that compare a place with later ones: one pass backwards over the nodes or the conditions, with a table.
+#![tactic(auto)]
+
 ghost use Rattle.std.specs.Prelude.{◌≡◌, false, ◌<◌};
 ghost use Rattle.base.specs.Zeros.{Zeros};
 ghost use Rattle.plan_format.specs.Format.{node_count, cond_count};

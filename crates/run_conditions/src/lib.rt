@@ -1,5 +1,7 @@
 // The conditions of the tasks of an event, or of several finishes in one step: the literals that they make true, unmet
 // ones, and inconditions of other running tasks that they break. The tasks are those marked by a 1 in a table.
+#![tactic(auto)]
+
 ghost use Rattle.std.specs.Prelude.{◌≡◌, not, true, false, ◌+◌, ◌<◌, replicate, eqb};
 ghost use Rattle.plan_codes.specs.Values.{flag_of, place_of};
 ghost use Rattle.plan_format.specs.Format.{cond_count, cond_value};

@@ -1,5 +1,7 @@
 // Refusals 19 and 20 of a start or a skip: another branch of an any-of or optional group above the node is begun (01:
 // taken); an order's earlier node is not complete.
+#![tactic(auto)]
+
 ghost use Rattle.std.specs.Prelude.{◌≡◌, ℕ, ◌<◌, length, get_or};
 ghost use Rattle.plan_format.specs.Format.{node_count, order_count, parent_of};
 ghost use Rattle.plan_rules.specs.Rules.{refusal};

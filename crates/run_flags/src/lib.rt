@@ -1,4 +1,6 @@
 // The flags of a plan or a state, as eight bytes by value.
+#![tactic(auto)]
+
 ghost use Rattle.std.specs.Prelude.{◌≡◌, ◌++◌, ◌<◌, ◌≤◌, length, take, drop, replicate};
 ghost use Rattle.run_flags.specs.Flags.{flag_in};
 ghost use Rattle.run_flags.specs.Inner.{with_flag, byte_with, all_byte};

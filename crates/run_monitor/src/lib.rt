@@ -1,5 +1,7 @@
 // The monitor (01: keeper): whether the root is complete, the start and the finish of a task, the skip of an optional
 // group, the finishes of several tasks in one step.
+#![tactic(auto)]
+
 ghost use Rattle.runs.specs.Execution as execution;
 ghost use Rattle.runs.specs.Calls.{one, together};
 ghost use Rattle.run_refusals.specs.Inner.{event_of};

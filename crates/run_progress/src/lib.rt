@@ -1,5 +1,7 @@
 // Which nodes are complete and which are begun (01: taken): one pass over the nodes from the last to the first, which
 // counts children.
+#![tactic(auto)]
+
 ghost use Rattle.std.specs.Prelude.{◌≡◌, ◌<◌, length, get_or};
 ghost use Rattle.plan_format.specs.Format.{node_count};
 ghost use Rattle.plan_check.specs.Meaning.{plan_of};

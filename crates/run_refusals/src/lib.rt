@@ -1,5 +1,7 @@
 // Which refusal applies to the start or the finish of a task, to the skip of an optional group, or to several finishes
 // in one step, on a state that passes the checks up to 16.
+#![tactic(auto)]
+
 ghost use Rattle.std.specs.Prelude.{◌≡◌};
 ghost use Rattle.runs.specs.Plan.{place_number};
 ghost use Rattle.runs.specs.Execution as execution;

@@ -1,5 +1,7 @@
 // The order of starts: after the bytes of the nodes a state has a number for each node, the ordinal of its start (02:
 // place).
+#![tactic(auto)]
+
 ghost use Rattle.std.specs.Prelude.{◌≡◌, ℕ, ◌<◌, length, get_or};
 ghost use Rattle.plan_format.specs.Format.{node_count};
 ghost use Rattle.plan_format.specs.Whole.{Whole};

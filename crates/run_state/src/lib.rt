@@ -1,4 +1,6 @@
 // The bytes of a state (01: record): the checks that every call makes first, and the fresh state.
+#![tactic(auto)]
+
 ghost use Rattle.std.specs.Prelude.{◌≡◌, ◌+◌, ◌<◌, ◌≤◌, length};
 ghost use Rattle.plan_format.specs.Format.{node_count};
 ghost use Rattle.runs.specs.Searches.{any_below};

@@ -1,4 +1,6 @@
 // What writes a step into a state that has passed its checks: the start or finish of a task, the finishes of several.
+#![tactic(auto)]
+
 ghost use Rattle.std.specs.Prelude.{◌≡◌};
 ghost use Rattle.runs.specs.Calls.{finishes};
 ghost use Rattle.run_state.specs.Inner.{AtEvent};

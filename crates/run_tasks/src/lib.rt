@@ -1,4 +1,6 @@
 // What is asked of a list of tasks that finish in one step (25, 17, 18).
+#![tactic(auto)]
+
 ghost use Rattle.std.specs.Prelude.{◌≡◌, not, ◌+◌, ◌<◌, length, eqb};
 ghost use Rattle.plan_format.specs.Format.{is_kind};
 ghost use Rattle.plan_format.specs.Whole.{Whole};

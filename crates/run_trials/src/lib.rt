@@ -1,1 +1,2 @@
 // The trial plans (01: trial books) marked *, from their bytes. No code.
+#![tactic(auto)]

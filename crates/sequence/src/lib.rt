@@ -1,5 +1,7 @@
 // The first sequence of the root's children, each wholly before the next, under which the answer is CLEAR (02: a serial
 // order).
+#![tactic(auto)]
+
 ghost use Rattle.std.specs.Prelude.{◌≡◌, ◌<◌};
 ghost use Rattle.plan_rules.specs.Rules.{refusal};
 ghost use Rattle.sequence_search.specs.Search.{count, InRange};

@@ -1,4 +1,6 @@
 // The search for a sequence of the root's children, each wholly before the next, from the rows of the children.
+#![tactic(auto)]
+
 ghost use Rattle.std.specs.Prelude.{◌≡◌, ◌<◌};
 ghost use Rattle.tables.specs.Sizes.{NODES};
 ghost use Rattle.sequence_search.specs.Search.{InRange, follows_b, after, Finds};

@@ -1,1 +1,2 @@
 // Definitions and laws only: sequences of the root's children.
+#![tactic(auto)]

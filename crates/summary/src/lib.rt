@@ -1,4 +1,6 @@
 // The summary of a node (01: sheet).
+#![tactic(auto)]
+
 ghost use Rattle.std.specs.Prelude.{◌≡◌, ◌/◌, ◌%◌, ◌^◌, ◌<◌, get_or};
 ghost use Rattle.node_sets.specs.Sets.{AllMarked};
 ghost use Rattle.plan_format.specs.Format.{node_count};

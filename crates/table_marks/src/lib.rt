@@ -1,4 +1,6 @@
 // The marks of a node of what is left of an accepted plan.
+#![tactic(auto)]
+
 ghost use Rattle.std.specs.Prelude.{◌≡◌, ◌<◌};
 ghost use Rattle.plan_format.specs.Format.{node_count};
 ghost use Rattle.plan_rules.specs.Rules.{refusal};

@@ -1,4 +1,6 @@
 // The table of relation codes: what one order adds to it; all orders between nodes that stand.
+#![tactic(auto)]
+
 ghost use Rattle.std.specs.Prelude.{◌≡◌, ◌&&◌, ◌<◌, length};
 ghost use Rattle.tables.specs.Sizes.{NODES, PAIRS};
 ghost use Rattle.node_sets.specs.Sets.{marked};

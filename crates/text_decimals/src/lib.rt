@@ -1,4 +1,6 @@
 // Plain decimals, written into lent memory.
+#![tactic(auto)]
+
 ghost use Rattle.std.specs.Prelude.{[], ◌∷◌, ◌+◌, ◌<◌, ◌≤◌, length};
 ghost use Rattle.text_decimals.specs.Decimals.{Wrote};
 ghost use Rattle.text_decimals.specs.Model.{decimal};

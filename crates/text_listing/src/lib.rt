@@ -1,4 +1,6 @@
 // The text of the listing of an accepted plan: its verdict and length, then its tasks by their longest waits.
+#![tactic(auto)]
+
 ghost use Rattle.std.specs.Prelude.{◌≡◌, ◌+◌, ◌≤◌, length};
 ghost use Rattle.plan_rules.specs.Rules.{refusal};
 ghost use Rattle.plan_check.specs.Meaning.{plan_of, start_of};

@@ -1,4 +1,6 @@
 // One group of an accepted plan: its length and the waits of its children, from the lengths of the children.
+#![tactic(auto)]
+
 ghost use Rattle.std.specs.Prelude.{◌≡◌, max, length};
 ghost use Rattle.plan_format.specs.Format.{is_kind, is_choice};
 ghost use Rattle.plan_rules.specs.Rules.{refusal};

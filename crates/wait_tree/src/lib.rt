@@ -1,5 +1,7 @@
 // Lengths and longest waits of an accepted plan, by functions for all-of groups and for any-of and optional groups that
 // call each other, by way of one that goes over the children.
+#![tactic(auto)]
+
 ghost use Rattle.std.specs.Prelude.{◌≡◌, true, length};
 ghost use Rattle.plan_format.specs.Format.{is_kind, is_choice};
 ghost use Rattle.plan_rules.specs.Rules.{refusal};

@@ -1,0 +1,7 @@
+-- `children` meets its contract. Assumes nothing.
+use mathlib.Core.Path.{refl}
+use borrow.Author.Rules.{rules}
+use Rattle.tables.proofs.children.Goals as goal
+
+pub returns : goal.returns
+returns c = rw (c.wide-start.ensures.0, c.wide-end.ensures.0) refl
