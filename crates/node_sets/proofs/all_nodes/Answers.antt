@@ -1,11 +1,7 @@
 -- `node_sets::all_nodes` meets its contract. Assumes nothing.
 use Prim.Native.Nat.{ℕ}
 use lib.ListN.{length-replicate, get_or-replicate}
-use Rattle.node_sets.proofs.all_nodes.Statement.{statement}
-use Rattle.node_sets.proofs.all_nodes.Tie as tie
+use Rattle.node_sets.proofs.all_nodes.Goals as goal
 
-returns : tie.Need-returns
+pub returns : goal.returns
 returns c = record { long = length-replicate {A = ℕ} 128 1; is = λ j l. get_or-replicate {A = ℕ} 128 j 1 0 l }
-
-pub all_nodes_spec : {M : Type 1} → statement M
-all_nodes_spec = tie.close (tie.spec returns)

@@ -1,0 +1,7 @@
+-- `node_sets::mark_one` meets its contract. Assumes nothing.
+use Rattle.node_sets.proofs.Sets.{marked_only}
+use borrow.Author.Rules.{rules}
+use Rattle.node_sets.proofs.mark_one.Goals as goal
+
+pub returns : goal.returns
+returns c = marked_only _ _ c.no_nodes-marks.ensures c.requires
