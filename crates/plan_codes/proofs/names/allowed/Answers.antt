@@ -8,6 +8,7 @@ use lib.Dec.{leb}
 use borrow.Author.Tests.{le-leb, lt-leb, ne_eqb}
 use Rattle.plan_codes.specs.Names.{name_allowed}
 use Rattle.plan_codes.proofs.names.allowed.Goals as goal
+use Rattle.plan_codes.proofs.names.allowed.Goals.{in_default-via-then-c-lt65, in_default-via-else-c-lt65+else-c-lt91}
 
 -- A to Z
 pub returns-in-65-to-90 : goal.returns-in-65-to-90
@@ -36,3 +37,15 @@ unfolding name_allowed
 returns-in-45-2 c =
     let k = c.args.c in
     simp (le-leb 48 k (omega arith), le-leb k 57 (omega arith))
+
+-- after 9, and no letter
+pub returns-in_default-c-2 : goal.returns-in_default-c-2
+unfolding name_allowed
+returns-in_default-c-2 c =
+    let k = c.args.c in
+    let no_letter : (leb 65 k && leb k 90) ≡ false =
+    elim c.in_default.branch [
+      | in_default-via-then-c-lt65 w ↦ simp (lt-leb 65 k (omega arith))
+      | in_default-via-else-c-lt65+else-c-lt91 w ↦ simp (le-leb 65 k (omega arith), lt-leb k 90 (omega arith))
+    ] in
+    simp (le-leb 48 k (omega arith), lt-leb k 57 (omega arith), no_letter, ne_eqb k 45 (omega arith))
