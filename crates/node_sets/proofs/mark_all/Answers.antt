@@ -27,7 +27,7 @@ returns c =
     l.invariant.1.1 ∙ ap (λ (i : ℕ). listed (drop i c.args.list.now)) e
 
 pub bounds-marks-list : goal.bounds-marks-list
-bounds-marks-list c = inside c.before.before
+bounds-marks-list c = inside (goal.at.bounds-marks-list c).In-loop-i
 
 pub loop-i-preserved : goal.loop-i-preserved
 loop-i-preserved c =
@@ -37,7 +37,7 @@ loop-i-preserved c =
       omega arith,
       (
         length-set l.marks _ 1 ∙ l.invariant.1.0,
-        marked_cons l.marks _ (drop l.i ts) (omega (arith, inside c.before.before, l.invariant.1.0)) l.invariant.1.1
+        marked_cons l.marks _ (drop l.i ts) (omega (arith, inside (goal.at.loop-i-preserved c).In-loop-i, l.invariant.1.0)) l.invariant.1.1
             ∙ ap listed (sym (rw k at (drop-cons ts (l.i - 1) 0 (omega arith)))),
       ),
     )
