@@ -24,7 +24,7 @@ use Rattle.runs.specs.Numbers.{kind_number}
 use Rattle.runs.specs.WellFormed.{Accepted, WellFormed}
 use Rattle.runs.proofs.Reflect.{clash, true_T, T_true}
 use Rattle.runs.proofs.Plan.Accepted.{accepted_well_formed, accepted_rank}
-use Rattle.plan_check.specs.Meaning.{kind_at, condition_is, has_condition, sign_in, order_is_lem, has_order, plan_of}
+use Rattle.plan_check.specs.Meaning.{kind_at, condition_is, has_condition, sign_in, order_is, has_order, plan_of}
 use Rattle.plan_check.specs.Meaning.{OrderPair}
 use Rattle.plan_check.specs.Means.{ConditionPair, Means}
 use Rattle.plan_rules.proofs.Causes.{condition_fits, parent_group, root_parent, both_signs_of, post_of_lem}
@@ -142,15 +142,15 @@ module _ (b : List ℕ) (k : Place) (t f : ℕ) where
 -- ---- orders
 module _ (b : List ℕ) (x y : ℕ) where
   pub order_is_lem : T (has_order b x y) → OrderPair b x y
-  unfolding has_order order_is_lem
+  unfolding has_order order_is
   order_is_lem h =
-      let w = found_at (order_count b) (order_is_lem b x y) (T_true _ h) in
+      let w = found_at (order_count b) (order_is b x y) (T_true _ h) in
       let r = and_both (eqb (earlier_of b w.0) x) (eqb (later_of b w.0) y) w.2 in
       record { at = w.0; below = w.1; earlier = eqb-true _ _ r.0; later = eqb-true _ _ r.1 }
 
   pub has_order_lem : OrderPair b x y → T (has_order b x y)
-  unfolding has_order order_is_lem
-  has_order_lem r = true_T _ (some_yes (order_count b) (order_is_lem b x y) r.at r.below
+  unfolding has_order order_is
+  has_order_lem r = true_T _ (some_yes (order_count b) (order_is b x y) r.at r.below
       (simp (eq-eqb _ _ r.earlier, eq-eqb _ _ r.later)))
 
 -- ---- nodes

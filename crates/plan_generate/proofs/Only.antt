@@ -28,7 +28,7 @@ use Rattle.plan_draws.proofs.Drawn.{ByNumber, draws_only}
 use Rattle.plan_draws.proofs.Fields.{kind_root, kind_drawn_lem, kind_task, minutes_group, minutes_drawn_lem, value_pre}
 use Rattle.plan_draws.proofs.Fields.{value_post}
 use Rattle.plan_generate.specs.Sentences.{IsGenerated}
-use Rattle.plan_generate.specs.Model.{name_in_lem, parent_in, generated}
+use Rattle.plan_generate.specs.Model.{name_in, parent_in, generated}
 use Rattle.plan_generate.proofs.Bytes.{name_group, name_task, root_chars, number_chars, parent_root}
 use Rattle.plan_generate.proofs.Bytes.{parent_group, parent_task}
 use Rattle.plan_generate.proofs.Sentences.{condition_count, orders_drawn_lem, order_count_lem, generated_long}
@@ -51,7 +51,7 @@ module _ (r : Recipe) (b : List ℕ) (h : IsGenerated r b) (small : Bytes b) whe
 
   -- ---- nodes
   abbrev NodeIn : ℕ → Type 0
-  NodeIn n = NodeIs b n (four (name_in_lem r.groups) n) (parent_in r.groups n) (kind_in r n) (minutes_in r n)
+  NodeIn n = NodeIs b n (four (name_in r.groups) n) (parent_in r.groups n) (kind_in r n) (minutes_in r n)
 
   root_in : NodeIn 0
   root_in = let x = h.root in record {
@@ -97,9 +97,9 @@ module _ (r : Recipe) (b : List ℕ) (h : IsGenerated r b) (small : Bytes b) whe
       (λ m. let e : n ≡ 1 + r.groups + (n - 1 - r.groups) = omega arith in
       rw e (task_in (n - 1 - r.groups) (omega arith))))
 
-  name_in_lem : (k : ℕ) → k < 4 * (1 + r.groups + r.tasks) → name_char b k ≡ name_in_lem r.groups k
+  name_in_lem : (k : ℕ) → k < 4 * (1 + r.groups + r.tasks) → name_char b k ≡ name_in r.groups k
   unfolding name_of
-  name_in_lem k l = same_four (name_char b) (name_in_lem r.groups) k (node_in (k / 4) (omega arith)).its_name
+  name_in_lem k l = same_four (name_char b) (name_in r.groups) k (node_in (k / 4) (omega arith)).its_name
 
   -- ---- conditions
   abbrev pairs_of : ℕ → List (ℕ × ℕ)

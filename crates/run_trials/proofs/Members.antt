@@ -13,7 +13,7 @@ use Rattle.member_calls.specs.Model.{member_return, members_left}
 use Rattle.claims.specs.Members.{MemberCalls, none_made, next_made}
 use Rattle.run_trials.specs.Written.{bytes_of}
 use Rattle.run_trials.specs.Members.{MemberRow, RowCalled, AllCalled}
-use Rattle.run_trials.proofs.Sequences.{same_answer_lem, same_answer_lem}
+use Rattle.run_trials.proofs.Sequences.{same_answer, same_answer_lem}
 
 -- what is computed of a list of calls
 unfoldable pub answers_of : List ℕ → List ℕ → List MemberCall → List (ℕ ⊎ Verdict)
@@ -42,7 +42,7 @@ unfoldable pub same_answers : List (ℕ ⊎ Verdict) → List (ℕ ⊎ Verdict) 
 same_answers [] [] = true
 same_answers [] (c ∷ k) = false
 same_answers (a ∷ l) [] = false
-same_answers (a ∷ l) (c ∷ k) = both (same_answer_lem same_verdict a c) (λ u. same_answers l k)
+same_answers (a ∷ l) (c ∷ k) = both (same_answer same_verdict a c) (λ u. same_answers l k)
 
 same_answers_lem : (l k : List (ℕ ⊎ Verdict)) → T (same_answers l k) → l ≡ k
 unfolding same_answers
@@ -50,8 +50,8 @@ same_answers_lem [] [] t = refl
 same_answers_lem [] (c ∷ k) t = absurd t
 same_answers_lem (a ∷ l) [] t = absurd t
 same_answers_lem (a ∷ l) (c ∷ k) t =
-    let r : Reflects (both (same_answer_lem same_verdict a c) (λ u. same_answers l k))
-    (T (same_answer_lem same_verdict a c) × T (same_answers l k)) = r_both _ _ (r_T _) (r_T _) in
+    let r : Reflects (both (same_answer same_verdict a c) (λ u. same_answers l k))
+    (T (same_answer same_verdict a c) × T (same_answers l k)) = r_both _ _ (r_T _) (r_T _) in
     let (x, y) = r.to t in rw (same_answer_lem same_verdict r_verdict a c x, same_answers_lem l k y)
 
 -- a row

@@ -16,7 +16,7 @@ use Rattle.verdict.specs.Verdict.{answer_of}
 use Rattle.plan_merge.specs.Model.{merged_sizes, refused33, refused34, pair_refusal, merge_refusal, merge_answer, merge_left}
 use Rattle.run_trials.specs.Written.{bytes_of}
 use Rattle.run_trials.specs.Merged.{MergeRow, RowMerged, AllMerged, JudgedRow, lent, RowJudged, AllJudged}
-use Rattle.run_trials.proofs.Sequences.{same_answer_lem, same_answer_lem}
+use Rattle.run_trials.proofs.Sequences.{same_answer, same_answer_lem}
 use Rattle.run_trials.proofs.Members.{same_verdict, r_verdict}
 
 -- ---- what is answered where n bytes are lent
@@ -26,7 +26,7 @@ answer_in b c n = refused_or (first (refusal b) (first (refusal c)
     (plan_length (merged_sizes b c))
 
 unfoldable pub merge_b : MergeRow → Bool
-merge_b w = same_answer_lem eqb (answer_in (bytes_of w.first) (bytes_of w.second) w.room) w.answer
+merge_b w = same_answer eqb (answer_in (bytes_of w.first) (bytes_of w.second) w.room) w.answer
 
 row_merged : (w : MergeRow) → T (merge_b w) → RowMerged w
 unfolding merge_b answer_in merge_answer merge_refusal pair_refusal
@@ -49,7 +49,7 @@ unfoldable pub merged_bytes : List ℕ → List ℕ → List ℕ
 merged_bytes b c = take (plan_length (merged_sizes b c)) (merge_left b c lent)
 
 unfoldable pub judged_b : List ℕ → Verdict → Bool
-judged_b b v = same_answer_lem same_verdict (answer_of b []) (inr v)
+judged_b b v = same_answer same_verdict (answer_of b []) (inr v)
 
 judged_is : (b : List ℕ) (v : Verdict) → T (judged_b b v) → answer_of b [] ≡ inr v
 unfolding judged_b

@@ -14,21 +14,21 @@ use Rattle.run_trials.specs.Sequences.{SequenceRow, AllSequenced}
 
 -- two answers are the same, by a test of what is answered beside numbers
 module _ {A : Type 0} (same : A → A → Bool) where
-  unfoldable pub same_answer_lem : ℕ ⊎ A → ℕ ⊎ A → Bool
-  same_answer_lem (inl n) (inl k) = eqb n k
-  same_answer_lem (inl n) (inr y) = false
-  same_answer_lem (inr x) (inl k) = false
-  same_answer_lem (inr x) (inr y) = same x y
+  unfoldable pub same_answer : ℕ ⊎ A → ℕ ⊎ A → Bool
+  same_answer (inl n) (inl k) = eqb n k
+  same_answer (inl n) (inr y) = false
+  same_answer (inr x) (inl k) = false
+  same_answer (inr x) (inr y) = same x y
 
-  pub same_answer_lem : ((x y : A) → Reflects (same x y) (x ≡ y)) → (a c : ℕ ⊎ A) → T (same_answer_lem a c) → a ≡ c
-  unfolding same_answer_lem
+  pub same_answer_lem : ((x y : A) → Reflects (same x y) (x ≡ y)) → (a c : ℕ ⊎ A) → T (same_answer a c) → a ≡ c
+  unfolding same_answer
   same_answer_lem r (inl n) (inl k) t = ap inl ((r_eq n k).to t)
   same_answer_lem r (inl n) (inr y) t = absurd t
   same_answer_lem r (inr x) (inl k) t = absurd t
   same_answer_lem r (inr x) (inr y) t = ap inr ((r x y).to t)
 
 unfoldable pub sequence_b : SequenceRow → Bool
-sequence_b c = same_answer_lem same_list (sequence_answer (bytes_of c.plan)) c.answer
+sequence_b c = same_answer same_list (sequence_answer (bytes_of c.plan)) c.answer
 
 unfoldable pub all_sequenced_b : List SequenceRow → Bool
 all_sequenced_b [] = true
