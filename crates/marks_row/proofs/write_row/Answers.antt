@@ -1,0 +1,21 @@
+-- `write_row` meets its contract: the words below k are written, and no other row is changed. Assumes nothing.
+use mathlib.Core.Path.{◌≡◌, refl, ◌∙◌}
+use Prim.Native.Nat.{ℕ, ◌≤◌, ◌<◌, ◌-◌}
+use lib.ListN.{length, get_or, length-set}
+use Rattle.marks_row.specs.Columns.{word_at}
+use Rattle.marks_row.proofs.Rows.{row_here, row_there}
+use native.Mathlib.Omega.{arith}
+use borrow.Author.Rules.{rules}
+use Rattle.marks_row.proofs.write_row.Goals as goal
+
+pub loop-k-init : goal.loop-k-init
+loop-k-init c = (omega arith, (search rules, (λ j l. absurd (omega arith), λ d j l n. refl)))
+
+pub returns : goal.returns
+returns c =
+    let l = c in
+    record {
+      long = l.loop-k.invariant.1.0;
+      here = λ j h. l.loop-k.invariant.1.1.0 j (omega arith);
+      there = l.loop-k.invariant.1.1.1;
+    }

@@ -1,0 +1,17 @@
+-- `write_row` meets its contract: the words below k are written, and no other row is changed. Assumes nothing.
+use mathlib.Core.Path.{◌≡◌, refl, ◌∙◌}
+use Prim.Native.Nat.{ℕ, ◌≤◌, ◌<◌, ◌-◌}
+use lib.ListN.{length, get_or, length-set}
+use Rattle.marks_row.specs.Columns.{word_at}
+use Rattle.marks_row.proofs.Rows.{row_here, row_there}
+use native.Mathlib.Omega.{arith}
+use borrow.Author.Rules.{rules}
+use Rattle.marks_row.proofs.write_row.Given as goal
+
+abbrev pub invariant-loop-k : goal.invariant-loop-k
+invariant-loop-k l =
+    (l.k ≤ 23) × ((length l.rows ≡ 2944) × (((j : ℕ) → j < l.k → word_at l.rows l.node j ≡ get_or l.words j 0)
+    × ((c j : ℕ) → j < 23 → (c ≡ l.node → ⊥) → word_at l.rows c j ≡ word_at l.initial.rows c j)))
+
+abbrev pub decreases-loop-k : goal.decreases-loop-k
+decreases-loop-k l = 23 - l.k

@@ -1,0 +1,17 @@
+-- `run_flags::store` meets its contract. Assumes nothing.
+use mathlib.Core.Path.{◌≡◌, refl, ◌∙◌}
+use mathlib.Core.List.{◌++◌}
+use Prim.Native.Nat.{◌≤◌, ◌-◌}
+use native.Mathlib.Omega.{arith}
+use borrow.Author.Rules.{rules}
+use lib.ListN.{length, take, drop, length-set}
+use lib.Seq.{take_all}
+use Rattle.run_flags.proofs.Copies.{copy_more}
+use Rattle.run_flags.proofs.store.Given as goal
+
+abbrev pub invariant-loop-i : goal.invariant-loop-i
+invariant-loop-i l = (l.i ≤ 8)
+    × ((length l.bytes ≡ 8) × ((length l.state ≡ length l.initial.state) × (l.state ≡ take l.i l.bytes ++ drop l.i l.initial.state)))
+
+abbrev pub decreases-loop-i : goal.decreases-loop-i
+decreases-loop-i l = 8 - l.i

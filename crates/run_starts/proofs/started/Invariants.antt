@@ -1,0 +1,16 @@
+-- `started` meets its contract. Assumes nothing.
+use mathlib.Core.Path.{◌≡◌, refl, ap, ◌∙◌}
+use mathlib.Core.Logic.{⊎_elim}
+use Prim.Native.Nat.{ℕ, ◌-◌, ◌≤◌}
+use native.Mathlib.Omega.{arith}
+use Rattle.base.specs.Count.{num, count_below}
+use Rattle.base.proofs.Count.{count_more}
+use Rattle.plan_format.specs.Format.{node_count}
+use Rattle.run_starts.specs.Starts.{started_in, started_count}
+use Rattle.run_starts.proofs.started.Given as goal
+
+abbrev pub invariant-loop-i : goal.invariant-loop-i
+invariant-loop-i l = (l.i ≤ l.n) × ((l.m ≤ l.i) × (l.m ≡ count_below l.i (started_in l.plan l.state)))
+
+abbrev pub decreases-loop-i : goal.decreases-loop-i
+decreases-loop-i l = l.n - l.i
