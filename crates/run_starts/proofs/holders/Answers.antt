@@ -1,7 +1,6 @@
 -- `holders` meets its contract. Assumes nothing.
 use mathlib.Core.Path.{◌≡◌, ap, ◌∙◌}
-use mathlib.Core.Logic.{⊎_elim}
-use Prim.Native.Nat.{ℕ, ◌-◌, ◌<◌, ◌≤◌}
+use Prim.Native.Nat.{ℕ, ◌<◌}
 use native.Mathlib.Omega.{arith}
 use lib.Dec.{ltb}
 use borrow.Author.Tests.{ltb-true}
@@ -11,7 +10,7 @@ use Rattle.base.proofs.Count.{count_le}
 use Rattle.base.proofs.Booleans.{and_both}
 use Rattle.base.proofs.Tally.{tally_start}
 use Rattle.run_starts.specs.Starts.{holders}
-use Rattle.run_starts.proofs.Counts.{holds, HeldTo, held_one, held_none}
+use Rattle.run_starts.proofs.Counts.{holds, held_one, held_none}
 use Rattle.run_starts.proofs.holders.Goals as goal
 use Rattle.run_starts.proofs.holders.Goals.{else-is_started-k, then-is_started-k}
 use Rattle.run_starts.proofs.holders.Goals.{Then-is_started-k}
@@ -63,7 +62,10 @@ loop-i-preserved c =
     let l = o in
     let x = c.is_started in (
       omega arith,
-      elim c.if-is_started-k.branch [ then-is_started-k w ↦ held_one _ _ l.loop-i.i _ o.ordinal-k.ensures x.result x.ensures l.loop-i.table
-          c.if-is_started-k.table l.loop-i.invariant.1 w.if-is_started-k.true w.table-is | else-is_started-k w ↦ held_none _ _ l.loop-i.i _ o.ordinal-k.ensures x.result x.ensures l.loop-i.table
-          c.if-is_started-k.table l.loop-i.invariant.1 w.if-is_started-k.false w.table-is ],
+      elim c.if-is_started-k.branch [
+        | then-is_started-k w ↦ held_one _ _ l.loop-i.i _ o.ordinal-k.ensures x.result x.ensures l.loop-i.table
+            c.if-is_started-k.table l.loop-i.invariant.1 w.if-is_started-k.true w.table-is
+        | else-is_started-k w ↦ held_none _ _ l.loop-i.i _ o.ordinal-k.ensures x.result x.ensures l.loop-i.table
+            c.if-is_started-k.table l.loop-i.invariant.1 w.if-is_started-k.false w.table-is
+      ],
     )

@@ -1,5 +1,4 @@
 -- `is_started` meets its contract. Assumes nothing.
-use native.Mathlib.Omega.{arith}
 use Rattle.run_starts.specs.Starts.{node_byte, started_in}
 use Rattle.run_starts.proofs.is_started.Goals as goal
 

@@ -1,6 +1,5 @@
 -- `ordinal` meets its contract. Assumes nothing.
 use native.Mathlib.Omega.{arith}
-use borrow.Author.Rules.{rules}
 use Rattle.run_starts.specs.Starts.{ordinal_at, ordinal_in}
 use Rattle.run_starts.proofs.ordinal.Goals as goal
 

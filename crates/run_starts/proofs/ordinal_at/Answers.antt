@@ -1,5 +1,4 @@
 -- `ordinal_at` meets its contract. Assumes nothing.
-use native.Mathlib.Omega.{arith}
 use Rattle.run_starts.specs.Starts.{ordinal_at}
 use Rattle.run_starts.proofs.ordinal_at.Goals as goal
 

@@ -1,13 +1,12 @@
 -- `ordinals_bad` meets its contract. Assumes nothing.
 use mathlib.Core.Path.{◌≡◌, refl, sym, ◌∙◌}
-use mathlib.Core.Bool.{true, false, not}
-use Prim.Native.Nat.{suc, ◌+◌, ◌-◌, ◌<◌}
+use mathlib.Core.Bool.{true, false}
+use Prim.Native.Nat.{suc, ◌+◌, ◌<◌}
 use native.Mathlib.Numerals.{add-one}
 use native.Mathlib.Omega.{arith}
 use lib.ListN.{get_or}
-use lib.Dec.{eqb}
 use borrow.Author.Tests.{eq-eqb, ne_eqb}
-use Rattle.runs.proofs.Searches.{Unfound, search_starts, search_finds, search_goes_on, search_ends}
+use Rattle.runs.proofs.Searches.{search_starts, search_finds, search_goes_on, search_ends}
 use Rattle.run_starts.specs.Starts.{started_count, holders, misnumbered}
 use Rattle.run_starts.proofs.Counts.{started_le}
 use Rattle.run_starts.proofs.ordinals_bad.Goals as goal
@@ -27,6 +26,15 @@ held : (c : In-loop-k) → get_or c.holders-table.result (c.loop-k.k + 1) 0
     ≡ holders c.args.plan.now c.args.state.now (suc c.loop-k.k)
 held c = let l = below c in rw (add-one c.loop-k.k)
     (c.holders-table.ensures.1 (suc c.loop-k.k) (omega arith))
+
+pub bounds-table-k : goal.bounds-table-k
+bounds-table-k c = omega (
+  arith,
+  c.loop-k-test.true,
+  c.started-m.ensures,
+  started_le c.args.plan.now c.args.state.now,
+  c.requires.plan.limits.nodes,
+)
 
 pub returns-then-table-k-ne1 : goal.returns-then-table-k-ne1
 unfolding misnumbered

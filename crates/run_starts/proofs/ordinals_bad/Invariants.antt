@@ -1,15 +1,9 @@
 -- `ordinals_bad` meets its contract. Assumes nothing.
-use mathlib.Core.Path.{◌≡◌, refl, sym, ◌∙◌}
-use mathlib.Core.Bool.{true, false, not}
-use Prim.Native.Nat.{suc, ◌+◌, ◌-◌, ◌<◌}
-use native.Mathlib.Numerals.{add-one}
-use native.Mathlib.Omega.{arith}
-use lib.ListN.{get_or}
+use mathlib.Core.Bool.{not}
+use Prim.Native.Nat.{suc, ◌-◌}
 use lib.Dec.{eqb}
-use borrow.Author.Tests.{eq-eqb, ne_eqb}
-use Rattle.runs.proofs.Searches.{Unfound, search_starts, search_finds, search_goes_on, search_ends}
-use Rattle.run_starts.specs.Starts.{started_count, holders, misnumbered}
-use Rattle.run_starts.proofs.Counts.{started_le}
+use Rattle.runs.proofs.Searches.{Unfound}
+use Rattle.run_starts.specs.Starts.{started_count, holders}
 use Rattle.run_starts.proofs.ordinals_bad.Given as goal
 
 abbrev pub invariant-loop-k : goal.invariant-loop-k

@@ -1,12 +1,8 @@
 -- `started` meets its contract. Assumes nothing.
-use mathlib.Core.Path.{◌≡◌, refl, ap, ◌∙◌}
-use mathlib.Core.Logic.{⊎_elim}
-use Prim.Native.Nat.{ℕ, ◌-◌, ◌≤◌}
-use native.Mathlib.Omega.{arith}
-use Rattle.base.specs.Count.{num, count_below}
-use Rattle.base.proofs.Count.{count_more}
-use Rattle.plan_format.specs.Format.{node_count}
-use Rattle.run_starts.specs.Starts.{started_in, started_count}
+use mathlib.Core.Path.{◌≡◌}
+use Prim.Native.Nat.{◌-◌, ◌≤◌}
+use Rattle.base.specs.Count.{count_below}
+use Rattle.run_starts.specs.Starts.{started_in}
 use Rattle.run_starts.proofs.started.Given as goal
 
 abbrev pub invariant-loop-i : goal.invariant-loop-i

@@ -1,6 +1,5 @@
 -- `write_ordinal` meets its contract. Assumes nothing.
 use native.Mathlib.Omega.{arith}
-use borrow.Author.Rules.{rules}
 use lib.ListN.{length-set}
 use Rattle.run_starts.specs.Starts.{ordinal_at}
 use Rattle.run_starts.specs.Inner.{with_ordinal}
