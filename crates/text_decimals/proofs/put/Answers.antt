@@ -1,6 +1,5 @@
 -- `put` meets its contract. Assumes nothing.
 use Rattle.text_decimals.proofs.Written.{wrote_one}
-use borrow.Author.Rules.{rules}
 use Rattle.text_decimals.proofs.put.Goals as goal
 
 pub returns : goal.returns

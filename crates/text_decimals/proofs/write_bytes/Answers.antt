@@ -1,7 +1,5 @@
 -- `write_bytes` meets its contract: the bytes before i are written. Assumes nothing.
-use Prim.Native.Nat.{◌-◌}
-use lib.ListN.{length}
-use Rattle.text_decimals.proofs.Written.{WrittenTo, to_none, to_more, to_all}
+use Rattle.text_decimals.proofs.Written.{to_none, to_more, to_all}
 use native.Mathlib.Omega.{arith}
 use Rattle.text_decimals.proofs.write_bytes.Goals as goal
 

@@ -1,8 +1,7 @@
 -- `write_bytes` meets its contract: the bytes before i are written. Assumes nothing.
 use Prim.Native.Nat.{◌-◌}
 use lib.ListN.{length}
-use Rattle.text_decimals.proofs.Written.{WrittenTo, to_none, to_more, to_all}
-use native.Mathlib.Omega.{arith}
+use Rattle.text_decimals.proofs.Written.{WrittenTo}
 use Rattle.text_decimals.proofs.write_bytes.Given as goal
 
 abbrev pub invariant-loop-i : goal.invariant-loop-i
