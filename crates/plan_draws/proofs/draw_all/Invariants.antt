@@ -1,7 +1,7 @@
 -- `draw_all` meets its contract: the draws before n are made. Assumes nothing.
-use Rattle.std.proofs.Common.{◌-◌, arith, rules}
+use Rattle.std.proofs.Common.{◌-◌}
 use Rattle.plan_draws.specs.Inner.{DRAWS}
-use Rattle.plan_draws.proofs.Fields.{DrewTo, drew_none, drew_more, drew_all}
+use Rattle.plan_draws.proofs.Fields.{DrewTo}
 use Rattle.plan_draws.proofs.draw_all.Given as goal
 
 abbrev pub invariant-loop-n : goal.invariant-loop-n

@@ -1,6 +1,6 @@
 -- `find_orders` meets its contract: of the groups before i those that come before the next are found. Assumes nothing.
-use Rattle.std.proofs.Common.{◌-◌, ⊎_elim, arith, rules}
-use Rattle.plan_draws.proofs.Orders.{FoundTo, found_none, found_one, found_same, found_all, comes, comes_not}
+use Rattle.std.proofs.Common.{◌-◌}
+use Rattle.plan_draws.proofs.Orders.{FoundTo}
 use Rattle.plan_draws.proofs.find_orders.Given as goal
 
 abbrev pub invariant-loop-i : goal.invariant-loop-i

@@ -1,5 +1,5 @@
 -- `kind_of` meets its contract. Assumes nothing.
-use Rattle.std.proofs.Common.{arith, rules}
+use Rattle.std.proofs.Common.{arith}
 use Rattle.plan_draws.proofs.Fields.{kind_root, kind_drawn_lem, kind_task, kind_read}
 use Rattle.plan_draws.proofs.kind_of.Goals as goal
 

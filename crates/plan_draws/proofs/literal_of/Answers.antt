@@ -1,5 +1,5 @@
 -- `literal_of` meets its contract. Assumes nothing.
-use Rattle.std.proofs.Common.{arith, rules}
+use Rattle.std.proofs.Common.{arith}
 use Rattle.plan_draws.proofs.Fields.{literal_is}
 use Rattle.plan_draws.proofs.literal_of.Goals as goal
 

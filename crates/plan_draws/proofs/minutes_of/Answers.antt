@@ -1,5 +1,5 @@
 -- `minutes_of` meets its contract. Assumes nothing.
-use Rattle.std.proofs.Common.{arith, rules}
+use Rattle.std.proofs.Common.{arith}
 use Rattle.plan_draws.proofs.Fields.{minutes_group, minutes_task}
 use Rattle.plan_draws.proofs.minutes_of.Goals as goal
 
