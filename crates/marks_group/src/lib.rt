@@ -50,7 +50,7 @@ fn mask_words(s: Siblings) -> Words
 }
 
 // The columns from `first` to `last`.
-#[derive(Drop)]
+#[derive(Clone, Copy)]
 struct Span {
     first: usize,
     last: usize,
