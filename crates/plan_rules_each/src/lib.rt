@@ -12,7 +12,7 @@ use plan_rules::tests::{
     orders_fall,
 };
 
-#[derive(Drop)]
+#[derive(Clone, Copy)]
 pub enum Rule {
     Starts,
     Names,

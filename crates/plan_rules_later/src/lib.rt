@@ -15,7 +15,7 @@ use plan_codes::value::{flag_of, place_of, sign_of};
 use plan_format::fields::{condition_node, condition_value, conditions, is_group, nodes, parent};
 
 // Which rule: groups without child, conditions with both signs, inconditions without postcondition.
-#[derive(Drop)]
+#[derive(Clone, Copy)]
 pub enum Pass {
     Children,
     Signs,
