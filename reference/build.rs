@@ -1,13 +1,13 @@
-//! Names the C archive, which `rt staticlib capi` builds at the root of the repository.
+//! Names the C archive, which `rt lib` builds in `crates/capi`.
 
 use std::path::Path;
 
 fn main() {
-    let folder = Path::new(env!("CARGO_MANIFEST_DIR")).join("../target/staticlib");
+    let folder = Path::new(env!("CARGO_MANIFEST_DIR")).join("../crates/capi/out");
     let archive = folder.join("libcapi.a");
     assert!(
         archive.exists(),
-        "no target/staticlib/libcapi.a: run `rt staticlib capi` at the root of the repository first"
+        "no crates/capi/out/libcapi.a: run `rt lib` in crates/capi first"
     );
     println!("cargo:rustc-link-search=native={}", folder.display());
     println!("cargo:rustc-link-lib=static=capi");

@@ -26,7 +26,7 @@ fn compiles_and_runs(compiler: &str, language: &str, standard: &str) {
         .args(["-x", language])
         .arg(source())
         .args(["-x", "none"])
-        .arg(root().join("target/staticlib/libcapi.a"))
+        .arg(root().join("crates/capi/out/libcapi.a"))
         .arg("-o")
         .arg(&program)
         .status();

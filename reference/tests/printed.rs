@@ -1,5 +1,5 @@
 //! The program `knowetop`, run as a program: it prints what the reference does, to the byte.
-//! `rt check knowetop` at the root of the repository builds it.
+//! `rt run` in `crates/knowetop` builds it.
 
 use std::fs;
 use std::io::Write;
@@ -16,10 +16,10 @@ fn root() -> PathBuf {
 
 /// What the program prints for this standard input.
 fn run(input: &[u8]) -> String {
-    let program = root().join("target/bin/knowetop");
+    let program = root().join("crates/knowetop/out/knowetop");
     assert!(
         program.exists(),
-        "no target/bin/knowetop: run `rt check knowetop` at the root of the repository first"
+        "no crates/knowetop/out/knowetop: run `rt run` in crates/knowetop first"
     );
     let mut running = Command::new(program)
         .stdin(Stdio::piped())
