@@ -18,28 +18,28 @@ use tables::codes::{AFTER, BEFORE};
 use tables::{NODES, Nodes, Orders, Segment};
 
 // Flags of one sign: 0 clear, 1 set.
-#[derive(Drop)]
+#[derive(Clone, Copy)]
 pub struct OfSign {
     pub sign: usize,
     pub flags: u64,
 }
 
 // A child of a group, and the position of its partner in the table of children.
-#[derive(Drop)]
+#[derive(Clone, Copy)]
 pub struct Partners {
     pub child: usize,
     pub at: usize,
 }
 
 // Flags, and which of them are asked for: those that may pass, or those that always pass.
-#[derive(Drop)]
+#[derive(Clone, Copy)]
 pub struct ToPass {
     pub always: bool,
     pub flags: u64,
 }
 
 // The passage of flags from one child to another.
-#[derive(Drop)]
+#[derive(Clone, Copy)]
 struct Passage {
     from: usize,
     to: usize,

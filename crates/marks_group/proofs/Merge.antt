@@ -72,7 +72,8 @@ module _ {first last : ℕ} {kids : List ℕ} {lo : ℕ} {P M : Column → ℕ �
     some = λ k x f l. some_none (omega arith) (u.some (index_of k) (index_small k) x);
   }
 
-  pub joined_more : {a rows mask r : List ℕ} {i c : ℕ} → c ≡ get_or kids i 0 → lo ≤ i → Merged first last a rows c mask r
+  pub joined_more : {a rows mask r : List ℕ} {i c : ℕ} → c ≡ get_or kids i 0 → lo ≤ i
+      → Merged first last a rows c mask r
       → ((k : Column) (f : ℕ) → f < 64 → Says (word_at rows c (index_of k)) f (P k f c))
       → ((k : Column) (f : ℕ) → f < 64 → Says (get_or mask (index_of k) 0) f (M k f c))
       → Joined first last kids lo i P M a → Joined first last kids lo (i + 1) P M r

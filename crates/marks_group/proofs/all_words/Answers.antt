@@ -11,34 +11,30 @@ loop-i-init c = (first_turn c.requires, λ p n g o. joined_none c.start_words-wo
 
 pub bounds-kids-i : goal.bounds-kids-i
 bounds-kids-i c =
-    let l = c in
-    position_small l.requires (position l.loop-i.invariant.0 c.loop-i-test.true)
+    position_small c.requires (position c.loop-i.invariant.0 c.loop-i-test.true)
 
 pub all_siblings-requires : goal.all_siblings-requires
 all_siblings-requires c =
-    let l = c in
-    let s = l in
-    (s.requires, kid_small s.requires (position l.loop-i.invariant.0 c.loop-i-test.true) c.wide-child.ensures.0)
+    (c.requires, kid_small c.requires (position c.loop-i.invariant.0 c.loop-i-test.true) c.wide-child.ensures.0)
 
 pub merged-next-requires : goal.merged-next-requires
 merged-next-requires c =
-    let l = c in
-    kid_small l.requires (position l.loop-i.invariant.0 c.loop-i-test.true)
+    kid_small c.requires (position c.loop-i.invariant.0 c.loop-i-test.true)
     c.wide-child.ensures.0
 
 pub loop-i-preserved : goal.loop-i-preserved
 loop-i-preserved c =
-    let l = c in
-    let turn = l.loop-i.invariant.0 in
+    let turn = c.loop-i.invariant.0 in
     let test = c.loop-i-test.true in
     let e = c.wide-child.ensures.0 in (
       next_turn turn test,
       λ p n g o. joined_more e turn.low c.merged-next.ensures (child_row g e (position turn test)).says
           (λ k f m. says_eq (c.mask_words-mask.ensures.is k)
           (masked (c.all_siblings.ensures p n g o (listed g.listed e (position turn test))) k f m))
-          (l.loop-i.invariant.1 p n g o),
+          (c.loop-i.invariant.1 p n g o),
     )
 
 pub returns : goal.returns
-returns c = let l = c in
-    λ p n g o kn. all_row g kn (rw (last_turn l.loop-i.invariant.0 c.loop-i-test.false) at (l.loop-i.invariant.1 p n g o))
+returns c =
+    λ p n g o kn. all_row g kn (rw (last_turn c.loop-i.invariant.0 c.loop-i-test.false)
+    at (c.loop-i.invariant.1 p n g o))

@@ -14,33 +14,28 @@ loop-i-init c = (first_turn c.requires, λ p n g. joined_none c.start_words-word
 
 pub bounds-kids-i : goal.bounds-kids-i
 bounds-kids-i c =
-    let l = c in
-    position_small l.requires (position l.loop-i.invariant.0 c.loop-i-test.true)
+    position_small c.requires (position c.loop-i.invariant.0 c.loop-i-test.true)
 
 pub merged-next-requires : goal.merged-next-requires
 merged-next-requires c =
-    let l = c in
-    kid_small l.requires (position l.loop-i.invariant.0 c.loop-i-test.true)
+    kid_small c.requires (position c.loop-i.invariant.0 c.loop-i-test.true)
     c.wide.ensures.0
 
 pub loop-i-preserved : goal.loop-i-preserved
 loop-i-preserved c =
-    let l = c in
-    let turn = l.loop-i.invariant.0 in
+    let turn = c.loop-i.invariant.0 in
     let test = c.loop-i-test.true in
     let e = c.wide.ensures.0 in (
       next_turn turn test,
       λ p n g. joined_more e turn.low c.merged-next.ensures (child_row g e (position turn test)).says
-          (unmasked l.start_words-mask.ensures) (l.loop-i.invariant.1 p n g),
+          (unmasked c.start_words-mask.ensures) (c.loop-i.invariant.1 p n g),
     )
 
 pub returns-then-kind-eq-OPTIONAL : goal.returns-then-kind-eq-OPTIONAL
-returns-then-kind-eq-OPTIONAL c = let l = c in
-    λ p n g m e. optional_row g (kind_inj (p.tree.kind n) optional (sym e ∙ c.if-kind-eq-OPTIONAL.true))
-    (rw (last_turn l.loop-i.invariant.0 c.loop-i-test.false) at (l.loop-i.invariant.1 p n g))
+returns-then-kind-eq-OPTIONAL c = λ p n g m e. optional_row g (kind_inj (p.tree.kind n) optional (sym e ∙ c.if-kind-eq-OPTIONAL.true))
+    (rw (last_turn c.loop-i.invariant.0 c.loop-i-test.false) at (c.loop-i.invariant.1 p n g))
     c.with_empty.ensures
 
 pub returns : goal.returns
-returns c = let l = c in
-    λ p n g m e. any_row g (picks_other (p.tree.kind n) (λ q. c.if-kind-eq-OPTIONAL.false (e ∙ ap kind_number q)) m)
-    (rw (last_turn l.loop-i.invariant.0 c.loop-i-test.false) at (l.loop-i.invariant.1 p n g))
+returns c = λ p n g m e. any_row g (picks_other (p.tree.kind n) (λ q. c.if-kind-eq-OPTIONAL.false (e ∙ ap kind_number q)) m)
+    (rw (last_turn c.loop-i.invariant.0 c.loop-i-test.false) at (c.loop-i.invariant.1 p n g))

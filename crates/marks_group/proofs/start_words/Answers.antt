@@ -15,6 +15,5 @@ loop-k-preserved c = (omega arith, start_more (omega arith) (omega arith) c.loop
 
 pub returns : goal.returns
 returns c =
-    let l = c in
-    let e : l.loop-k.k ≡ l.args.every.last = omega arith in
-    started (rw e at l.loop-k.invariant.1)
+    let e : c.loop-k.k ≡ c.args.every.last = omega arith in
+    started (rw e at c.loop-k.invariant.1)
