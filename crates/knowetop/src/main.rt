@@ -1,10 +1,11 @@
 // Reads a plan from standard input, and prints its listing or its refusal.
 #![tactic(auto)]
 
-ghost use Rattle.std.specs.Prelude.{◌≡◌, length};
+ghost use Rattle.std.specs.Prelude.{◌≡◌, ◌≤◌, length, IfOk};
 
-use libc::STDOUT_FILENO;
 use listing::{Page, print};
+use std::io;
+use std::io::{Read, Write};
 
 // 5,136 bytes for the longest plan, and one more to tell a longer input.
 type Input = [u8; 5137];
@@ -22,10 +23,25 @@ fn page() -> Page
     [0u8; 2048]
 }
 
-fn main() {
+// Reads until the input is full or ends, and returns how many bytes stand at its start.
+fn read_full<R: Read>(reader: &mut R, input: &mut [u8]) -> io::Result<usize>
+    ensures { IfOk result (λ n. n ≤ length input.new) }
+{
+    let mut done = 0;
+    while done < input.len() {
+        let n = reader.read(&mut input[done..])?;
+        if n == 0 {
+            break;
+        }
+        done += n;
+    }
+    Ok(done)
+}
+
+fn main(rt: HostRuntime) -> io::Result<()> {
     let mut input = room();
     let mut out = page();
-    let n = io::read_full(0, &mut input);
+    let n = read_full(&mut rt.reader(), &mut input)?;
     let k = print(&input[..n], &mut out);
-    io::write_all(STDOUT_FILENO, &out[..k]);
+    io::writer(&rt).write_all(&out[..k])
 }
