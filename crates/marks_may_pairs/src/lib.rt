@@ -12,7 +12,7 @@ use marks_row::Rows;
 use tables::{Nodes, Orders, Segment};
 
 // Where a search stands: the positions of a child and of its partner.
-#[derive(Drop)]
+#[derive(Clone, Copy)]
 pub struct Cursor {
     pub child: usize,
     pub partner: usize,
@@ -20,7 +20,7 @@ pub struct Cursor {
 
 // The literals of the pair at which a search stopped, and the positions of its two children; with no literal, the child
 // is past them all.
-#[derive(Drop)]
+#[derive(Clone, Copy)]
 pub struct Found {
     pub literals: Literals,
     pub child: usize,

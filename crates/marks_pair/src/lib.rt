@@ -17,7 +17,7 @@ use tables::codes::BEFORE;
 use tables::{NODES, Nodes, Orders, Segment};
 
 // Literals: the flags wanted clear, the flags wanted set.
-#[derive(Drop)]
+#[derive(Clone, Copy)]
 pub struct Literals {
     pub clear: u64,
     pub set: u64,

@@ -32,10 +32,16 @@ loop-i-preserved c =
     )
 
 pub returns-then-kind-eq-OPTIONAL : goal.returns-then-kind-eq-OPTIONAL
-returns-then-kind-eq-OPTIONAL c = λ p n g m e. optional_row g (kind_inj (p.tree.kind n) optional (sym e ∙ c.if-kind-eq-OPTIONAL.true))
-    (rw (last_turn c.loop-i.invariant.0 c.loop-i-test.false) at (c.loop-i.invariant.1 p n g))
+returns-then-kind-eq-OPTIONAL c =
+    let turns = last_turn c.loop-i.invariant.0 c.loop-i-test.false in
+    λ p n g m e. optional_row g
+    (kind_inj (p.tree.kind n) optional (sym e ∙ c.if-kind-eq-OPTIONAL.true))
+    (rw turns at (c.loop-i.invariant.1 p n g))
     c.with_empty.ensures
 
 pub returns : goal.returns
-returns c = λ p n g m e. any_row g (picks_other (p.tree.kind n) (λ q. c.if-kind-eq-OPTIONAL.false (e ∙ ap kind_number q)) m)
-    (rw (last_turn c.loop-i.invariant.0 c.loop-i-test.false) at (c.loop-i.invariant.1 p n g))
+returns c =
+    let turns = last_turn c.loop-i.invariant.0 c.loop-i-test.false in
+    λ p n g m e. any_row g
+    (picks_other (p.tree.kind n) (λ q. c.if-kind-eq-OPTIONAL.false (e ∙ ap kind_number q)) m)
+    (rw turns at (c.loop-i.invariant.1 p n g))
