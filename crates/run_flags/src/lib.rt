@@ -5,7 +5,7 @@ ghost use Rattle.std.specs.Prelude.{◌≡◌, ◌++◌, ◌<◌, ◌≤◌, len
 ghost use Rattle.run_flags.specs.Flags.{flag_in};
 ghost use Rattle.run_flags.specs.Inner.{with_flag, byte_with, all_byte};
 
-#[derive(Drop)]
+#[derive(Clone, Copy)]
 pub struct Flags {
     pub bytes: [u8; 8],
 }
