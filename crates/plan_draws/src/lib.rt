@@ -9,7 +9,7 @@ ghost use Rattle.plan_draws.specs.Inner.{GROUPS, DRAWS, Drew, OrdersFound};
 use base::kinds::{ALL_OF, TASK};
 
 // What a plan is generated from: 02's seed, g and t.
-#[derive(Drop)]
+#[derive(Clone, Copy)]
 pub struct Recipe {
     pub seed: u32,
     pub groups: usize,

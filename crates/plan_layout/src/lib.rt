@@ -6,7 +6,7 @@ ghost use Rattle.plan_layout.specs.Layout.{Limited, size_number, size_byte, plan
 ghost use Rattle.plan_layout.specs.Layout.{part_at};
 
 // 01's N, C, K and V.
-#[derive(Drop)]
+#[derive(Clone, Copy)]
 pub struct Sizes {
     pub nodes: usize,
     pub conditions: usize,
@@ -16,7 +16,7 @@ pub struct Sizes {
 
 // What a byte holds: one of the sizes' bytes or of the start flags', a character of the names, a field of a node, of
 // a condition or of an order; of a field of two bytes the low one or the high one.
-#[derive(Drop)]
+#[derive(Clone, Copy)]
 pub enum Part {
     Size(usize),
     Start(usize),
