@@ -12,8 +12,8 @@ use lib.Dec.{T, eqb, ltb, leb, ltb→lt, lt→ltb}
 use borrow.Author.Tests.{lt-ltb, eq-eqb, ne_eqb, eqb-true, ltb-true, ltb-false, leb-false, not-false}
 use Rattle.plan_codes.proofs.Values.{value_parts}
 use Rattle.plan_codes.specs.Values.{flag_of, sign_of, place_of, value_bad, value_of}
-use Rattle.plan_format.specs.Format.{node_count, cond_count, order_count, flag_count, parent_of, kind_of, minutes_of, cond_node}
-use Rattle.plan_format.specs.Format.{cond_value, earlier_of, later_of, is_kind, is_group}
+use Rattle.plan_format.specs.Format.{node_count, cond_count, order_count, flag_count, parent_of, kind_of, minutes_of}
+use Rattle.plan_format.specs.Format.{cond_node, cond_value, earlier_of, later_of, is_kind, is_group}
 use Rattle.plan_rules.specs.Rules.{refusal, bad_entry, cause6, childless, cause8, both_signs, cause11, no_post, post_of}
 use Rattle.plan_rules.specs.Rules.{cause12, is_child, bad_pair, bad_order, cause13}
 use Rattle.runs.specs.Searches.{any_below}

@@ -2,8 +2,8 @@
 use Rattle.std.specs.Prelude.{ℕ, ◌<◌, ◌≡◌, Bool, true, false, cond, ◌&&◌, List, eqb, ltb}
 use Rattle.std.proofs.Math.Option.{Option, some, none}
 use Rattle.plan_codes.specs.Values.{flag_of, sign_of, place_of}
-use Rattle.plan_format.specs.Format.{node_count, cond_count, order_count, flag_count, parent_of, kind_of, cond_node, cond_value}
-use Rattle.plan_format.specs.Format.{earlier_of, later_of, start_flag}
+use Rattle.plan_format.specs.Format.{node_count, cond_count, order_count, flag_count, parent_of, kind_of, cond_node}
+use Rattle.plan_format.specs.Format.{cond_value, earlier_of, later_of, start_flag}
 use Rattle.runs.specs.Searches.{any_below}
 use Rattle.runs.specs.Plan.{Kind, task, all_of, any_of, optional, Place, Plan, place_number}
 

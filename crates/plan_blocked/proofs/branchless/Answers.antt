@@ -7,7 +7,7 @@ pub loop-i-init : goal.loop-i-init
 loop-i-init c = read_starts
 
 pub emptied-requires : goal.emptied-requires
-emptied-requires c = let s = c in (s.requires.0, s.requires.1 _ (among_at _ _ (omega arith)))
+emptied-requires c = (c.requires.0, c.requires.1 _ (among_at _ _ (omega arith)))
 
 pub returns-then-emptied : goal.returns-then-emptied
 returns-then-emptied c = read_finds c.loop-i.invariant (omega arith) c.emptied.ensures

@@ -17,10 +17,9 @@ passed c = sym c.list_bad.ensures ∙ c.if-list_bad.false
 
 pub mark_standing-marks-requires : goal.mark_standing-marks-requires
 mark_standing-marks-requires c =
-    let e = c in
-    let s = e in
+    let p = passed (goal.at.mark_standing-marks-requires c).Else-list_bad in
     let free = ap (λ (S : ℕ → Bool). S 0) c.mark_all-blocked.ensures in
-    (s.requires.0, (free ∙ root_free _ _ s.requires.0 (passed (goal.at.mark_standing-marks-requires e).Else-list_bad), s.requires.1))
+    (c.requires.0, (free ∙ root_free _ _ c.requires.0 p, c.requires.1))
 
 -- the tables after it
 standing : (c : After-mark_standing-marks) → let a = c.args in
@@ -29,9 +28,8 @@ standing c = rw c.mark_all-blocked.ensures at c.mark_standing-marks.ensures.0
 
 pub branchless-requires : goal.branchless-requires
 branchless-requires c =
-    let e = c in
-    let ok = e.requires.0 in
-    (ok, all_nodes _ _ ok (passed (goal.at.branchless-requires e).Else-list_bad))
+    let ok = c.requires.0 in
+    (ok, all_nodes _ _ ok (passed (goal.at.branchless-requires c).Else-list_bad))
 
 -- whether 29 applies
 bare : (c : After-branchless) → let a = c.args in refused28_b (plan_of a.plan.now) a.list.now ≡ false

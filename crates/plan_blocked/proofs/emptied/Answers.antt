@@ -17,9 +17,8 @@ parent_is c = c.wide-g.ensures.0 ∙ c.parent.ensures
 
 small : (c : After-wide-g) → c.wide-g.result < 128
 small c =
-    let s = c in
-    let m = parent_lower _ s.requires.0 s.args.s c.wide-g.result s.requires.1.0 s.requires.1.1 (parent_is c) in
-    omega (arith, m, s.requires.1.1, (clean _ s.requires.0).fits.limits.nodes)
+    let m = parent_lower _ c.requires.0 c.args.s c.wide-g.result c.requires.1.0 c.requires.1.1 (parent_is c) in
+    omega (arith, m, c.requires.1.1, (clean _ c.requires.0).fits.limits.nodes)
 
 pub parent-requires : goal.parent-requires
 parent-requires c = (c.requires.1.1, (clean _ c.requires.0).fits)

@@ -12,14 +12,13 @@ use Rattle.plan_blocked.proofs.mark_standing.Goals as goal
 use Rattle.plan_blocked.proofs.mark_standing.Goals.{After-wide-g, In-loop-c, then-blocked-c, else-blocked-c}
 
 pub loop-c-init : goal.loop-c-init
-loop-c-init c =
-    let s = c in (
-      omega arith,
-      (
-        (clean _ s.requires.0).fits.limits.some_node,
-        (stood_first _ s.requires.0 _ s.requires.1.0 s.requires.1.1, partly_first _ _ c.no_nodes-marks.ensures),
-      ),
-    )
+loop-c-init c = (
+  omega arith,
+  (
+    (clean _ c.requires.0).fits.limits.some_node,
+    (stood_first _ c.requires.0 _ c.requires.1.0 c.requires.1.1, partly_first _ _ c.no_nodes-marks.ensures),
+  ),
+)
 
 node_small : (c : In-loop-c) → c.loop-c.c < 128
 node_small c = omega (arith, (clean _ c.requires.0).fits.limits.nodes)
@@ -59,10 +58,8 @@ loop-c-preserved c =
 
 pub returns : goal.returns
 returns c =
-    let l = c in
-    let s = l in
-    let e : l.loop-c.c ≡ node_count s.args.plan.now = omega arith in
-    (stood_all _ s.requires.0 _ (rw e at l.loop-c.invariant.1.1.0), partly_all _ _ (rw e at l.loop-c.invariant.1.1.1))
+    let e : c.loop-c.c ≡ node_count c.args.plan.now = omega arith in
+    (stood_all _ c.requires.0 _ (rw e at c.loop-c.invariant.1.1.0), partly_all _ _ (rw e at c.loop-c.invariant.1.1.1))
 
 pub nodes-n-requires : goal.nodes-n-requires
 nodes-n-requires c = (clean _ c.requires.0).fits.limits.long

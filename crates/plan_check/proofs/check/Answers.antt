@@ -26,8 +26,9 @@ pub whole_length-requires : goal.whole_length-requires
 whole_length-requires c = sized (goal.at.whole_length-requires c).Else-sizes_bad
 
 pub returns-then-plan-whole_length : goal.returns-then-plan-whole_length
-returns-then-plan-whole_length c = third c.args.plan.now
-    (sized (goal.at.returns-then-plan-whole_length c).Else-sizes_bad).long (in_limits (goal.at.returns-then-plan-whole_length c).Else-sizes_bad) (λ e. c.if-plan-whole_length.true (omega arith))
+returns-then-plan-whole_length c =
+    let w = (goal.at.returns-then-plan-whole_length c).Else-sizes_bad in
+    third c.args.plan.now (sized w).long (in_limits w) (λ e. c.if-plan-whole_length.true (omega arith))
 
 pub check_nodes-requires : goal.check_nodes-requires
 check_nodes-requires c = whole c.args.plan.now
@@ -35,9 +36,8 @@ check_nodes-requires c = whole c.args.plan.now
 
 pub returns : goal.returns
 returns c =
-    let e = rest c.args.plan.now
-    (sized (goal.at.returns c).Else-sizes_bad).long (in_limits (goal.at.returns c).Else-sizes_bad) (omega arith) in
-    c.check_nodes.ensures ∙ e
+    let w = (goal.at.returns c).Else-sizes_bad in
+    c.check_nodes.ensures ∙ rest c.args.plan.now (sized w).long (in_limits w) (omega arith)
 
 pub sizes_bad-requires : goal.sizes_bad-requires
 sizes_bad-requires c = c.if-plan-lt16.false

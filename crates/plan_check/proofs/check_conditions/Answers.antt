@@ -10,62 +10,47 @@ returns-then-broken c = rw (sym c.broken.ensures ∙ c.if-broken.true)
 pub returns-then-broken-2 : goal.returns-then-broken-2
 unfolding from_conditions
 returns-then-broken-2 c =
-    let d1 = c in
-    rw (sym d1.broken.ensures ∙ d1.if-broken.false, sym c.broken-2.ensures ∙ c.if-broken-2.true)
+    rw (sym c.broken.ensures ∙ c.if-broken.false, sym c.broken-2.ensures ∙ c.if-broken-2.true)
 
 pub refuses-requires : goal.refuses-requires
-refuses-requires c =
-    let d2 = c in
-    let d1 = d2 in (
-      d1.requires,
-      (sym d1.broken.ensures ∙ d1.if-broken.false, sym d2.broken-2.ensures ∙ d2.if-broken-2.false),
-    )
+refuses-requires c = (
+  c.requires,
+  (sym c.broken.ensures ∙ c.if-broken.false, sym c.broken-2.ensures ∙ c.if-broken-2.false),
+)
 
 pub returns-then-refuses : goal.returns-then-refuses
 unfolding from_conditions
 returns-then-refuses c =
-    let d2 = c in
-    let d1 = d2 in
     rw (
-      sym d1.broken.ensures ∙ d1.if-broken.false,
-      sym d2.broken-2.ensures ∙ d2.if-broken-2.false,
+      sym c.broken.ensures ∙ c.if-broken.false,
+      sym c.broken-2.ensures ∙ c.if-broken-2.false,
       sym c.refuses.ensures ∙ c.if-refuses.true,
     )
 
 pub refuses-requires-2 : goal.refuses-requires-2
-refuses-requires-2 c =
-    let d3 = c in
-    let d2 = d3 in
-    let d1 = d2 in (
-      d1.requires,
-      (sym d1.broken.ensures ∙ d1.if-broken.false, sym d2.broken-2.ensures ∙ d2.if-broken-2.false),
-    )
+refuses-requires-2 c = (
+  c.requires,
+  (sym c.broken.ensures ∙ c.if-broken.false, sym c.broken-2.ensures ∙ c.if-broken-2.false),
+)
 
 pub returns-then-refuses-2 : goal.returns-then-refuses-2
 unfolding from_conditions
 returns-then-refuses-2 c =
-    let d3 = c in
-    let d2 = d3 in
-    let d1 = d2 in
     rw (
-      sym d1.broken.ensures ∙ d1.if-broken.false,
-      sym d2.broken-2.ensures ∙ d2.if-broken-2.false,
-      sym d3.refuses.ensures ∙ d3.if-refuses.false,
+      sym c.broken.ensures ∙ c.if-broken.false,
+      sym c.broken-2.ensures ∙ c.if-broken-2.false,
+      sym c.refuses.ensures ∙ c.if-refuses.false,
       sym c.refuses-2.ensures ∙ c.if-refuses-2.true,
     )
 
 pub returns : goal.returns
 unfolding from_conditions
 returns c =
-    let d4 = c in
-    let d3 = d4 in
-    let d2 = d3 in
-    let d1 = d2 in
     rw (
-      sym d1.broken.ensures ∙ d1.if-broken.false,
-      sym d2.broken-2.ensures ∙ d2.if-broken-2.false,
-      sym d3.refuses.ensures ∙ d3.if-refuses.false,
-      sym d4.refuses-2.ensures ∙ d4.if-refuses-2.false,
+      sym c.broken.ensures ∙ c.if-broken.false,
+      sym c.broken-2.ensures ∙ c.if-broken-2.false,
+      sym c.refuses.ensures ∙ c.if-refuses.false,
+      sym c.refuses-2.ensures ∙ c.if-refuses-2.false,
       c.check_orders.ensures,
     )
 

@@ -10,70 +10,51 @@ returns-then-broken c = rw (sym c.broken.ensures ∙ c.if-broken.true)
 pub returns-then-broken-2 : goal.returns-then-broken-2
 unfolding from_nodes
 returns-then-broken-2 c =
-    let d1 = c in
-    rw (sym d1.broken.ensures ∙ d1.if-broken.false, sym c.broken-2.ensures ∙ c.if-broken-2.true)
+    rw (sym c.broken.ensures ∙ c.if-broken.false, sym c.broken-2.ensures ∙ c.if-broken-2.true)
 
 pub returns-then-broken-3 : goal.returns-then-broken-3
 unfolding from_nodes
 returns-then-broken-3 c =
-    let d2 = c in
-    let d1 = d2 in
     rw (
-      sym d1.broken.ensures ∙ d1.if-broken.false,
-      sym d2.broken-2.ensures ∙ d2.if-broken-2.false,
+      sym c.broken.ensures ∙ c.if-broken.false,
+      sym c.broken-2.ensures ∙ c.if-broken-2.false,
       sym c.broken-3.ensures ∙ c.if-broken-3.true,
     )
 
 pub returns-then-broken-4 : goal.returns-then-broken-4
 unfolding from_nodes
 returns-then-broken-4 c =
-    let d3 = c in
-    let d2 = d3 in
-    let d1 = d2 in
     rw (
-      sym d1.broken.ensures ∙ d1.if-broken.false,
-      sym d2.broken-2.ensures ∙ d2.if-broken-2.false,
-      sym d3.broken-3.ensures ∙ d3.if-broken-3.false,
+      sym c.broken.ensures ∙ c.if-broken.false,
+      sym c.broken-2.ensures ∙ c.if-broken-2.false,
+      sym c.broken-3.ensures ∙ c.if-broken-3.false,
       sym c.broken-4.ensures ∙ c.if-broken-4.true,
     )
 
 pub refuses-requires : goal.refuses-requires
 refuses-requires c =
-    let d4 = c in
-    let d3 = d4 in
-    let d2 = d3 in
-    let d1 = d2 in
-    (d1.requires, sym d4.broken-4.ensures ∙ d4.if-broken-4.false)
+    (c.requires, sym c.broken-4.ensures ∙ c.if-broken-4.false)
 
 pub returns-then-refuses : goal.returns-then-refuses
 unfolding from_nodes
 returns-then-refuses c =
-    let d4 = c in
-    let d3 = d4 in
-    let d2 = d3 in
-    let d1 = d2 in
     rw (
-      sym d1.broken.ensures ∙ d1.if-broken.false,
-      sym d2.broken-2.ensures ∙ d2.if-broken-2.false,
-      sym d3.broken-3.ensures ∙ d3.if-broken-3.false,
-      sym d4.broken-4.ensures ∙ d4.if-broken-4.false,
+      sym c.broken.ensures ∙ c.if-broken.false,
+      sym c.broken-2.ensures ∙ c.if-broken-2.false,
+      sym c.broken-3.ensures ∙ c.if-broken-3.false,
+      sym c.broken-4.ensures ∙ c.if-broken-4.false,
       sym c.refuses.ensures ∙ c.if-refuses.true,
     )
 
 pub returns : goal.returns
 unfolding from_nodes
 returns c =
-    let d5 = c in
-    let d4 = d5 in
-    let d3 = d4 in
-    let d2 = d3 in
-    let d1 = d2 in
     rw (
-      sym d1.broken.ensures ∙ d1.if-broken.false,
-      sym d2.broken-2.ensures ∙ d2.if-broken-2.false,
-      sym d3.broken-3.ensures ∙ d3.if-broken-3.false,
-      sym d4.broken-4.ensures ∙ d4.if-broken-4.false,
-      sym d5.refuses.ensures ∙ d5.if-refuses.false,
+      sym c.broken.ensures ∙ c.if-broken.false,
+      sym c.broken-2.ensures ∙ c.if-broken-2.false,
+      sym c.broken-3.ensures ∙ c.if-broken-3.false,
+      sym c.broken-4.ensures ∙ c.if-broken-4.false,
+      sym c.refuses.ensures ∙ c.if-refuses.false,
       c.check_conditions.ensures,
     )
 

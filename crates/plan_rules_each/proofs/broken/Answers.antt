@@ -26,9 +26,8 @@ searched RisingOrders b = refl
 
 pub returns-then-broken_at : goal.returns-then-broken_at
 returns-then-broken_at c =
-    let l = c in
-    let a = l.args in
-    search_finds l.loop-i.invariant (omega arith) c.broken_at.ensures c.if-broken_at.true
+    let a = c.args in
+    search_finds c.loop-i.invariant (omega arith) c.broken_at.ensures c.if-broken_at.true
     ∙ searched a.rule a.plan.now
 
 pub returns : goal.returns

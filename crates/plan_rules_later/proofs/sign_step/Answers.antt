@@ -38,8 +38,7 @@ overflow_cast-slot c = omega (arith, small (goal.at.overflow_cast-slot c).After-
 
 pub overflow_add-result : goal.overflow_add-result
 overflow_add-result c =
-    let s = c in
-    omega (arith, (usable s.args.plan.now s.requires.1.0 s.requires.1.1).node s.args.i s.requires.0)
+    omega (arith, (usable c.args.plan.now c.requires.1.0 c.requires.1.1).node c.args.i c.requires.0)
 
 pub returns : goal.returns
 unfolding sign_step slot_of
@@ -55,4 +54,4 @@ pub condition_value-v-requires : goal.condition_value-v-requires
 condition_value-v-requires c = (c.requires.0, c.requires.1.0)
 
 pub condition_node-requires : goal.condition_node-requires
-condition_node-requires c = let s = c in (s.requires.0, s.requires.1.0)
+condition_node-requires c = (c.requires.0, c.requires.1.0)
