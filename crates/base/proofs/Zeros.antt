@@ -1,5 +1,5 @@
 -- A list made of zeros. Assumes nothing.
-use Prim.Native.Nat.{ℕ, zero}
+use Prim.Native.Nat.{ℕ}
 use lib.ListN.{replicate, length-replicate, get_or-replicate}
 use Rattle.base.specs.Zeros.{Zeros}
 

@@ -1,6 +1,5 @@
 -- `must_post` meets its contract. Assumes nothing.
 use Rattle.marks_row.proofs.Musts.{must_post_says}
-use borrow.Author.Rules.{rules}
 use Rattle.marks_row.proofs.must_post.Goals as goal
 
 pub returns : goal.returns

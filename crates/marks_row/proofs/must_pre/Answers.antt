@@ -1,6 +1,5 @@
 -- `must_pre` meets its contract. Assumes nothing.
 use Rattle.marks_row.proofs.Musts.{must_pre_says}
-use borrow.Author.Rules.{rules}
 use Rattle.marks_row.proofs.must_pre.Goals as goal
 
 pub returns : goal.returns

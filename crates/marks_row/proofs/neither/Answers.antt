@@ -1,5 +1,4 @@
 -- `neither` meets its contract. Assumes nothing.
-use borrow.Author.Rules.{rules}
 use Rattle.marks_row.proofs.neither.Goals as goal
 
 pub returns : goal.returns

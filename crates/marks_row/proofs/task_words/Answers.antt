@@ -1,7 +1,6 @@
 -- `task_words` meets its contract, by the law of a task's row. Assumes nothing.
 use mathlib.Core.Path.{refl}
 use Rattle.marks_row.proofs.TaskWords.{task_row}
-use borrow.Author.Rules.{rules}
 use Rattle.marks_row.proofs.task_words.Goals as goal
 
 pub returns : goal.returns

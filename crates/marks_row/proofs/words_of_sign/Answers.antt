@@ -1,6 +1,5 @@
 -- `words_of_sign` meets its contract, by the law of a task's words. Assumes nothing.
 use Rattle.marks_row.proofs.TaskWords.{sign_says}
-use borrow.Author.Rules.{rules}
 use Rattle.marks_row.proofs.words_of_sign.Goals as goal
 
 pub returns : goal.returns

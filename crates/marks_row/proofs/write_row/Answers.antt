@@ -1,9 +1,5 @@
 -- `write_row` meets its contract: the words below k are written, and no other row is changed. Assumes nothing.
-use mathlib.Core.Path.{◌≡◌, refl, ◌∙◌}
-use Prim.Native.Nat.{ℕ, ◌≤◌, ◌<◌, ◌-◌}
-use lib.ListN.{length, get_or, length-set}
-use Rattle.marks_row.specs.Columns.{word_at}
-use Rattle.marks_row.proofs.Rows.{row_here, row_there}
+use mathlib.Core.Path.{refl}
 use native.Mathlib.Omega.{arith}
 use borrow.Author.Rules.{rules}
 use Rattle.marks_row.proofs.write_row.Goals as goal

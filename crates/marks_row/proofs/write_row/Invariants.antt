@@ -1,11 +1,8 @@
 -- `write_row` meets its contract: the words below k are written, and no other row is changed. Assumes nothing.
-use mathlib.Core.Path.{◌≡◌, refl, ◌∙◌}
+use mathlib.Core.Path.{◌≡◌}
 use Prim.Native.Nat.{ℕ, ◌≤◌, ◌<◌, ◌-◌}
-use lib.ListN.{length, get_or, length-set}
+use lib.ListN.{length, get_or}
 use Rattle.marks_row.specs.Columns.{word_at}
-use Rattle.marks_row.proofs.Rows.{row_here, row_there}
-use native.Mathlib.Omega.{arith}
-use borrow.Author.Rules.{rules}
 use Rattle.marks_row.proofs.write_row.Given as goal
 
 abbrev pub invariant-loop-k : goal.invariant-loop-k

@@ -1,10 +1,9 @@
 -- `node_sets::mark_all` meets its contract. Assumes nothing.
 use mathlib.Core.Path.{◌≡◌, sym, ap, ◌∙◌}
-use Prim.Native.Nat.{ℕ, suc, ◌≤◌, ◌<◌, ◌-◌}
-use lib.ListN.{length, get_or, drop, length-set}
+use Prim.Native.Nat.{ℕ, suc, ◌<◌, ◌-◌}
+use lib.ListN.{get_or, drop, length-set}
 use lib.Seq.{drop-cons}
 use Rattle.runs.specs.Searches.{listed}
-use Rattle.node_sets.specs.Sets.{marked}
 use Rattle.node_sets.proofs.Sets.{marked_none, marked_cons}
 use Rattle.node_sets.proofs.Lists.{among_at, drop_none}
 use native.Mathlib.Omega.{arith}

@@ -1,6 +1,5 @@
 -- `node_sets::mark_one` meets its contract. Assumes nothing.
 use Rattle.node_sets.proofs.Sets.{marked_only}
-use borrow.Author.Rules.{rules}
 use Rattle.node_sets.proofs.mark_one.Goals as goal
 
 pub returns : goal.returns

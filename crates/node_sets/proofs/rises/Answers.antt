@@ -1,6 +1,6 @@
 -- `node_sets::rises` meets its contract. Assumes nothing.
 use mathlib.Core.Path.{◌≡◌, refl, sym, ap, ◌∙◌}
-use Prim.Native.Nat.{ℕ, ◌+◌, ◌≤◌, ◌-◌}
+use Prim.Native.Nat.{ℕ, ◌+◌, ◌-◌}
 use lib.ListN.{drop}
 use Rattle.runs.specs.Model.Monitor.{rising_b}
 use Rattle.node_sets.proofs.Lists.{falls_here, rises_on, rises_all}

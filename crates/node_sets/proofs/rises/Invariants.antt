@@ -1,10 +1,8 @@
 -- `node_sets::rises` meets its contract. Assumes nothing.
-use mathlib.Core.Path.{◌≡◌, refl, sym, ap, ◌∙◌}
-use Prim.Native.Nat.{ℕ, ◌+◌, ◌≤◌, ◌-◌}
+use mathlib.Core.Path.{◌≡◌}
+use Prim.Native.Nat.{◌+◌, ◌≤◌, ◌-◌}
 use lib.ListN.{drop}
 use Rattle.runs.specs.Model.Monitor.{rising_b}
-use Rattle.node_sets.proofs.Lists.{falls_here, rises_on, rises_all}
-use native.Mathlib.Omega.{arith}
 use Rattle.node_sets.proofs.rises.Given as goal
 
 abbrev pub invariant-loop-i : goal.invariant-loop-i

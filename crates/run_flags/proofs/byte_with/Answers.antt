@@ -5,7 +5,6 @@ use native.Mathlib.Nat.{one-mul}
 use native.Mathlib.Omega.{arith}
 use lib.Pow.{shl_exact}
 use borrow.Author.Tests.{eq-eqb, ne_eqb}
-use borrow.Author.Rules.{rules}
 use Rattle.base.specs.Bits.{bit}
 use Rattle.run_flags.specs.Inner.{byte_with}
 use Rattle.run_flags.proofs.byte_with.Goals as goal

@@ -1,6 +1,5 @@
 -- `load` meets its contract. Assumes nothing.
 use Rattle.run_flags.proofs.Copies.{take_eight}
-use borrow.Author.Rules.{rules}
 use Rattle.run_flags.proofs.load.Goals as goal
 
 pub returns : goal.returns

@@ -1,12 +1,8 @@
 -- `run_flags::store` meets its contract. Assumes nothing.
-use mathlib.Core.Path.{◌≡◌, refl, ◌∙◌}
+use mathlib.Core.Path.{◌≡◌}
 use mathlib.Core.List.{◌++◌}
 use Prim.Native.Nat.{◌≤◌, ◌-◌}
-use native.Mathlib.Omega.{arith}
-use borrow.Author.Rules.{rules}
-use lib.ListN.{length, take, drop, length-set}
-use lib.Seq.{take_all}
-use Rattle.run_flags.proofs.Copies.{copy_more}
+use lib.ListN.{length, take, drop}
 use Rattle.run_flags.proofs.store.Given as goal
 
 abbrev pub invariant-loop-i : goal.invariant-loop-i

@@ -1,6 +1,5 @@
 -- `children` meets its contract. Assumes nothing.
 use mathlib.Core.Path.{refl}
-use borrow.Author.Rules.{rules}
 use Rattle.tables.proofs.children.Goals as goal
 
 pub returns : goal.returns

@@ -2,7 +2,6 @@
 use mathlib.Core.Path.{◌≡◌, sym, ap}
 use Rattle.plan_codes.specs.declared.value.Place.{Place}
 use Rattle.plan_codes.specs.Cases.{place_num}
-use Rattle.plan_codes.proofs.value.place_number.Goals as goal
 
 told : {q p : Place} → q ≡ p → place_num p ≡ place_num q
 told e = ap place_num (sym e)

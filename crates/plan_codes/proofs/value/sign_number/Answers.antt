@@ -2,7 +2,6 @@
 use mathlib.Core.Path.{◌≡◌, sym, ap}
 use Rattle.plan_codes.specs.declared.value.Sign.{Sign}
 use Rattle.plan_codes.specs.Cases.{sign_num}
-use Rattle.plan_codes.proofs.value.sign_number.Goals as goal
 
 told : {q p : Sign} → q ≡ p → sign_num p ≡ sign_num q
 told e = ap sign_num (sym e)

@@ -1,5 +1,4 @@
 -- `plan_codes::value::value_bad` meets its contract. Assumes nothing.
-use native.Mathlib.Omega.{arith}
 use mathlib.Core.Path.{sym, ◌∙◌}
 use borrow.Author.Tests.{lt-ltb, le-ltb}
 use Rattle.plan_codes.specs.Values.{value_bad}

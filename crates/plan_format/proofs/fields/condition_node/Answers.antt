@@ -1,5 +1,4 @@
 -- `plan_format::fields::condition_node` meets its contract. Assumes nothing.
-use native.Mathlib.Omega.{arith}
 use Rattle.plan_format.specs.Format.{cond_node}
 use Rattle.plan_format.proofs.fields.condition_node.Goals as goal
 

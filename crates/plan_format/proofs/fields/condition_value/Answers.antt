@@ -1,5 +1,4 @@
 -- `plan_format::fields::condition_value` meets its contract. Assumes nothing.
-use native.Mathlib.Omega.{arith}
 use Rattle.plan_format.specs.Format.{cond_value}
 use Rattle.plan_format.proofs.fields.condition_value.Goals as goal
 

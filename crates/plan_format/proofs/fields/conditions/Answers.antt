@@ -1,5 +1,4 @@
 -- `plan_format::fields::conditions` meets its contract. Assumes nothing.
-use native.Mathlib.Omega.{arith}
 use Rattle.plan_format.specs.Format.{cond_count}
 use Rattle.plan_format.proofs.fields.conditions.Goals as goal
 

@@ -1,5 +1,4 @@
 -- `plan_format::fields::earlier` meets its contract. Assumes nothing.
-use native.Mathlib.Omega.{arith}
 use Rattle.plan_format.specs.Format.{earlier_of}
 use Rattle.plan_format.proofs.fields.earlier.Goals as goal
 

@@ -1,5 +1,4 @@
 -- `plan_format::fields::entry_at` meets its contract. Assumes nothing.
-use native.Mathlib.Omega.{arith}
 use Rattle.plan_format.specs.Format.{entry_at}
 use Rattle.plan_format.proofs.fields.entry_at.Goals as goal
 

@@ -1,5 +1,4 @@
 -- `plan_format::fields::flags` meets its contract. Assumes nothing.
-use native.Mathlib.Omega.{arith}
 use Rattle.plan_format.specs.Format.{flag_count}
 use Rattle.plan_format.proofs.fields.flags.Goals as goal
 

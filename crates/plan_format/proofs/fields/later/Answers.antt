@@ -1,5 +1,4 @@
 -- `plan_format::fields::later` meets its contract. Assumes nothing.
-use native.Mathlib.Omega.{arith}
 use Rattle.plan_format.specs.Format.{later_of}
 use Rattle.plan_format.proofs.fields.later.Goals as goal
 

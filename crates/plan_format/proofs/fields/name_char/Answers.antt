@@ -1,5 +1,4 @@
 -- `plan_format::fields::name_char` meets its contract. Assumes nothing.
-use native.Mathlib.Omega.{arith}
 use Rattle.plan_format.specs.Format.{name_char}
 use mathlib.Core.Path.{refl}
 use Rattle.plan_format.proofs.fields.name_char.Goals as goal

@@ -1,5 +1,4 @@
 -- `plan_format::fields::nodes` meets its contract. Assumes nothing.
-use native.Mathlib.Omega.{arith}
 use Rattle.plan_format.specs.Format.{node_count}
 use Rattle.plan_format.proofs.fields.nodes.Goals as goal
 

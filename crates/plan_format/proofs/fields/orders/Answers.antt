@@ -1,5 +1,4 @@
 -- `plan_format::fields::orders` meets its contract. Assumes nothing.
-use native.Mathlib.Omega.{arith}
 use Rattle.plan_format.specs.Format.{order_count}
 use Rattle.plan_format.proofs.fields.orders.Goals as goal
 

@@ -1,6 +1,5 @@
 -- `run_flags::Flags::with` meets its contract. Assumes nothing.
 use Rattle.run_flags.specs.Inner.{with_flag}
-use borrow.Author.Rules.{rules}
 use Rattle.run_flags.proofs.Flags.with.Goals as goal
 
 pub returns : goal.returns
