@@ -34,4 +34,5 @@ loop-i-preserved c =
 
 pub returns : goal.returns
 returns c =
-    λ p n g v q f m. all_more g (rw (last_turn c.loop-i.invariant.0 c.loop-i-test.false) at (c.loop-i.invariant.1 p n g v q f m))
+    λ p n g v q f m. all_more g
+    (rw (last_turn c.loop-i.invariant.0 c.loop-i-test.false) at (c.loop-i.invariant.1 p n g v q f m))

@@ -13,7 +13,8 @@ use Rattle.marks_must_pairs.proofs.must_pairs.Given as goal
 abbrev pub invariant-loop-i : goal.invariant-loop-i
 invariant-loop-i l =
     Reached l.segment l.i × OfGroups l.kids l.segment l.order l.rows (λ p n. SaysOf l.sign l.flags
-    (λ f v. T (bit l.initial.flags f) ⊎ Some l.kids l.segment.start l.i (λ c. (d : ℕ) × Child p n d × MustPair p n f v c d)))
+    (λ f v. T (bit l.initial.flags f)
+    ⊎ Some l.kids l.segment.start l.i (λ c. (d : ℕ) × Child p n d × MustPair p n f v c d)))
 
 abbrev pub decreases-loop-i : goal.decreases-loop-i
 decreases-loop-i l = l.segment.end - l.i

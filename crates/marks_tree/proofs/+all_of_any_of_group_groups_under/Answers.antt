@@ -1,0 +1,44 @@
+-- `group`, `all_of`, `any_of` and `groups_under` meet their contracts, by the laws of a group and its children. Assumes
+-- nothing.
+use mathlib.Core.Path.{refl}
+use Rattle.tables.proofs.Turns.{position, next_turn, last_turn}
+use Rattle.marks_tree.proofs.Children.{is_task, is_all, is_choice_lem, child_more}
+use Rattle.marks_tree.proofs.Children.{any_kind, task_filled, all_filled, any_filled}
+use Rattle.marks_tree.proofs.+all_of_any_of_group_groups_under.Goals as goal
+
+-- ---- a node
+pub group-returns-then-k-eq-ALL_OF : goal.group-returns-then-k-eq-ALL_OF
+group-returns-then-k-eq-ALL_OF t c = any_kind (is_all _ _ c.if-k-eq-ALL_OF.true) c.all_of.ensures
+
+pub group-returns-then-k-ne-TASK : goal.group-returns-then-k-ne-TASK
+group-returns-then-k-ne-TASK t c = any_kind (is_choice_lem _ _ c.if-k-eq-ALL_OF.false c.if-k-ne-TASK.true) c.any_of.ensures
+
+pub group-returns-else-k-ne-TASK : goal.group-returns-else-k-ne-TASK
+group-returns-else-k-ne-TASK t c = any_kind (is_task _ _ c.if-k-ne-TASK.false) (task_filled c.requires.1)
+
+-- ---- an all_of group
+pub all_of-returns : goal.all_of-returns
+all_of-returns t c =
+    let under = c.groups_under-segment.ensures in
+    all_filled _ _ _ _ _ _ _ under.0 under.1 c.write_row.ensures c.all_row-words.ensures
+
+-- ---- an any_of or optional group
+pub any_of-returns : goal.any_of-returns
+any_of-returns t c =
+    let under = c.groups_under-segment.ensures in
+    any_filled _ _ _ _ _ _ _ under.0 under.1 c.write_row.ensures refl c.any_words-words.ensures
+
+-- ---- what is under a group
+pub groups_under-loop-i-preserved : goal.groups_under-loop-i-preserved
+groups_under-loop-i-preserved t c =
+    let turn = c.loop-i.invariant.0 in
+    let test = c.loop-i-test.true in (
+      next_turn turn test,
+      child_more _ _ _ _ _ _ _ c.children-segment.ensures c.wide-child.ensures.0 (position turn test)
+          c.loop-i.invariant.1 c.group.ensures,
+    )
+
+pub groups_under-returns : goal.groups_under-returns
+groups_under-returns t c =
+    let e = last_turn c.loop-i.invariant.0 c.loop-i-test.false in
+    (c.children-segment.ensures, rw e at c.loop-i.invariant.1)
