@@ -124,7 +124,8 @@ module _ (r : Recipe) (ok : Allowed r) (b : List ℕ) (l : Laid b (generated r))
   orders_are : order_pairs b ≡ each (λ i. cond (comes_before r i) ((1 + i, 2 + i) ∷ []) []) 0 (r.groups - 1)
   unfolding generated order_number ordered_group
   orders_are = rw l.orders
-      (each_same (λ j. (earlier_of b j, later_of b j) ∷ []) (λ m. (1 + ordered_group r m, 2 + ordered_group r m) ∷ []) 0 (order_number r)
+      (each_same (λ j. (earlier_of b j, later_of b j) ∷ []) (λ m. (1 + ordered_group r m, 2 + ordered_group r m) ∷ [])
+      0 (order_number r)
       (λ m z h. rw (l.earlier m (omega arith), l.later m (omega arith)))
       ∙ each_picked (comes_before r) (λ i. (1 + i, 2 + i)) (r.groups - 1))
 

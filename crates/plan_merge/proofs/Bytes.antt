@@ -18,7 +18,7 @@ use Rattle.plan_layout.proofs.Parts.{part_of}
 use Rattle.plan_layout.proofs.Valid.{Valid}
 use Rattle.plan_parts.specs.Read.{sizes_of, fields_of}
 use Rattle.plan_parts.specs.Joined.{joined_sizes, joined_fields, shifted_fields, has_part, part_after}
-use Rattle.plan_parts.proofs.Read.{limits, valid_of}
+use Rattle.plan_parts.proofs.Read.{valid_of}
 use Rattle.plan_parts.proofs.Joined.{PastStart, byte_first, byte_second, part_first, part_second, past_start}
 use Rattle.plan_parts.proofs.Joined.{stays_past}
 use Rattle.plan_parts.proofs.Small.{byte_small}

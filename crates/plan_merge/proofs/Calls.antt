@@ -1,7 +1,7 @@
 -- What the call answers and leaves, computed, is what 02 says (`merges`). Assumes nothing.
 use mathlib.Core.Path.{◌≡◌, refl, sym, ap, ◌∙◌}
 use mathlib.Core.Logic.{◌≢◌, ◌⊎◌, inl, inr, ◌↔◌, ⊎_elim, by_cases}
-use mathlib.Core.Bool.{Bool, beq, true, false, not, cond, ◌||◌, true≢false}
+use mathlib.Core.Bool.{Bool, beq, true, false, not, cond, ◌||◌}
 use mathlib.Core.List.{List}
 use Prim.Native.Nat.{ℕ, zero, suc, ◌<◌, ◌≤◌, min}
 use native.Mathlib.Decide.{ℕ_discrete}
@@ -9,7 +9,7 @@ use native.Mathlib.Omega.{arith}
 use lib.Dec.{eqb, ltb}
 use lib.ListN.{length, take}
 use borrow.Author.Tests.{ne_eqb, lt-ltb, le-ltb, ltb-true, ltb-false}
-use Rattle.base.specs.Answers.{first, refused_or}
+use Rattle.base.specs.Answers.{refused_or}
 use Rattle.base.proofs.Booleans.{or_split, or_none, not_passed, passed_not, beq_other}
 use Rattle.base.proofs.First.{first_none, first_some, both_none, check_passed, answer_some, refused_not}
 use Rattle.base.proofs.First.{same_refusal, same_given}

@@ -1,24 +1,17 @@
 -- An accepted call: all three plans are accepted (`left_accepted`), and what the length is (`length_is`). Assumes
 -- nothing.
 use mathlib.Core.Path.{◌≡◌, refl, sym, ap, ◌∙◌}
-use mathlib.Core.Logic.{◌⊎◌, inr, ◌↔◌}
+use mathlib.Core.Logic.{◌⊎◌, inr}
 use mathlib.Core.List.{List}
 use Prim.Native.Nat.{ℕ}
 use lib.ListN.{take}
-use borrow.Author.Tests.{eq-eqb}
 use Rattle.base.specs.Answers.{refused_or}
 use Rattle.base.proofs.First.{answer_given}
 use Rattle.plan_rules.specs.Rules.{refusal}
-use Rattle.plan_check.specs.Meaning.{plan_of, start_of}
-use Rattle.runs.specs.Verdict.{Clear}
-use Rattle.merges.specs.Collisions.{BothClear}
 use Rattle.plan_layout.specs.Layout.{plan_length}
-use Rattle.plan_layout.specs.Fields.{Laid}
-use Rattle.plan_layout.proofs.Sections.{laid_in}
-use Rattle.plan_merge.specs.Model.{merged_sizes, merged_fields, merge_refusal, merge_answer, merge_left}
+use Rattle.plan_merge.specs.Model.{merged_sizes, merge_refusal, merge_answer}
 use Rattle.plan_merge.specs.Calls.{Merges}
 use Rattle.plan_merge.proofs.Calls.{Passed, passed}
-use Rattle.plan_merge.proofs.Meaning.{clear_exactly}
 
 module _ {b c out out' : List ℕ} {n : ℕ} (m : Merges b c out (inr n) out') where
   none : merge_refusal b c out ≡ 0

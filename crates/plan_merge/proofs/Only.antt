@@ -3,12 +3,11 @@ use mathlib.Core.Path.{◌≡◌, refl, sym, ap, ◌∙◌}
 use mathlib.Core.Logic.{by_cases}
 use mathlib.Core.Bool.{false}
 use mathlib.Core.List.{List, [], ◌∷◌, ◌++◌}
-use Prim.Native.Nat.{ℕ, zero, suc, ◌+◌, ◌-◌, ◌*◌, ◌/◌, ◌<◌, ◌≤◌}
-use native.Mathlib.Decide.{dec_lt, dec_le}
+use Prim.Native.Nat.{ℕ, zero, suc, ◌+◌, ◌*◌, ◌/◌, ◌<◌, ◌≤◌}
+use native.Mathlib.Decide.{dec_lt}
 use native.Mathlib.Omega.{arith}
 use lib.ListN.{length, get_or, get_or-append}
 use lib.Seq.{ext_get_or, get_or-append-add}
-use borrow.Author.Tests.{le-leb, lt-leb}
 use Rattle.base.specs.Bytes.{Bytes}
 use Rattle.base.specs.Each.{each}
 use Rattle.base.proofs.Booleans.{not_passed}
@@ -16,7 +15,6 @@ use Rattle.base.proofs.Each.{each_long, each_at}
 use Rattle.plan_format.specs.Format.{node_count, cond_count, order_count, flag_count, start_flag, name_char, name_of, cond_node}
 use Rattle.plan_format.specs.Format.{cond_value, earlier_of, later_of}
 use Rattle.plan_format.specs.Pieces.{NodeIs}
-use Rattle.plan_rules.specs.Rules.{refusal}
 use Rattle.plan_check.proofs.Accepted.{clean, start_below}
 use Rattle.plan_layout.specs.Fields.{Fields, Laid}
 use Rattle.plan_layout.proofs.Exact.{laid_byte}
@@ -25,7 +23,7 @@ use Rattle.plan_layout.proofs.Starts.{start_bytes}
 use Rattle.plan_parts.specs.Read.{fields_of}
 use Rattle.plan_merge.specs.Sentences.{shifted_parent, NodeShifted, shifted_conditions, shifted_orders, IsMerged}
 use Rattle.plan_merge.specs.Model.{merged_sizes, merged_fields}
-use Rattle.plan_merge.proofs.Fields.{Contains, contains_first, contains_second, start_of, hull_kind, hull_parent}
+use Rattle.plan_merge.proofs.Fields.{Contains, contains_first, contains_second, hull_kind, hull_parent}
 use Rattle.plan_merge.proofs.Fields.{hull_minutes, hull_name_lem}
 use Rattle.plan_merge.proofs.Valid.{NodeSource, new_root, of_first, of_second, source_of, Half, first_half, second_half}
 use Rattle.plan_merge.proofs.Valid.{half_of}

@@ -59,19 +59,21 @@ module _ (m : List ℕ) (f : Fields) (l : Laid m f) (d : List ℕ) (s c k : ℕ)
 
   pub conditions_from : c + cond_count d ≤ f.sizes.conditions
       → each (λ i. (cond_node m i, cond_value m i) ∷ []) c (cond_count d) ≡ shifted_conditions s d
-  conditions_from w = each_moved _ _ c 0 (cond_count d) (λ i n. let e : 0 + i ≡ i = omega arith in rw (
-    e,
-    l.task (c + i) (omega arith) ∙ h.task (c + i) i (omega arith) n,
-    l.value (c + i) (omega arith) ∙ h.value (c + i) i (omega arith) n,
-  ))
+  conditions_from w = each_moved (λ i. (cond_node m i, cond_value m i) ∷ [])
+      (λ i. (cond_node d i + s, cond_value d i) ∷ []) c 0 (cond_count d) (λ i n. let e : 0 + i ≡ i = omega arith in rw (
+        e,
+        l.task (c + i) (omega arith) ∙ h.task (c + i) i (omega arith) n,
+        l.value (c + i) (omega arith) ∙ h.value (c + i) i (omega arith) n,
+      ))
 
   pub orders_from : k + order_count d ≤ f.sizes.orders
       → each (λ j. (earlier_of m j, later_of m j) ∷ []) k (order_count d) ≡ shifted_orders s d
-  orders_from w = each_moved _ _ k 0 (order_count d) (λ j n. let e : 0 + j ≡ j = omega arith in rw (
-    e,
-    l.earlier (k + j) (omega arith) ∙ h.earlier (k + j) j (omega arith) n,
-    l.later (k + j) (omega arith) ∙ h.later (k + j) j (omega arith) n,
-  ))
+  orders_from w = each_moved (λ j. (earlier_of m j, later_of m j) ∷ [])
+      (λ j. (earlier_of d j + s, later_of d j + s) ∷ []) k 0 (order_count d) (λ j n. let e : 0 + j ≡ j = omega arith in rw (
+        e,
+        l.earlier (k + j) (omega arith) ∙ h.earlier (k + j) j (omega arith) n,
+        l.later (k + j) (omega arith) ∙ h.later (k + j) j (omega arith) n,
+      ))
 
 -- where 34 does not apply, a flag of both starts alike
 pub alike : (b c : List ℕ) → refused34 b c ≡ false → (f : ℕ) → f < flag_count b → f < flag_count c
@@ -103,7 +105,7 @@ module _ (b c : List ℕ) (ok : Mergeable b c) (m : List ℕ) (l : Laid m (merge
   conditions_are =
       let e : cond_count m ≡ cond_count b + cond_count c = omega (arith, l.conditions) in
       let z : 0 + cond_count b ≡ cond_count b = omega arith in
-      rw e (each_append _ 0 (cond_count b) (cond_count c) ∙ rw (
+      rw e (each_append (λ i. (cond_node m i, cond_value m i) ∷ []) 0 (cond_count b) (cond_count c) ∙ rw (
         z,
         conditions_from m _ l b 1 0 0 (contains_first b c) (omega arith),
         conditions_from m _ l c (1 + node_count b) (cond_count b) (order_count b) (contains_second b c) (omega arith),
@@ -113,7 +115,7 @@ module _ (b c : List ℕ) (ok : Mergeable b c) (m : List ℕ) (l : Laid m (merge
   orders_are =
       let e : order_count m ≡ order_count b + order_count c = omega (arith, l.orders) in
       let z : 0 + order_count b ≡ order_count b = omega arith in
-      rw e (each_append _ 0 (order_count b) (order_count c) ∙ rw (
+      rw e (each_append (λ j. (earlier_of m j, later_of m j) ∷ []) 0 (order_count b) (order_count c) ∙ rw (
         z,
         orders_from m _ l b 1 0 0 (contains_first b c) (omega arith),
         orders_from m _ l c (1 + node_count b) (cond_count b) (order_count b) (contains_second b c) (omega arith),
