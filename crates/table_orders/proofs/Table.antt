@@ -156,7 +156,8 @@ tabled_skip {b} {P = P} {i} out t = record {
 
 -- all orders are in the table, of a plan that has these
 pub tabled_all : {b order : List ℕ} {P : ℕ → Type 0} {p : Plan} → refusal b ≡ 0
-    → ((n : ℕ) → Node p n → n < node_count b) → ((x y : ℕ) → T (p.order x y) ↔ (T ((plan_of b).order x y) × (P x × P y)))
+    → ((n : ℕ) → Node p n → n < node_count b)
+    → ((x y : ℕ) → T (p.order x y) ↔ (T ((plan_of b).order x y) × (P x × P y)))
     → Tabled b P order (order_count b) → RepresentsOrder order p
 tabled_all {b} {P = P} {p} r nodes orders t =
     let small : (n : ℕ) → Node p n → n < 128 = λ n h. omega (arith, nodes n h, (clean b r).fits.limits.nodes) in
