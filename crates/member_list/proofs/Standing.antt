@@ -99,7 +99,8 @@ module _ (b ms : List ℕ) (ok : refusal b ≡ 0) where
         member = rw (lt-ltb c (node_count b) l) refl
 
         outside : S c ≡ negate (member_in b ms c)
-        outside = same_test _ _ (r_map (λ x. x.1, λ k. (rw q at child, k)) (r_outsider (plan_of b) w (member_in b ms) c))
+        outside = same_test _ _
+            (r_map (λ x. x.1, λ k. (rw q at child, k)) (r_outsider (plan_of b) w (member_in b ms) c))
             (r_negate _ (r_T _))
 
     pub placed_below : (g ≡ 0 → ⊥) → Placed b ms (set table c (get_or table g 0)) (c + 1)
