@@ -11,7 +11,8 @@ pub group-returns-then-k-eq-ALL_OF : goal.group-returns-then-k-eq-ALL_OF
 group-returns-then-k-eq-ALL_OF t c = any_kind (is_all _ _ c.if-k-eq-ALL_OF.true) c.all_of.ensures
 
 pub group-returns-then-k-ne-TASK : goal.group-returns-then-k-ne-TASK
-group-returns-then-k-ne-TASK t c = any_kind (is_choice_lem _ _ c.if-k-eq-ALL_OF.false c.if-k-ne-TASK.true) c.any_of.ensures
+group-returns-then-k-ne-TASK t c =
+    any_kind (is_choice_lem _ _ c.if-k-eq-ALL_OF.false c.if-k-ne-TASK.true) c.any_of.ensures
 
 pub group-returns-else-k-ne-TASK : goal.group-returns-else-k-ne-TASK
 group-returns-else-k-ne-TASK t c = any_kind (is_task _ _ c.if-k-ne-TASK.false) (task_filled c.requires.1)

@@ -20,10 +20,11 @@ by_sign P a b false = a
 by_sign P a b true = b
 
 pub returns : goal.returns
-returns c = λ p n g kn.
+returns c =
+    let words = c.all_words-words.result in
     let must : Literals = record { clear = c.must_pairs-clear.result; set = c.must_pairs-set.result } in
-    let known : Literals = record { clear = get_or c.all_words-words.result 21 0; set = get_or c.all_words-words.result 22 0 } in
-    all_row g.group.well_formed kn
+    let known : Literals = record { clear = get_or words 21 0; set = get_or words 22 0 } in
+    λ p n g kn. all_row g.group.well_formed kn
     (c.all_words-words.ensures p n g.group g.orders kn)
     c.open_literals-wanted.ensures
     (c.clobbering_pairs-may.ensures.says p n g)
