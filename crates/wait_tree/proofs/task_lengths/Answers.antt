@@ -1,0 +1,37 @@
+-- `task_lengths` meets its contract: the tasks below t are done. Assumes nothing.
+use mathlib.Core.Path.{sym, ◌∙◌}
+use Rattle.plan_check.proofs.Accepted.{clean}
+use Rattle.wait_tree.proofs.Tasks.{tasks_none, tasks_more, tasks_skip, tasks_all}
+use native.Mathlib.Omega.{arith}
+use Rattle.wait_tree.proofs.task_lengths.Goals as goal
+use Rattle.wait_tree.proofs.task_lengths.Goals.{else-kind-eq-TASK, then-kind-eq-TASK}
+
+pub nodes-n-requires : goal.nodes-n-requires
+nodes-n-requires c = (clean _ c.requires.0).fits.limits.long
+
+pub loop-t-init : goal.loop-t-init
+loop-t-init c =
+    let ok = clean _ c.requires.0 in
+    ((c.nodes-n.ensures, omega (arith, ok.fits.limits.nodes, c.nodes-n.ensures)), tasks_none c.requires.1)
+
+pub kind-requires : goal.kind-requires
+kind-requires c = (omega arith, (clean _ c.requires.0).fits)
+
+pub minutes-requires : goal.minutes-requires
+minutes-requires c = (omega arith, (clean _ c.requires.0).fits)
+
+pub loop-t-preserved : goal.loop-t-preserved
+loop-t-preserved c =
+    let ok = clean _ c.requires.0 in (
+      c.loop-t.invariant.0,
+      elim c.if-kind-eq-TASK.branch [
+        | then-kind-eq-TASK w ↦ tasks_more ok (omega arith) (sym c.kind.ensures ∙ w.if-kind-eq-TASK.true)
+            w.minutes.ensures w.lengths-is c.loop-t.invariant.1
+        | else-kind-eq-TASK w ↦ tasks_skip (λ z. w.if-kind-eq-TASK.false (c.kind.ensures ∙ z)) w.lengths-is
+            c.loop-t.invariant.1
+      ],
+    )
+
+pub returns : goal.returns
+returns c =
+    tasks_all (clean _ c.requires.0) (omega arith) c.requires.2 c.loop-t.invariant.1
