@@ -1,0 +1,26 @@
+-- `write_line` meets its contract. Assumes nothing.
+use Rattle.text_decimals.proofs.Written.{wrote_long, wrote_then, wrote_same}
+use Rattle.text_lines.proofs.Text.{name_length, line_length, line_is}
+use native.Mathlib.Omega.{arith}
+use Rattle.text_lines.proofs.write_line.Goals as goal
+
+pub write_name-a-requires : goal.write_name-a-requires
+write_name-a-requires c =
+    (c.requires.0, c.requires.1, omega (arith, c.requires.2, line_length c.args.plan.now c.args.t c.args.wait))
+
+pub end_line-requires : goal.end_line-requires
+end_line-requires c =
+    let w = c.write_name-a.ensures in
+    omega (
+      arith,
+      c.requires.2,
+      w.next,
+      wrote_long w,
+      name_length c.args.plan.now c.args.t,
+      line_length c.args.plan.now c.args.t c.args.wait,
+    )
+
+pub returns : goal.returns
+returns c = wrote_same (line_is _ _ _)
+    (wrote_then c.write_name-a.ensures
+    c.end_line.ensures)
