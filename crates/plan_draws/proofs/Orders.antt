@@ -1,5 +1,6 @@
 -- The table of the groups that come before the next, as it is filled. Assumes nothing.
-use Rattle.std.proofs.Common.{◌≡◌, ℕ, ◌+◌, ◌-◌, ◌*◌, ◌%◌, ◌<◌, ◌≤◌, true, false, ◌≢◌, List, length, get_or, set, sym, ap, ◌∙◌, add-one, arith, length-set, get_or-set_other, get_or-set_same, eq-eqb, ne_eqb}
+use Rattle.std.proofs.Common.{◌≡◌, ℕ, ◌+◌, ◌-◌, ◌*◌, ◌%◌, ◌<◌, ◌≤◌, true, false, ◌≢◌, List, length, get_or, set, sym}
+use Rattle.std.proofs.Common.{ap, ◌∙◌, add-one, arith, length-set, get_or-set_other, get_or-set_same, eq-eqb, ne_eqb}
 use mathlib.Core.Logic.{by_cases}
 use native.Mathlib.Decide.{ℕ_discrete}
 use Rattle.base.specs.Count.{num, count_below}
@@ -53,7 +54,8 @@ module _ (r : Recipe) (ok : Allowed r) where
           }
 
       -- group i is none
-      pub found_same : comes_before r i ≡ false → ordered' ≡ ordered → found' ≡ found → FoundTo r ordered' found' (i + 1)
+      pub found_same : comes_before r i ≡ false → ordered' ≡ ordered → found' ≡ found
+          → FoundTo r ordered' found' (i + 1)
       found_same e x y = record {
         long = rw x o.long;
         below = omega arith;

@@ -1,5 +1,6 @@
 -- The pairs of the numbers that pass a test, in turn. Assumes nothing.
-use Rattle.std.proofs.Common.{◌≡◌, ℕ, zero, suc, ◌+◌, Bool, true, false, cond, List, [], ◌∷◌, sym, refl, ap, ◌∙◌, append-nil, arith}
+use Rattle.std.proofs.Common.{◌≡◌, ℕ, zero, suc, ◌+◌, Bool, true, false, cond, List, [], ◌∷◌, sym, refl, ap, ◌∙◌}
+use Rattle.std.proofs.Common.{append-nil, arith}
 use Rattle.base.specs.Count.{num, count_below}
 use Rattle.base.specs.Each.{each}
 use Rattle.base.proofs.Each.{each_more, each_same}

@@ -15,7 +15,8 @@ use Rattle.base.proofs.Booleans.{not_passed}
 use Rattle.base.proofs.Each.{each_at}
 use Rattle.runs.specs.Plan.{pre, post, place_number}
 use Rattle.plan_codes.specs.Values.{value_of}
-use Rattle.plan_format.specs.Format.{cond_count, order_count, start_flag, name_char, name_of, cond_node, cond_value, earlier_of}
+use Rattle.plan_format.specs.Format.{cond_count, order_count, start_flag, name_char, name_of, cond_node, cond_value}
+use Rattle.plan_format.specs.Format.{earlier_of}
 use Rattle.plan_format.specs.Format.{later_of}
 use Rattle.plan_format.specs.Pieces.{NodeIs}
 use Rattle.plan_check.proofs.Accepted.{clean, start_below}
@@ -23,7 +24,8 @@ use Rattle.plan_layout.specs.Fields.{Laid}
 use Rattle.plan_layout.proofs.Exact.{laid_byte}
 use Rattle.plan_layout.proofs.Names.{four, same_four}
 use Rattle.plan_draws.specs.declared.Recipe.{Recipe}
-use Rattle.plan_draws.specs.Model.{kind_drawn, minutes_drawn, order_number, ordered_group, kind_in, minutes_in, value_in}
+use Rattle.plan_draws.specs.Model.{kind_drawn, minutes_drawn, order_number, ordered_group, kind_in, minutes_in}
+use Rattle.plan_draws.specs.Model.{value_in}
 use Rattle.plan_draws.proofs.Drawn.{ByNumber, draws_only}
 use Rattle.plan_draws.proofs.Fields.{kind_root, kind_drawn_lem, kind_task, minutes_group, minutes_drawn_lem, value_pre}
 use Rattle.plan_draws.proofs.Fields.{value_post}
@@ -134,7 +136,8 @@ module _ (r : Recipe) (b : List ℕ) (h : IsGenerated r b) (small : Bytes b) whe
       sym (each_at (λ k. (earlier_of b k, later_of b k) ∷ []) 1 (λ k. refl) 0 (order_count b) m 0 m m (0, 0)
       (omega (arith, order_count_lem r b h)) (omega arith) (omega arith) (omega arith))
       ∙ ap (λ (ps : List (ℕ × ℕ)). get_or ps m (0, 0)) (orders_drawn_lem r b h)
-      ∙ each_at (λ k. (1 + ordered_group r k, 2 + ordered_group r k) ∷ []) 1 (λ k. refl) 0 (order_number r) m 0 m m (0, 0)
+      ∙ each_at (λ k. (1 + ordered_group r k, 2 + ordered_group r k) ∷ []) 1 (λ k. refl) 0 (order_number r)
+      m 0 m m (0, 0)
       l (omega arith) (omega arith) (omega arith)
 
   -- ---- flags

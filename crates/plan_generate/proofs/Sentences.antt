@@ -20,7 +20,8 @@ use Rattle.plan_layout.specs.Fields.{Laid}
 use Rattle.plan_layout.proofs.Names.{four}
 use Rattle.plan_draws.specs.declared.Recipe.{Recipe}
 use Rattle.plan_draws.specs.Drawn.{Allowed}
-use Rattle.plan_draws.specs.Model.{kind_drawn, minutes_drawn, flag_drawn, pre_drawn, post_drawn, comes_before, order_number}
+use Rattle.plan_draws.specs.Model.{kind_drawn, minutes_drawn, flag_drawn, pre_drawn, post_drawn, comes_before}
+use Rattle.plan_draws.specs.Model.{order_number}
 use Rattle.plan_draws.specs.Model.{ordered_group}
 use Rattle.plan_draws.proofs.Drawn.{draws_of, draws_only}
 use Rattle.plan_draws.proofs.PickedPairs.{each_picked}
@@ -161,7 +162,8 @@ module _ (r : Recipe) (b : List ℕ) (h : IsGenerated r b) where
         r.tasks,
   )
 
-  pub orders_drawn_lem : order_pairs b ≡ each (λ m. (1 + ordered_group r m, 2 + ordered_group r m) ∷ []) 0 (order_number r)
+  pub orders_drawn_lem : order_pairs b
+      ≡ each (λ m. (1 + ordered_group r m, 2 + ordered_group r m) ∷ []) 0 (order_number r)
   unfolding order_number ordered_group comes_before
   orders_drawn_lem = h.orders
       ∙ each_same _ (λ i. cond (comes_before r i) ((1 + i, 2 + i) ∷ []) []) 0 (r.groups - 1)

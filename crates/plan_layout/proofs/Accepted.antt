@@ -11,11 +11,14 @@ use lib.ListN.{length, get_or}
 use lib.Dec.{eqb, ltb, leb}
 use borrow.Author.Tests.{lt-ltb, le-ltb, eq-eqb, ne_eqb, eqb-true, leb-true, ltb-true, not-true}
 use Rattle.plan_codes.specs.Values.{flag_of, sign_of, place_of, value_bad}
-use Rattle.plan_format.specs.Format.{node_count, cond_count, order_count, flag_count, whole_length, start_flag, parent_of}
-use Rattle.plan_format.specs.Format.{kind_of, minutes_of, cond_node, cond_value, earlier_of, later_of, is_kind, is_group}
+use Rattle.plan_format.specs.Format.{node_count, cond_count, order_count, flag_count, whole_length, start_flag}
+use Rattle.plan_format.specs.Format.{parent_of}
+use Rattle.plan_format.specs.Format.{kind_of, minutes_of, cond_node, cond_value, earlier_of, later_of, is_kind}
+use Rattle.plan_format.specs.Format.{is_group}
 use Rattle.plan_rules.specs.Rules.{cause1, cause2, cause3, bad_start, cause4, bad_char, cause5, bad_entry, cause6}
 use Rattle.plan_rules.specs.Rules.{bad_parent, cause7, childless, cause8, bad_condition, cause9, not_below, not_rising}
-use Rattle.plan_rules.specs.Rules.{cause10, both_signs, cause11, post_of, no_post, cause12, is_child, bad_pair, bad_order}
+use Rattle.plan_rules.specs.Rules.{cause10, both_signs, cause11, post_of, no_post, cause12, is_child, bad_pair}
+use Rattle.plan_rules.specs.Rules.{bad_order}
 use Rattle.plan_rules.specs.Rules.{cause13, cause14, refusal}
 use Rattle.runs.specs.Searches.{any_below}
 use Rattle.base.proofs.Booleans.{or_split, and_both, not_passed}

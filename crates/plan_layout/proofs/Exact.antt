@@ -7,7 +7,8 @@ use native.Mathlib.Decide.{ℕ_discrete, dec_lt}
 use native.Mathlib.Omega.{arith}
 use lib.ListN.{get_or}
 use Rattle.base.specs.Bytes.{Bytes}
-use Rattle.plan_format.specs.Format.{u16_at, node_count, cond_count, order_count, flag_count, name_char, entry_at, parent_of}
+use Rattle.plan_format.specs.Format.{u16_at, node_count, cond_count, order_count, flag_count, name_char, entry_at}
+use Rattle.plan_format.specs.Format.{parent_of}
 use Rattle.plan_format.specs.Format.{kind_of, minutes_of, cond_node, cond_value, earlier_of, later_of}
 use Rattle.plan_layout.specs.declared.Sizes.{Sizes}
 use Rattle.plan_layout.specs.declared.Part.{Part}

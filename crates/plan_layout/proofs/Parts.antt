@@ -136,13 +136,16 @@ module _ (s : Sizes) where
   part_of i l =
       by_cases (dec_lt i 8) (λ (a : i < 8). rw (← at_size s i a) a)
       (λ a. by_cases (dec_lt i 16) (λ (b : i < 16). rw (← at_start s i (omega arith) b) (omega arith))
-      (λ b. by_cases (dec_lt i (entries_at s)) (λ (c : i < entries_at s). rw (← at_name s i (omega arith) c) (omega arith))
+      (λ b. by_cases (dec_lt i (entries_at s))
+      (λ (c : i < entries_at s). rw (← at_name s i (omega arith) c) (omega arith))
       (λ c. by_cases (dec_lt i (tasks_at s))
       (λ (d : i < tasks_at s). rw (← at_entry s i (omega arith) d) (entry_within (i - entries_at s) (omega arith)))
-      (λ d. by_cases (dec_lt i (values_at s)) (λ (e : i < values_at s). rw (← at_task s i (omega arith) e) (omega arith))
+      (λ d. by_cases (dec_lt i (values_at s))
+      (λ (e : i < values_at s). rw (← at_task s i (omega arith) e) (omega arith))
       (λ e. by_cases (dec_lt i (earlier_at s))
       (λ (f : i < earlier_at s). rw (← at_value s i (omega arith) f) (value_within (i - values_at s) (omega arith)))
-      (λ f. by_cases (dec_lt i (later_at s)) (λ (g : i < later_at s). rw (← at_earlier s i (omega arith) g) (omega arith))
+      (λ f. by_cases (dec_lt i (later_at s))
+      (λ (g : i < later_at s). rw (← at_earlier s i (omega arith) g) (omega arith))
       (λ g. rw (← at_later s i (omega arith)) (omega arith))))))))
 
 -- ---- the sizes

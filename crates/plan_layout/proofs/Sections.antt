@@ -7,7 +7,8 @@ use lib.ListN.{length, get_or, take, replicate, length-take, length-replicate}
 use lib.Seq.{get_or-take}
 use Rattle.base.specs.Answers.{overlay}
 use Rattle.base.proofs.Overlay.{length_overlay, at_overlay}
-use Rattle.plan_format.specs.Format.{u16_at, node_count, cond_count, order_count, flag_count, name_char, entry_at, parent_of}
+use Rattle.plan_format.specs.Format.{u16_at, node_count, cond_count, order_count, flag_count, name_char, entry_at}
+use Rattle.plan_format.specs.Format.{parent_of}
 use Rattle.plan_format.specs.Format.{kind_of, minutes_of, cond_node, cond_value, earlier_of, later_of}
 use Rattle.plan_layout.specs.declared.Part.{Part}
 use Rattle.plan_layout.specs.declared.Part.TheVariants.{Size, Start, Name}
@@ -182,4 +183,5 @@ laid_in f out l =
 
 -- and so the bytes by themselves
 pub laid_bytes_lem : (f : Fields) → Laid (laid_bytes f) f
-laid_bytes_lem f = let n = plan_length f.sizes in laid_in f (replicate n 0) (omega (arith, length-replicate {A = ℕ} n 0))
+laid_bytes_lem f = let n = plan_length f.sizes in
+    laid_in f (replicate n 0) (omega (arith, length-replicate {A = ℕ} n 0))

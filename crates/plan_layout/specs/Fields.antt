@@ -1,7 +1,8 @@
 -- The fields of a plan, and the bytes that 01 lays out from them. Definitions only.
 use Rattle.std.specs.Prelude.{ℕ, ◌+◌, ◌*◌, ◌/◌, ◌%◌, ◌<◌, ◌≡◌, List, length, get_or, take, replicate}
 use Rattle.base.specs.Answers.{overlay}
-use Rattle.plan_format.specs.Format.{node_count, cond_count, order_count, flag_count, name_char, parent_of, kind_of, minutes_of}
+use Rattle.plan_format.specs.Format.{node_count, cond_count, order_count, flag_count, name_char, parent_of, kind_of}
+use Rattle.plan_format.specs.Format.{minutes_of}
 use Rattle.plan_format.specs.Format.{cond_node, cond_value, earlier_of, later_of}
 use Rattle.plan_layout.specs.declared.Sizes.{Sizes}
 use Rattle.plan_layout.specs.declared.Part.{Part}
@@ -47,7 +48,8 @@ module _ (f : Fields) where
 
 -- the bytes of the plan, by themselves
 abbrev pub laid_bytes : Fields → List ℕ
-laid_bytes f = take (plan_length f.sizes) (overlay (byte_at f) (plan_length f.sizes) (replicate (plan_length f.sizes) 0))
+laid_bytes f =
+    take (plan_length f.sizes) (overlay (byte_at f) (plan_length f.sizes) (replicate (plan_length f.sizes) 0))
 
 -- the bytes b have the fields f, by the functions of a plan's bytes that all rules and meanings rest on
 pub record Laid (b : List ℕ) (f : Fields) : Type 0 where

@@ -103,7 +103,8 @@ module _ (b c : List ℕ) (ok : Mergeable b c) where
     }
 
 -- a part of the new root
-pub of_hull : (b c : List ℕ) {x : ℕ} (p q : Part) → p ≡ q → PastStart q → has_part hull_sizes p ≡ true → x ≡ byte_in hull q
+pub of_hull : (b c : List ℕ) {x : ℕ} (p q : Part) → p ≡ q → PastStart q → has_part hull_sizes p ≡ true
+    → x ≡ byte_in hull q
     → x ≡ byte_in (merged_fields b c) p
 of_hull b c p q e z h r = rw e (r ∙ sym (byte_first hull _ q z (rw e at h)))
 

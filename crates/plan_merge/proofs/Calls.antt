@@ -134,7 +134,8 @@ module _ (b c out : List ℕ) where
       at true u q v r w e = too_large pass (over_limit b c u) (sym e ∙ when_33 u)
       at false u true v r w e = starts_apart pass (not_over b c u) (differ b c v) (sym e ∙ when_34 u v)
       at false u false v true w e = too_short pass (not_over b c u) (not_differ b c v)
-          (longer b c (record { first_passes = x; second_passes = y; small = u; alike = v }) out (ltb-true (length out) _ w))
+          (longer b c (record { first_passes = x; second_passes = y; small = u; alike = v }) out
+          (ltb-true (length out) _ w))
           (sym e ∙ when_15 u v w)
       at false u false v false w e = absurd (omega (arith, e, when_none u v w))
 
@@ -190,7 +191,8 @@ module _ (b c out : List ℕ) where
   abbrev len : ℕ
   len = plan_length (merged_sizes b c)
 
-  pub merges : {a : ℕ ⊎ ℕ} {out' : List ℕ} → a ≡ merge_answer b c out → out' ≡ merge_left b c out → Merges b c out a out'
+  pub merges : {a : ℕ ⊎ ℕ} {out' : List ℕ} → a ≡ merge_answer b c out → out' ≡ merge_left b c out
+      → Merges b c out a out'
   unfolding merge_answer merge_left
   merges p q = rw (p, q) (at (merge_refusal b c out) refl)
     where

@@ -5,7 +5,8 @@ use Prim.Native.Nat.{ℕ, ◌+◌}
 use native.Mathlib.Omega.{arith}
 use lib.ListN.{length, length-append}
 use Rattle.base.proofs.Each.{each_long}
-use Rattle.plan_format.specs.Format.{node_count, cond_count, order_count, whole_length, cond_node, cond_value, earlier_of}
+use Rattle.plan_format.specs.Format.{node_count, cond_count, order_count, whole_length, cond_node, cond_value}
+use Rattle.plan_format.specs.Format.{earlier_of}
 use Rattle.plan_format.specs.Format.{later_of}
 use Rattle.plan_check.proofs.Accepted.{clean}
 use Rattle.plan_layout.specs.Layout.{plan_length}

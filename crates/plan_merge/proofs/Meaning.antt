@@ -139,7 +139,8 @@ module _ (b c : List ℕ) (ok : Mergeable b c) (m : List ℕ) (l : Laid m (merge
         (whole_first b c ok).limits.flags,
       ) in
       rw q (((means m accepts).condition p (t + 1) f v s).1
-      (pair_out m _ l b 1 0 0 (contains_first b c) (omega arith) t _ (((means b ok.first_passes).condition p t f v s).0 e)))
+      (pair_out m _ l b 1 0 0 (contains_first b c) (omega arith) t _
+      (((means b ok.first_passes).condition p t f v s).0 e)))
   condition_out p x f v (inr (t, q, e)) =
       let s : f < 64 = omega (
         arith,

@@ -12,7 +12,8 @@ use Rattle.base.specs.Bytes.{Bytes}
 use Rattle.base.specs.Each.{each}
 use Rattle.base.proofs.Booleans.{not_passed}
 use Rattle.base.proofs.Each.{each_long, each_at}
-use Rattle.plan_format.specs.Format.{node_count, cond_count, order_count, flag_count, start_flag, name_char, name_of, cond_node}
+use Rattle.plan_format.specs.Format.{node_count, cond_count, order_count, flag_count, start_flag, name_char, name_of}
+use Rattle.plan_format.specs.Format.{cond_node}
 use Rattle.plan_format.specs.Format.{cond_value, earlier_of, later_of}
 use Rattle.plan_format.specs.Pieces.{NodeIs}
 use Rattle.plan_check.proofs.Accepted.{clean, start_below}
@@ -135,7 +136,8 @@ module _ (b c m : List ℕ) (h : IsMerged b c m) where
           ∙ rw (w.earlier x x (omega arith) n, w.later x x (omega arith) n)
       at (second_half j e n) = let w = contains_second b c in
           late (λ j. (earlier_of b j + 1, later_of b j + 1)) (order_count b) _ x j e
-          ∙ one_of (λ j. (earlier_of c j + (1 + node_count b), later_of c j + (1 + node_count b))) (order_count c) [] j n
+          ∙ one_of (λ j. (earlier_of c j + (1 + node_count b), later_of c j + (1 + node_count b))) (order_count c) []
+          j n
           ∙ rw (w.earlier x j e n, w.later x j e n)
 
   -- ---- all but the bytes of the start flags, which x has
@@ -182,7 +184,8 @@ same_starts b c m n h k f l =
     by_cases (dec_lt f (flag_count b)) (λ (x : f < flag_count b). h.starts_first f x ∙ sym (k.starts_first f x))
     (λ x. by_cases (dec_lt f (flag_count c))
     (λ (y : f < flag_count c). h.starts_second f y ∙ sym (k.starts_second f y))
-    (λ y. clear_past b c m h f l (omega arith) (omega arith) ∙ sym (clear_past b c n k f l (omega arith) (omega arith))))
+    (λ y. clear_past b c m h f l (omega arith) (omega arith)
+    ∙ sym (clear_past b c n k f l (omega arith) (omega arith))))
 
 pub merged_only : (b c m n : List ℕ) → Bytes m → Bytes n → IsMerged b c m → IsMerged b c n → m ≡ n
 merged_only b c m n x y h k =

@@ -142,18 +142,21 @@ module _ (x y : ℕ) (s t : Sizes) (g : Gridded s) (h : Gridded t) where
   unfolding refused33 too_large_plan
   large_is = ap (λ (z : Sizes). (ltb 128 z.nodes || ltb 1024 z.conditions) || ltb 512 z.orders) sizes_are
 
-  refuses_33 : too_large_plan (sizes_together s t) ≡ true → {out out' : List ℕ} {a : ℕ ⊎ ℕ} → Merges b c out a out' → a ≡ inl 33
+  refuses_33 : too_large_plan (sizes_together s t) ≡ true → {out out' : List ℕ} {a : ℕ ⊎ ℕ} → Merges b c out a out'
+      → a ≡ inl 33
   unfolding merge_answer merge_refusal pair_refusal
   refuses_33 e m = m.returns ∙ rw (grid_accepted x s g, grid_accepted y t h, large_is, e)
 
   starts_alike : x ≡ y → refused34 b c ≡ false
   unfolding refused34
-  starts_alike e = none_all (min (flag_count b) (flag_count c)) (λ f. not (beq (start_flag b f) (start_flag c f))) (λ f l.
+  starts_alike e =
+      none_all (min (flag_count b) (flag_count c)) (λ f. not (beq (start_flag b f) (start_flag c f))) (λ f l.
       let n : f < 64 = omega (arith, (grid_laid x s g).flags, g.flags) in
       rw (grid_start x s g f n, grid_start y t h f n, e) (beq_self (eqb (y / 2 ^ (f % 8) % 2) 1)))
 
   passes : x ≡ y → too_large_plan (sizes_together s t) ≡ false → {out out' : List ℕ} {a : ℕ ⊎ ℕ} → Merges b c out a out'
-      → a ≡ refused_or (cond (ltb (length out) (plan_length (sizes_together s t))) 15 0) (plan_length (sizes_together s t))
+      → a ≡ refused_or (cond (ltb (length out) (plan_length (sizes_together s t))) 15 0)
+      (plan_length (sizes_together s t))
   unfolding merge_answer merge_refusal pair_refusal
   passes q e {out} m = m.returns
       ∙ rw (grid_accepted x s g, grid_accepted y t h, large_is, e, starts_alike q)

@@ -12,7 +12,8 @@ use Rattle.base.specs.Each.{each}
 use Rattle.base.proofs.Booleans.{beq_same}
 use Rattle.base.proofs.Each.{each_moved, each_append}
 use Rattle.runs.proofs.Searches.{none_at}
-use Rattle.plan_format.specs.Format.{node_count, cond_count, order_count, flag_count, start_flag, name_char, name_of, parent_of}
+use Rattle.plan_format.specs.Format.{node_count, cond_count, order_count, flag_count, start_flag, name_char, name_of}
+use Rattle.plan_format.specs.Format.{parent_of}
 use Rattle.plan_format.specs.Format.{cond_node, cond_value, earlier_of, later_of}
 use Rattle.plan_format.specs.Pieces.{NodeIs, condition_pairs, order_pairs}
 use Rattle.plan_rules.specs.Rules.{refusal}
@@ -69,7 +70,8 @@ module _ (m : List ℕ) (f : Fields) (l : Laid m f) (d : List ℕ) (s c k : ℕ)
   pub orders_from : k + order_count d ≤ f.sizes.orders
       → each (λ j. (earlier_of m j, later_of m j) ∷ []) k (order_count d) ≡ shifted_orders s d
   orders_from w = each_moved (λ j. (earlier_of m j, later_of m j) ∷ [])
-      (λ j. (earlier_of d j + s, later_of d j + s) ∷ []) k 0 (order_count d) (λ j n. let e : 0 + j ≡ j = omega arith in rw (
+      (λ j. (earlier_of d j + s, later_of d j + s) ∷ []) k 0 (order_count d)
+      (λ j n. let e : 0 + j ≡ j = omega arith in rw (
         e,
         l.earlier (k + j) (omega arith) ∙ h.earlier (k + j) j (omega arith) n,
         l.later (k + j) (omega arith) ∙ h.later (k + j) j (omega arith) n,
@@ -93,8 +95,12 @@ module _ (b c : List ℕ) (ok : Mergeable b c) (m : List ℕ) (l : Laid m (merge
   root_is : NodeIs m 0 hull_name 255 1 0
   unfolding name_of
   root_is = record {
-    its_name = rw
-        (root_char_lem 0 (omega arith), root_char_lem 1 (omega arith), root_char_lem 2 (omega arith), root_char_lem 3 (omega arith));
+    its_name = rw (
+      root_char_lem 0 (omega arith),
+      root_char_lem 1 (omega arith),
+      root_char_lem 2 (omega arith),
+      root_char_lem 3 (omega arith),
+    );
     its_parent = l.parent 0 (omega arith) ∙ hull_parent b c;
     its_kind = l.kind 0 (omega arith) ∙ hull_kind b c;
     its_minutes = l.minutes 0 (omega arith) ∙ hull_minutes b c;

@@ -20,8 +20,10 @@ use Rattle.plan_merge.specs.Sentences.{hull_name}
 use Rattle.plan_merge.specs.Model.{merged_sizes, merged_fields}
 use Rattle.plan_merge.proofs.Fields.{Contains, contains_first, contains_second, start_of, hull_kind, hull_parent}
 use Rattle.plan_merge.proofs.Fields.{hull_minutes, hull_name_lem}
-use Rattle.plan_merge.proofs.Contained.{kind_contained, minutes_contained, none_contained, parent_contained, child_contained}
-use Rattle.plan_merge.proofs.Contained.{task_contained, value_contained, rising_contained, sign_contained, post_contained}
+use Rattle.plan_merge.proofs.Contained.{kind_contained, minutes_contained, none_contained, parent_contained}
+use Rattle.plan_merge.proofs.Contained.{child_contained}
+use Rattle.plan_merge.proofs.Contained.{task_contained, value_contained, rising_contained, sign_contained}
+use Rattle.plan_merge.proofs.Contained.{post_contained}
 use Rattle.plan_merge.proofs.Contained.{siblings_contained, orders_contained}
 
 -- one of n things, or thing j of those after them
@@ -30,7 +32,8 @@ pub data Half (n t x : ℕ) : Type 0 where
   second_half : (j : ℕ) → x ≡ j + n → j < t → Half n t x
 
 pub half_of : (n t x : ℕ) → x < n + t → Half n t x
-half_of n t x l = by_cases (dec_lt x n) (λ (k : x < n). first_half k) (λ k. second_half (x - n) (omega arith) (omega arith))
+half_of n t x l =
+    by_cases (dec_lt x n) (λ (k : x < n). first_half k) (λ k. second_half (x - n) (omega arith) (omega arith))
 
 -- the new root, a node of the first plan, or one of the second
 pub data NodeSource (n t x : ℕ) : Type 0 where
@@ -92,7 +95,8 @@ module _ (b c : List ℕ) (v : Valid (fields_of b)) (w : Valid (fields_of c)) (s
   none_good x (of_first i e l) z = none_contained one v (omega arith) (hull_kind b c) x i e l z
   none_good x (of_second i e l) z = none_contained two w (omega arith) (hull_kind b c) x i e l z
 
-  parent_good : (x : ℕ) → 0 < x → NodeSource (node_count b) (node_count c) x → (m.parent x < x) × (m.kind (m.parent x) ≢ 0)
+  parent_good : (x : ℕ) → 0 < x → NodeSource (node_count b) (node_count c) x
+      → (m.parent x < x) × (m.kind (m.parent x) ≢ 0)
   parent_good x z (new_root e) = absurd (omega arith)
   parent_good x z (of_first i e l) = parent_contained one v (omega arith) (hull_kind b c) x i e l
   parent_good x z (of_second i e l) = parent_contained two w (omega arith) (hull_kind b c) x i e l
@@ -110,29 +114,34 @@ module _ (b c : List ℕ) (v : Valid (fields_of b)) (w : Valid (fields_of c)) (s
   task_good x (first_half l) =
       let (a, d, e) = task_contained one v (omega arith) (hull_kind b c) x x (omega arith) l in
       (omega arith, e)
-  task_good x (second_half j q l) = let (a, d, e) = task_contained two w (omega arith) (hull_kind b c) x j q l in (omega arith, e)
+  task_good x (second_half j q l) = let (a, d, e) = task_contained two w (omega arith) (hull_kind b c) x j q l in
+      (omega arith, e)
 
   value_good : (x : ℕ) → Half (cond_count b) (cond_count c) x
       → (m.value x ≤ 383) × (flag_of (m.value x) < (merged_sizes b c).flags)
   value_good x (first_half l) =
       let (a, d) = value_contained one v (omega arith) (hull_kind b c) x x (omega arith) l in
       (a, omega arith)
-  value_good x (second_half j q l) = let (a, d) = value_contained two w (omega arith) (hull_kind b c) x j q l in (a, omega arith)
+  value_good x (second_half j q l) = let (a, d) = value_contained two w (omega arith) (hull_kind b c) x j q l in
+      (a, omega arith)
 
   rising_good : (x : ℕ) → Half (cond_count b) (cond_count c) x → Half (cond_count b) (cond_count c) (suc x)
       → Below (m.task x) (m.value x) (m.task (suc x)) (m.value (suc x))
-  rising_good x (first_half l) (first_half n) = rising_contained one v (omega arith) (hull_kind b c) x x (omega arith) l n
+  rising_good x (first_half l) (first_half n) =
+      rising_contained one v (omega arith) (hull_kind b c) x x (omega arith) l n
   rising_good x (first_half l) (second_half j q n) =
       let (a, d, e) = task_contained one v (omega arith) (hull_kind b c) x x (omega arith) l in
       let (f, g, h) = task_contained two w (omega arith) (hull_kind b c) (suc x) j q n in
       inl (omega arith)
   rising_good x (second_half j q n) (first_half l) = absurd (omega arith)
-  rising_good x (second_half j q n) (second_half i r l) = rising_contained two w (omega arith) (hull_kind b c) x j q n (omega arith)
+  rising_good x (second_half j q n) (second_half i r l) =
+      rising_contained two w (omega arith) (hull_kind b c) x j q n (omega arith)
 
   sign_good : (x y : ℕ) → Half (cond_count b) (cond_count c) x → Half (cond_count b) (cond_count c) y
       → m.task y ≡ m.task x → place_of (m.value y) ≡ place_of (m.value x) → flag_of (m.value y) ≡ flag_of (m.value x)
       → sign_of (m.value y) ≡ sign_of (m.value x)
-  sign_good x y (first_half l) (first_half n) = sign_contained one v (omega arith) (hull_kind b c) x x (omega arith) l y y
+  sign_good x y (first_half l) (first_half n) =
+      sign_contained one v (omega arith) (hull_kind b c) x x (omega arith) l y y
       (omega arith) n
   sign_good x y (first_half l) (second_half j q n) = λ t p g.
       let (a, d, e) = task_contained one v (omega arith) (hull_kind b c) x x (omega arith) l in
@@ -142,14 +151,17 @@ module _ (b c : List ℕ) (v : Valid (fields_of b)) (w : Valid (fields_of c)) (s
       let (a, d, e) = task_contained one v (omega arith) (hull_kind b c) y y (omega arith) l in
       let (f, z, h) = task_contained two w (omega arith) (hull_kind b c) x j q n in
       absurd (omega arith)
-  sign_good x y (second_half i r l) (second_half j q n) = sign_contained two w (omega arith) (hull_kind b c) x i r l y j q n
+  sign_good x y (second_half i r l) (second_half j q n) =
+      sign_contained two w (omega arith) (hull_kind b c) x i r l y j q n
 
   post_good : (x : ℕ) → Half (cond_count b) (cond_count c) x → place_of (m.value x) ≡ 1
       → (j : ℕ) × (j < (merged_sizes b c).conditions) × (m.task j ≡ m.task x)
       × (flag_of (m.value j) ≡ flag_of (m.value x)) × (place_of (m.value j) ≡ 2)
-  post_good x (first_half l) p = let (j, n, t, g, z) = post_contained one v (omega arith) (hull_kind b c) x x (omega arith) l p in
+  post_good x (first_half l) p =
+      let (j, n, t, g, z) = post_contained one v (omega arith) (hull_kind b c) x x (omega arith) l p in
       (j + 0, omega arith, t, g, z)
-  post_good x (second_half i q l) p = let (j, n, t, g, z) = post_contained two w (omega arith) (hull_kind b c) x i q l p in
+  post_good x (second_half i q l) p =
+      let (j, n, t, g, z) = post_contained two w (omega arith) (hull_kind b c) x i q l p in
       (j + cond_count b, omega arith, t, g, z)
 
   sibling_good : (x : ℕ) → Half (order_count b) (order_count c) x
@@ -158,18 +170,21 @@ module _ (b c : List ℕ) (v : Valid (fields_of b)) (w : Valid (fields_of c)) (s
   sibling_good x (first_half l) =
       let (z, a, d, e, k) = siblings_contained one v (omega arith) (hull_kind b c) x x (omega arith) l in
       (omega arith, a, omega arith, e, k)
-  sibling_good x (second_half j q l) = let (z, a, d, e, k) = siblings_contained two w (omega arith) (hull_kind b c) x j q l in
+  sibling_good x (second_half j q l) =
+      let (z, a, d, e, k) = siblings_contained two w (omega arith) (hull_kind b c) x j q l in
       (omega arith, a, omega arith, e, k)
 
   orders_good : (x : ℕ) → Half (order_count b) (order_count c) x → Half (order_count b) (order_count c) (suc x)
       → Below (m.earlier x) (m.later x) (m.earlier (suc x)) (m.later (suc x))
-  orders_good x (first_half l) (first_half n) = orders_contained one v (omega arith) (hull_kind b c) x x (omega arith) l n
+  orders_good x (first_half l) (first_half n) =
+      orders_contained one v (omega arith) (hull_kind b c) x x (omega arith) l n
   orders_good x (first_half l) (second_half j q n) =
       let (z, a, d, e, k) = siblings_contained one v (omega arith) (hull_kind b c) x x (omega arith) l in
       let (f, g, h, i, r) = siblings_contained two w (omega arith) (hull_kind b c) (suc x) j q n in
       inl (omega arith)
   orders_good x (second_half j q n) (first_half l) = absurd (omega arith)
-  orders_good x (second_half j q n) (second_half i r l) = orders_contained two w (omega arith) (hull_kind b c) x j q n (omega arith)
+  orders_good x (second_half j q n) (second_half i r l) =
+      orders_contained two w (omega arith) (hull_kind b c) x j q n (omega arith)
 
   pub merged_valid : Valid (merged_fields b c)
   merged_valid = record {

@@ -1,7 +1,8 @@
 -- Two plans merged under a new root, in 02's words (112: "Pooling two books"). Definitions only.
 use Rattle.std.specs.Prelude.{◌≡◌, List, [], ◌∷◌, ◌++◌, ℕ, zero, suc, ◌+◌, ◌<◌, max}
 use Rattle.base.specs.Each.{each}
-use Rattle.plan_format.specs.Format.{node_count, cond_count, order_count, flag_count, start_flag, name_of, parent_of, kind_of}
+use Rattle.plan_format.specs.Format.{node_count, cond_count, order_count, flag_count, start_flag, name_of, parent_of}
+use Rattle.plan_format.specs.Format.{kind_of}
 use Rattle.plan_format.specs.Format.{minutes_of, cond_node, cond_value, earlier_of, later_of}
 use Rattle.plan_format.specs.Pieces.{NodeIs, condition_pairs, order_pairs}
 use Rattle.plan_rules.specs.Rules.{refusal}

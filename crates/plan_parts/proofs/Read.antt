@@ -11,7 +11,8 @@ use lib.Dec.{ltb, leb}
 use borrow.Author.Tests.{eq-eqb, ltb-false, leb-false, not-false}
 use Rattle.plan_codes.specs.Names.{name_allowed}
 use Rattle.plan_codes.specs.Values.{flag_of, sign_of, place_of, value_bad}
-use Rattle.plan_format.specs.Format.{node_count, cond_count, order_count, flag_count, start_flag, name_char, parent_of, kind_of}
+use Rattle.plan_format.specs.Format.{node_count, cond_count, order_count, flag_count, start_flag, name_char, parent_of}
+use Rattle.plan_format.specs.Format.{kind_of}
 use Rattle.plan_format.specs.Format.{minutes_of, cond_node, cond_value, earlier_of, later_of, is_kind, is_group}
 use Rattle.plan_format.specs.Whole.{Whole}
 use Rattle.plan_rules.specs.Rules.{refusal, bad_char, cause5, bad_entry, cause6, cause10, both_signs, cause11, post_of}
@@ -22,7 +23,8 @@ use Rattle.runs.proofs.Searches.{none_at, found_at}
 use Rattle.plan_rules.proofs.Causes.{root_parent, parent_group, condition_fits, both_signs_of, post_of_lem}
 use Rattle.plan_rules.proofs.Rising.{Below, rising}
 use Rattle.plan_check.proofs.Accepted.{Clean, clean, start_below}
-use Rattle.plan_check.proofs.Meaning.{kind_group, kind_is, kind_of_lem, group_is, group_of, kind_limit, child_of, child_is}
+use Rattle.plan_check.proofs.Meaning.{kind_group, kind_is, kind_of_lem, group_is, group_of, kind_limit, child_of}
+use Rattle.plan_check.proofs.Meaning.{child_is}
 use Rattle.plan_check.proofs.Meaning.{siblings}
 use Rattle.plan_layout.specs.Layout.{Limited}
 use Rattle.plan_layout.proofs.Valid.{Valid}
@@ -116,7 +118,8 @@ module _ (b : List ℕ) (acc : refusal b ≡ 0) where
       (λ z. absurd (no_both j i m l (sym e) (sym p) (sym q) (omega arith) (omega arith))))
 
   post_there : (i : ℕ) → i < cond_count b → place_of (cond_value b i) ≡ 1
-      → (j : ℕ) × (j < cond_count b) × (cond_node b j ≡ cond_node b i) × (flag_of (cond_value b j) ≡ flag_of (cond_value b i))
+      → (j : ℕ) × (j < cond_count b) × (cond_node b j ≡ cond_node b i)
+      × (flag_of (cond_value b j) ≡ flag_of (cond_value b i))
       × (place_of (cond_value b j) ≡ 2)
   unfolding cause12 no_post
   post_there i l e =

@@ -1,6 +1,7 @@
 -- The fields of a plan, read from its bytes. Definitions only.
 use Rattle.std.specs.Prelude.{List, ℕ, ◌+◌, get_or}
-use Rattle.plan_format.specs.Format.{node_count, cond_count, order_count, flag_count, name_char, parent_of, kind_of, minutes_of}
+use Rattle.plan_format.specs.Format.{node_count, cond_count, order_count, flag_count, name_char, parent_of, kind_of}
+use Rattle.plan_format.specs.Format.{minutes_of}
 use Rattle.plan_format.specs.Format.{cond_node, cond_value, earlier_of, later_of}
 use Rattle.plan_layout.specs.declared.Sizes.{Sizes}
 use Rattle.plan_layout.specs.Fields.{Fields}

@@ -17,7 +17,8 @@ use Rattle.plan_merge.proofs.Bytes.{limited}
 use Rattle.plan_merge.proofs.Calls.{limits_test, merges_first, merges_second, merges_33, merges_34, merges_15}
 use Rattle.plan_merge.proofs.Calls.{merges_plan}
 use Rattle.plan_merge.proofs.merge.Goals as goal
-use Rattle.plan_merge.proofs.merge.Goals.{Else-one-ne0, Else-other-ne0, After-joined_sizes-sizes, Else-sizes, Else-starts_apart}
+use Rattle.plan_merge.proofs.merge.Goals.{Else-one-ne0, Else-other-ne0, After-joined_sizes-sizes, Else-sizes}
+use Rattle.plan_merge.proofs.merge.Goals.{Else-starts_apart}
 
 -- the sizes, joined one after another
 joined : (b c : List ℕ) {h x y j s : Sizes} → h ≡ hull_sizes → x ≡ sizes_of b → y ≡ sizes_of c → j ≡ joined_sizes x y
@@ -56,8 +57,16 @@ joined_sizes-requires c =
     let x = (clean _ (one_passed g.Else-one-ne0)).fits.limits in
     let y = (clean _ (other_passed g.Else-other-ne0)).fits.limits in
     rw (c.sizes_of.ensures, c.sizes_of-2.ensures) (
-      record { nodes = omega (arith, x.nodes); conditions = omega (arith, x.conditions); orders = omega (arith, x.orders) },
-      record { nodes = omega (arith, y.nodes); conditions = omega (arith, y.conditions); orders = omega (arith, y.orders) },
+      record {
+        nodes = omega (arith, x.nodes);
+        conditions = omega (arith, x.conditions);
+        orders = omega (arith, x.orders);
+      },
+      record {
+        nodes = omega (arith, y.nodes);
+        conditions = omega (arith, y.conditions);
+        orders = omega (arith, y.orders);
+      },
     )
 
 pub joined_sizes-sizes-requires : goal.joined_sizes-sizes-requires
