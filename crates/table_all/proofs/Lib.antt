@@ -6,11 +6,3 @@ pub mod NodeKinds
 pub mod Drawn
 pub mod Stores
 pub mod Standing
--- The walk of `fill_items`: its states, of which the last has the first n items (`last_state`); the tables lent on,
--- which come back at their last values (`comes_home`); what `next` and `put_item` ask (`goes`, `puts`); what the call
--- gives back (`exits`).
-pub mod States
-pub mod Loans
-pub mod Reading
-pub mod Putting
-pub mod Call
