@@ -81,7 +81,8 @@ module _ {b c c' : List ℕ} {i x v : ℕ} (ex : x ≡ cond_node b i) (ev : v �
       → Says (get_or c' (t * 6 + w) 0) f (Occurs b (i + 1) t (f + 64 * w))
   there t w f l m k n =
       let g : get_or c' (t * 6 + w) 0 ≡ get_or c (t * 6 + w) 0 =
-      rw e (get_or-set_other c (x * 6 + v / 64) (t * 6 + w) (bit_or (get_or c (x * 6 + v / 64) 0) (2 ^ (v % 64))) 0 n) in
+      rw e
+      (get_or-set_other c (x * 6 + v / 64) (t * 6 + w) (bit_or (get_or c (x * 6 + v / 64) 0) (2 ^ (v % 64))) 0 n) in
       says_eq g
       (says_map {B = Occurs b (i + 1) t (f + 64 * w)} (
         λ a. (occurs_more b i t (f + 64 * w)).0 (inl a),
@@ -105,7 +106,8 @@ word_value : (k : Place) (v : Bool) (f : ℕ)
     → f + 64 * (2 * place_number k + sign_number v) ≡ value_of f (sign_number v) (place_number k)
 word_value k v f = omega arith
 
-pub noted_all : {b conds : List ℕ} → refusal b ≡ 0 → Noted b conds (cond_count b) → RepresentsConditions conds (plan_of b)
+pub noted_all : {b conds : List ℕ} → refusal b ≡ 0 → Noted b conds (cond_count b)
+    → RepresentsConditions conds (plan_of b)
 noted_all {b} r h =
     let a = means b r in
     record {
