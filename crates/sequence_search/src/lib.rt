@@ -18,7 +18,7 @@ pub type Masks = [u64; CHILDREN];
 
 // Where a search has come to: how many children are left, the places of those that are seen, and the flags that may be
 // set and may be clear after them.
-#[derive(Drop)]
+#[derive(Clone, Copy)]
 pub struct Reach {
     pub left: usize,
     pub seen: u64,
@@ -27,7 +27,7 @@ pub struct Reach {
 }
 
 // What a search comes to: the rest of a sequence, its first node in the lowest byte.
-#[derive(Drop)]
+#[derive(Clone, Copy)]
 pub struct Ending {
     pub found: bool,
     pub word: u64,

@@ -7,11 +7,13 @@ use borrow.Author.Rules.{rules}
 use Rattle.marks_words.proofs.mark_word.Goals as goal
 
 pub returns-then-mark-eq-MUST_PRE : goal.returns-then-mark-eq-MUST_PRE
-returns-then-mark-eq-MUST_PRE c = λ p w n r v m e f l. rw (mark_from m (sym (mark_is v m e) ∙ c.if-mark-eq-MUST_PRE.true))
+returns-then-mark-eq-MUST_PRE c = λ p w n r v m e f l.
+    rw (mark_from m (sym (mark_is v m e) ∙ c.if-mark-eq-MUST_PRE.true))
     (c.must_pre.ensures p w n r v (sign_is v m e) f l)
 
 pub returns-then-mark-eq-MUST_POST : goal.returns-then-mark-eq-MUST_POST
-returns-then-mark-eq-MUST_POST c = λ p w n r v m e f l. rw (mark_from m (sym (mark_is v m e) ∙ c.if-mark-eq-MUST_POST.true))
+returns-then-mark-eq-MUST_POST c = λ p w n r v m e f l.
+    rw (mark_from m (sym (mark_is v m e) ∙ c.if-mark-eq-MUST_POST.true))
     (c.must_post.ensures p w r v (sign_is v m e) f l)
 
 pub overflow_add-column : goal.overflow_add-column

@@ -1,0 +1,6 @@
+-- `moved_on` meets its contract. Assumes nothing.
+use Rattle.sequence_search.proofs.moved_on.Goals as goal
+
+pub returns : goal.returns
+returns c =
+    rw (c.word_at-avoid.ensures, c.word_at.ensures, c.word_at-2.ensures)
