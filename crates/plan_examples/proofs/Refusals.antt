@@ -9,12 +9,14 @@ use lib.Dec.{eqb}
 use Rattle.plan_codes.specs.Names.{name_allowed}
 use Rattle.plan_codes.specs.Values.{flag_of, sign_of, place_of, value_bad}
 use Rattle.plan_format.specs.Format.{u16_at, node_count, cond_count, order_count, flag_count, whole_length, start_flag}
-use Rattle.plan_format.specs.Format.{name_char, entry_at, parent_of, kind_of, minutes_of, cond_node, cond_value, earlier_of}
+use Rattle.plan_format.specs.Format.{name_char, entry_at, parent_of, kind_of, minutes_of, cond_node, cond_value}
+use Rattle.plan_format.specs.Format.{earlier_of}
 use Rattle.plan_format.specs.Format.{later_of, is_kind, is_group}
 use Rattle.runs.specs.Searches.{any_below, either}
 use Rattle.plan_rules.specs.Rules.{cause1, cause2, cause3, bad_start, cause4, bad_char, cause5, bad_entry, cause6}
 use Rattle.plan_rules.specs.Rules.{bad_parent, cause7, childless, cause8, bad_condition, cause9, not_below, not_rising}
-use Rattle.plan_rules.specs.Rules.{cause10, both_signs, cause11, post_of, no_post, cause12, is_child, bad_pair, bad_order}
+use Rattle.plan_rules.specs.Rules.{cause10, both_signs, cause11, post_of, no_post, cause12, is_child, bad_pair}
+use Rattle.plan_rules.specs.Rules.{bad_order}
 use Rattle.plan_rules.specs.Rules.{cause13, cause14, refusal}
 use Rattle.plan_examples.specs.Plans.{plan_b, sized, tasks, flat, falling_names, equal_names, last_characters}
 use Rattle.plan_examples.specs.Plans.{first_characters}
@@ -77,9 +79,9 @@ right (r ∷ rs) = eqb (refusal r.bytes) r.expected && right rs
 
 pub examples : right rows ≡ true
 unfolding plan_b bare sized tasks flat wide falling_names equal_names last_characters first_characters row rows right
-    name_allowed flag_of sign_of place_of value_bad u16_at node_count cond_count order_count flag_count whole_length start_flag
-    name_char entry_at parent_of kind_of minutes_of cond_node cond_value earlier_of later_of is_kind is_group any_below either
-    cause1 cause2 cause3 bad_start cause4 bad_char cause5 bad_entry cause6 bad_parent cause7 childless cause8 bad_condition
-    cause9 not_below not_rising cause10 both_signs cause11 post_of no_post cause12 is_child bad_pair bad_order cause13 cause14
-    refusal
+    name_allowed flag_of sign_of place_of value_bad u16_at node_count cond_count order_count flag_count whole_length
+    start_flag name_char entry_at parent_of kind_of minutes_of cond_node cond_value earlier_of later_of is_kind is_group
+    any_below either cause1 cause2 cause3 bad_start cause4 bad_char cause5 bad_entry cause6 bad_parent cause7 childless
+    cause8 bad_condition cause9 not_below not_rising cause10 both_signs cause11 post_of no_post cause12 is_child
+    bad_pair bad_order cause13 cause14 refusal
 examples = refl

@@ -68,7 +68,8 @@ module _ (b : List ℕ) (wait : ℕ → ℕ) where
 
   -- the first i lines
   pub lines_next : (xs : List ℕ) (i : ℕ) → i < length xs
-      → lines_of b wait (take (suc i) xs) ≡ lines_of b wait (take i xs) ++ line_of b (get_or xs i 0) (wait (get_or xs i 0))
+      → lines_of b wait (take (suc i) xs)
+      ≡ lines_of b wait (take i xs) ++ line_of b (get_or xs i 0) (wait (get_or xs i 0))
   lines_next xs i l = ap (lines_of b wait) (take-suc xs i 0 l) ∙ lines_more (take i xs) (get_or xs i 0)
 
 pub ending_is : (n : ℕ) → ((32 ∷ []) ++ decimal n) ++ (10 ∷ []) ≡ ending n
@@ -162,8 +163,8 @@ module _ {b : List ℕ} (ok : Clean b) where
       )
 
   pub lines_turn : {out out' out'' : List ℕ} {at a a' i t w : ℕ} → i < length (ranking b) → t < node_count b
-      → t ≡ get_or (ranking b) i 0 → w ≡ longest_wait b t → Wrote out' a (line_of b t w) a' out'' → LinesTo b out out' at a i
-      → LinesTo b out out'' at a' (i + 1)
+      → t ≡ get_or (ranking b) i 0 → w ≡ longest_wait b t → Wrote out' a (line_of b t w) a' out''
+      → LinesTo b out out' at a i → LinesTo b out out'' at a' (i + 1)
   lines_turn {i = i} {t} l m e q x h =
       let lines = lines_of b (longest_wait b) (take i (ranking b)) in
       rw add-one (record {

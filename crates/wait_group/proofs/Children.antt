@@ -57,8 +57,9 @@ module _ {b from kids : List ℕ} {test : Bool} {g : ℕ} (o : GroupOf b from ki
     greatest_all {f} {v} h =
         let up = h.least (greatest (node_count b) (is_child b g) f) (record {
           each = λ j l m.
+              let c = get_or kids j 0 in
               let e = child_at_lem refl (record { low = l; high = m }) in
-              greatest_le (is_child b g) f (node_count b) (get_or kids j 0) (child_lower b ok g (get_or kids j 0) e).1 e;
+              greatest_le (is_child b g) f (node_count b) c (child_lower b ok g c e).1 e;
         }) in
         let low = greatest_least (is_child b g) f (node_count b) v
         (λ c l e. every_listed o.tree o.node here h.bound c e) in
@@ -74,7 +75,8 @@ any_all {b} {g = g} o here h = greatest_all o here h ∙ sym (length_any b (ok o
 -- a child's wait stands in the table, and what waits for it by an order waits long enough
 pub record ChildDone (b waits : List ℕ) (c : ℕ) : Type 0 where
   pub wait : get_or waits c 0 ≡ wait_within b c
-  pub met : (j : ℕ) → j < order_count b → earlier_of b j ≡ c → wait_within b c + length_of b c ≤ get_or waits (later_of b j) 0
+  pub met : (j : ℕ) → j < order_count b → earlier_of b j ≡ c
+      → wait_within b c + length_of b c ≤ get_or waits (later_of b j) 0
 
 pub record SpreadTo (b kids : List ℕ) (segment : Segment) (lengths waits₀ waits : List ℕ) (i v : ℕ) : Type 0 where
   pub tables : Tables b lengths waits
@@ -132,7 +134,8 @@ module _ {b from kids lengths waits₀ : List ℕ} {g : ℕ} {segment : Segment}
             let y = order_waits b (ok o) j k in
             omega (arith, ap (λ (u : ℕ). wait_within b u + length_of b u) z, ap (wait_within b) w))
 
-        kept : (d : ℕ) → is_child b g d ≡ true → get_or waits d 0 ≡ wait_within b d → get_or waits' d 0 ≡ wait_within b d
+        kept : (d : ℕ) → is_child b g d ≡ true → get_or waits d 0 ≡ wait_within b d
+            → get_or waits' d 0 ≡ wait_within b d
         kept d h z = let up = within d (child_lower b (ok o) g d h).1 in let low = r.grown d in omega arith
 
         still : (j : ℕ) → segment.start ≤ j → j < i → ChildDone b waits (get_or kids j 0)
@@ -144,7 +147,10 @@ module _ {b from kids lengths waits₀ : List ℕ} {g : ℕ} {segment : Segment}
         }
 
         own : ChildDone b waits' c
-        own = record { wait = kept c (child_at_lem o here e p) spread_wait; met = λ j l w. omega (arith, r.reached j l w) }
+        own = record {
+          wait = kept c (child_at_lem o here e p) spread_wait;
+          met = λ j l w. omega (arith, r.reached j l w);
+        }
 
   pub spread_all : {waits : List ℕ} {v : ℕ} → SpreadTo b kids segment lengths waits₀ waits segment.end v
       → Spread b lengths waits₀ waits g v

@@ -62,8 +62,8 @@ pub record RaisedTo (b waits waits' : List ℕ) (c v j : ℕ) : Type 0 where
   pub long : length waits' ≡ 128
   pub grown : (m : ℕ) → get_or waits m 0 ≤ get_or waits' m 0
   pub reached : (i : ℕ) → i < j → earlier_of b i ≡ c → v ≤ get_or waits' (later_of b i) 0
-  pub only : (m u : ℕ) → get_or waits m 0 ≤ u → ((i : ℕ) → i < order_count b → earlier_of b i ≡ c → later_of b i ≡ m → v ≤ u)
-      → get_or waits' m 0 ≤ u
+  pub only : (m u : ℕ) → get_or waits m 0 ≤ u
+      → ((i : ℕ) → i < order_count b → earlier_of b i ≡ c → later_of b i ≡ m → v ≤ u) → get_or waits' m 0 ≤ u
   pub from : (i : ℕ) → j ≤ i → i < order_count b → c ≤ earlier_of b i
 
 module _ {b waits : List ℕ} {c v : ℕ} where

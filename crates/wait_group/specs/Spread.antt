@@ -17,8 +17,8 @@ pub record Raised (b waits waits' : List ℕ) (c v : ℕ) : Type 0 where
   pub long : length waits' ≡ NODES
   pub grown : (m : ℕ) → get_or waits m 0 ≤ get_or waits' m 0
   pub reached : (j : ℕ) → j < order_count b → earlier_of b j ≡ c → v ≤ get_or waits' (later_of b j) 0
-  pub only : (m u : ℕ) → get_or waits m 0 ≤ u → ((j : ℕ) → j < order_count b → earlier_of b j ≡ c → later_of b j ≡ m → v ≤ u)
-      → get_or waits' m 0 ≤ u
+  pub only : (m u : ℕ) → get_or waits m 0 ≤ u
+      → ((j : ℕ) → j < order_count b → earlier_of b j ≡ c → later_of b j ≡ m → v ≤ u) → get_or waits' m 0 ≤ u
 
 -- g is a group of an accepted plan, of a kind that passes the test, and the table of children is the plan's
 pub record GroupOf (b from kids : List ℕ) (test : Bool) (g : ℕ) : Type 0 where

@@ -9,7 +9,8 @@ use native.Mathlib.Decide.{ℕ_discrete, dec_lt}
 use native.Mathlib.Omega.{arith}
 use lib.Dec.{eqb, ltb, leb}
 use borrow.Author.Tests.{eq-eqb, ne_eqb, lt-ltb, le-ltb, ltb-false, le-leb, lt-leb}
-use Rattle.plan_format.specs.Format.{node_count, parent_of, kind_of, minutes_of, earlier_of, is_kind, is_group, is_choice}
+use Rattle.plan_format.specs.Format.{node_count, parent_of, kind_of, minutes_of, earlier_of, is_kind, is_group}
+use Rattle.plan_format.specs.Format.{is_choice}
 use Rattle.plan_rules.specs.Rules.{is_child, bad_entry, cause6}
 use Rattle.base.proofs.Booleans.{or_none, not_passed}
 use Rattle.runs.proofs.Searches.{none_at}

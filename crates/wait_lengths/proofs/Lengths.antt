@@ -8,7 +8,8 @@ use native.Mathlib.Decide.{ℕ_discrete}
 use native.Mathlib.Omega.{arith}
 use lib.Dec.{eqb}
 use borrow.Author.Tests.{eqb-true, eq-eqb}
-use Rattle.plan_format.specs.Format.{node_count, order_count, parent_of, kind_of, minutes_of, earlier_of, later_of, is_kind}
+use Rattle.plan_format.specs.Format.{node_count, order_count, parent_of, kind_of, minutes_of, earlier_of, later_of}
+use Rattle.plan_format.specs.Format.{is_kind}
 use Rattle.plan_format.specs.Format.{is_choice}
 use Rattle.plan_rules.specs.Rules.{is_child, bad_order, cause13}
 use Rattle.base.proofs.Booleans.{or_split}
@@ -163,7 +164,8 @@ module _ (b : List ℕ) (ok : Clean b) where
       (eq-eqb (later_of b j) (later_of b j) refl))
 
   pub waits_least : (g c v : ℕ) → is_child b g c ≡ true → kind_of b g ≡ 1
-      → ((j : ℕ) → j < order_count b → later_of b j ≡ c → wait_within b (earlier_of b j) + length_of b (earlier_of b j) ≤ v)
+      → ((j : ℕ) → j < order_count b → later_of b j ≡ c
+      → wait_within b (earlier_of b j) + length_of b (earlier_of b j) ≤ v)
       → wait_within b c ≤ v
   waits_least g c v h e f =
       rw (wait_all g c h e)

@@ -8,7 +8,8 @@ use native.Mathlib.Decide.{ℕ_discrete, dec_lt}
 use native.Mathlib.Omega.{arith}
 use lib.Dec.{eqb}
 use borrow.Author.Tests.{eqb-true, eq-eqb}
-use Rattle.plan_format.specs.Format.{node_count, order_count, parent_of, kind_of, earlier_of, later_of, is_kind, is_choice}
+use Rattle.plan_format.specs.Format.{node_count, order_count, parent_of, kind_of, earlier_of, later_of, is_kind}
+use Rattle.plan_format.specs.Format.{is_choice}
 use Rattle.plan_rules.specs.Rules.{is_child}
 use Rattle.runs.specs.Searches.{any_below}
 use Rattle.base.proofs.Booleans.{either}

@@ -1,6 +1,7 @@
 -- Lengths and longest waits (01: 'Longest waits'), as functions of a plan's bytes. Definitions only.
 use Rattle.std.specs.Prelude.{ℕ, zero, suc, ◌+◌, max, Bool, true, false, cond, List, eqb}
-use Rattle.plan_format.specs.Format.{node_count, order_count, parent_of, kind_of, minutes_of, earlier_of, later_of, is_kind}
+use Rattle.plan_format.specs.Format.{node_count, order_count, parent_of, kind_of, minutes_of, earlier_of, later_of}
+use Rattle.plan_format.specs.Format.{is_kind}
 use Rattle.plan_rules.specs.Rules.{is_child}
 use Rattle.runs.specs.Plan.{Kind, task, all_of, any_of, optional}
 use Rattle.plan_check.specs.Meaning.{kind_at}
