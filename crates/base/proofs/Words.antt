@@ -58,5 +58,6 @@ less_add x y l = omega (arith, xor_add_and x (bit_and x y), inner, and_le_l x y)
 
     inner : bit_and x (bit_and x y) ≡ bit_and x y
     inner = same_bits 64 _ _ (omega (arith, and_le_l x (bit_and x y))) (omega (arith, and_le_l x y))
-        (λ f m. bit_and_lem x (bit_and x y) f ∙ ap (λ (b : Bool). bit x f && b) (bit_and_lem x y f) ∙ twice (bit x f) (bit y f)
+        (λ f m. bit_and_lem x (bit_and x y) f ∙ ap (λ (b : Bool). bit x f && b) (bit_and_lem x y f)
+        ∙ twice (bit x f) (bit y f)
         ∙ sym (bit_and_lem x y f))

@@ -37,7 +37,8 @@ row_here rows words node k l m e h j i =
 
 pub row_there : (rows rows₀ words : List ℕ) (node k : ℕ) → k < 23
     → ((c j : ℕ) → j < 23 → (c ≡ node → ⊥) → word_at rows c j ≡ word_at rows₀ c j)
-    → (c j : ℕ) → j < 23 → (c ≡ node → ⊥) → word_at (set rows (node * 23 + k) (get_or words k 0)) c j ≡ word_at rows₀ c j
+    → (c j : ℕ) → j < 23 → (c ≡ node → ⊥) → word_at (set rows (node * 23 + k) (get_or words k 0)) c j ≡ word_at rows₀ c
+    j
 row_there rows rows₀ words node k m h c j i q =
     get_or-set_other rows (node * 23 + k) (c * 23 + j) (get_or words k 0) 0
     (λ (z : c * 23 + j ≡ node * 23 + k). q (omega arith)) ∙ h c j i q

@@ -103,7 +103,8 @@ module _ {conds : List ℕ} {n : ℕ} {p : Plan} (t : AtTask conds n p) where
         both false = x
         both true = y
 
-        at : (k : Column) (f : ℕ) → f < 64 → Says (task_word (bit_xor (bit_or a b) ones) (by_sign c d) k) f (Fact p n f k)
+        at : (k : Column) (f : ℕ) → f < 64 → Says (task_word (bit_xor (bit_or a b) ones) (by_sign c d) k) f
+            (Fact p n f k)
         at avoid f l = says_map (avoid_task p t.well_formed t.is_task f) (silent f l)
         at (quiet v) f l = (both v).quiet f l
         at (covered v) f l = (both v).covered f l

@@ -1,6 +1,7 @@
 -- After a list of calls the last verdict is that of the members; with nobody aboard it is CLEAR, with everybody the
 -- plan's own.
-use Rattle.runs.proofs.Base.{◌≡◌, refl, ◌⊎◌, Bool, true, false, Option, none, some, List, [], ◌∷◌, inl, inr, ℕ, T, eqb, cond}
+use Rattle.runs.proofs.Base.{◌≡◌, refl, ◌⊎◌, Bool, true, false, Option, none, some, List, [], ◌∷◌, inl, inr, ℕ, T}
+use Rattle.runs.proofs.Base.{eqb, cond}
 use Rattle.runs.specs.Plan.{all_of, Plan, Child}
 use Rattle.runs.specs.WellFormed.{WellFormed}
 use Rattle.runs.specs.Verdict.{Verdict, CLEAR, Judged}

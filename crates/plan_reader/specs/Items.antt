@@ -1,6 +1,7 @@
 -- The nodes, conditions and orders of a plan, as it has them one after another.
 use Rattle.std.specs.Prelude.{ℕ, ◌+◌, ◌-◌, cond, List, ltb}
-use Rattle.plan_format.specs.Format.{node_count, cond_count, order_count, parent_of, kind_of, minutes_of, cond_node, cond_value}
+use Rattle.plan_format.specs.Format.{node_count, cond_count, order_count, parent_of, kind_of, minutes_of, cond_node}
+use Rattle.plan_format.specs.Format.{cond_value}
 use Rattle.plan_format.specs.Format.{earlier_of, later_of}
 use Rattle.plan_reader.specs.declared.items.Node.{Node}
 use Rattle.plan_reader.specs.declared.items.Condition.{Condition}

@@ -10,7 +10,8 @@ use lib.Dec.{eqb, ltb, leb}
 use borrow.Author.Tests.{eq-eqb, ne_eqb, eqb-true, leb-true, ltb-true, ltb-false, not-false}
 use Rattle.plan_codes.specs.Names.{name_allowed}
 use Rattle.plan_codes.specs.Values.{flag_of, sign_of, place_of, value_bad}
-use Rattle.plan_format.specs.Format.{node_count, cond_count, order_count, flag_count, whole_length, name_char, parent_of}
+use Rattle.plan_format.specs.Format.{node_count, cond_count, order_count, flag_count, whole_length, name_char}
+use Rattle.plan_format.specs.Format.{parent_of}
 use Rattle.plan_format.specs.Format.{kind_of, cond_node, cond_value, is_kind, is_group}
 use Rattle.plan_format.specs.Whole.{Limits, Whole}
 use Rattle.plan_rules.specs.Rules.{cause2, bad_char, cause5, bad_parent, cause7, bad_condition, cause9, both_signs}
@@ -23,7 +24,8 @@ pub limits : (b : List ℕ) → 16 ≤ length b → cause2 b ≡ false → Limit
 unfolding cause2
 limits b l h =
     let w = or_none _ (ltb (flag_count b) 1 || ltb 64 (flag_count b)) h in
-    let n = or_none (ltb (node_count b) 1 || ltb 128 (node_count b)) (ltb 1024 (cond_count b) || ltb 512 (order_count b))
+    let n = or_none (ltb (node_count b) 1 || ltb 128 (node_count b))
+    (ltb 1024 (cond_count b) || ltb 512 (order_count b))
     w.0 in
     let n0 = or_none (ltb (node_count b) 1) (ltb 128 (node_count b)) n.0 in
     let n1 = or_none (ltb 1024 (cond_count b)) (ltb 512 (order_count b)) n.1 in
@@ -114,7 +116,8 @@ module _ (b : List ℕ) (i j : ℕ) where
   unfolding both_signs
   both_signs_lem h =
       let w = and_both _ (eqb (sign_of (cond_value b i)) 0 && eqb (sign_of (cond_value b j)) 1) h in
-      let x = and_three (eqb (cond_node b j) (cond_node b i)) (eqb (place_of (cond_value b j)) (place_of (cond_value b i)))
+      let x = and_three (eqb (cond_node b j) (cond_node b i))
+      (eqb (place_of (cond_value b j)) (place_of (cond_value b i)))
       (eqb (flag_of (cond_value b j)) (flag_of (cond_value b i))) w.0 in
       let y = and_both (eqb (sign_of (cond_value b i)) 0) (eqb (sign_of (cond_value b j)) 1) w.1 in
       record {
@@ -143,6 +146,7 @@ module _ (b : List ℕ) (i j : ℕ) where
   pub post_of_lem : post_of b i j ≡ true → PostOf
   unfolding post_of
   post_of_lem h =
-      let w = and_three (eqb (cond_node b j) (cond_node b i)) (eqb (flag_of (cond_value b j)) (flag_of (cond_value b i)))
+      let w = and_three (eqb (cond_node b j) (cond_node b i))
+      (eqb (flag_of (cond_value b j)) (flag_of (cond_value b i)))
       (eqb (place_of (cond_value b j)) 2) h in
       record { node = eqb-true _ _ w.0; flag = eqb-true _ _ w.1; post = eqb-true _ _ w.2 }

@@ -3,8 +3,10 @@
 use Rattle.std.specs.Prelude.{ℕ, ◌+◌, ◌-◌, ◌*◌, Bool, cond, not, ◌&&◌, ◌||◌, List, length, eqb, ltb, leb}
 use Rattle.plan_codes.specs.Names.{name_allowed}
 use Rattle.plan_codes.specs.Values.{flag_of, sign_of, place_of, value_bad}
-use Rattle.plan_format.specs.Format.{node_count, cond_count, order_count, flag_count, whole_length, start_flag, name_char}
-use Rattle.plan_format.specs.Format.{parent_of, kind_of, minutes_of, cond_node, cond_value, earlier_of, later_of, is_kind}
+use Rattle.plan_format.specs.Format.{node_count, cond_count, order_count, flag_count, whole_length, start_flag}
+use Rattle.plan_format.specs.Format.{name_char}
+use Rattle.plan_format.specs.Format.{parent_of, kind_of, minutes_of, cond_node, cond_value, earlier_of, later_of}
+use Rattle.plan_format.specs.Format.{is_kind}
 use Rattle.plan_format.specs.Format.{is_group}
 use Rattle.runs.specs.Searches.{any_below}
 
@@ -45,7 +47,8 @@ cause6 b = any_below (node_count b) (bad_entry b)
 
 -- root's parent not 255; another's parent not a lower-numbered group
 unfoldable pub bad_parent : List ℕ → ℕ → Bool
-bad_parent b n = cond (eqb n 0) (not (eqb (parent_of b n) 255)) (not (ltb (parent_of b n) n && is_group b (parent_of b n)))
+bad_parent b n = cond (eqb n 0) (not (eqb (parent_of b n) 255))
+    (not (ltb (parent_of b n) n && is_group b (parent_of b n)))
 
 unfoldable pub cause7 : List ℕ → Bool
 cause7 b = any_below (node_count b) (bad_parent b)
@@ -105,7 +108,8 @@ is_child b g n = ltb 0 n && ltb n (node_count b) && eqb (parent_of b n) g
 -- order whose nodes are not children of one all-of group, or whose earlier number is not the lower; the group can only
 -- be the parent of the earlier node
 unfoldable pub bad_pair : List ℕ → ℕ → ℕ → Bool
-bad_pair b x y = not (is_kind b (parent_of b x) 1 && is_child b (parent_of b x) x && is_child b (parent_of b x) y) || not
+bad_pair b x y = not (is_kind b (parent_of b x) 1 && is_child b (parent_of b x) x && is_child b (parent_of b x) y)
+    || not
     (ltb x y)
 
 unfoldable pub bad_order : List ℕ → ℕ → Bool

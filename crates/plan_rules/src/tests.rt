@@ -1,6 +1,7 @@
 // The tests of single flags, characters, nodes, conditions and orders.
 ghost use Rattle.std.specs.Prelude.{◌≡◌, ◌+◌, ◌*◌, ◌<◌};
-ghost use Rattle.plan_format.specs.Format.{node_count, cond_count, order_count, cond_node, cond_value, earlier_of, later_of};
+ghost use Rattle.plan_format.specs.Format.{node_count, cond_count, order_count, cond_node, cond_value, earlier_of};
+ghost use Rattle.plan_format.specs.Format.{later_of};
 ghost use Rattle.plan_format.specs.Whole.{Whole};
 ghost use Rattle.plan_rules.specs.Rules.{bad_start, bad_char, bad_entry, bad_parent, bad_condition, not_below};
 ghost use Rattle.plan_rules.specs.Rules.{not_rising, is_child, bad_pair, bad_order};

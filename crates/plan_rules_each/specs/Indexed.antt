@@ -4,7 +4,8 @@ use Rattle.plan_format.specs.Format.{node_count, cond_count, order_count, cond_n
 use Rattle.plan_rules_each.specs.declared.Rule.{Rule}
 use Rattle.plan_rules_each.specs.declared.Rule.TheVariants.{Starts, Names, Entries, Parents, Conditions}
 use Rattle.plan_rules_each.specs.declared.Rule.TheVariants.{RisingConditions, Orders, RisingOrders}
-use Rattle.plan_rules.specs.Rules.{bad_start, bad_char, bad_entry, bad_parent, bad_condition, bad_order, not_rising, cause4}
+use Rattle.plan_rules.specs.Rules.{bad_start, bad_char, bad_entry, bad_parent, bad_condition, bad_order, not_rising}
+use Rattle.plan_rules.specs.Rules.{cause4}
 use Rattle.plan_rules.specs.Rules.{cause5, cause6, cause7, cause9, cause10, cause13, cause14}
 
 -- how many indices a rule has

@@ -132,7 +132,8 @@ module _ (b : List ℕ) (fits : Whole b) (parents : cause7 b ≡ false) where
 
 -- ---- causes 11 and 12
 module _ (b : List ℕ) (rising : cause10 b ≡ false) where
-  before : (i j : ℕ) → i < cond_count b → j < cond_count b → cond_node b j ≡ cond_node b i → cond_value b i < cond_value b j
+  before : (i j : ℕ) → i < cond_count b → j < cond_count b → cond_node b j ≡ cond_node b i
+      → cond_value b i < cond_value b j
       → i < j
   unfolding cause10
   before i j l m e q = comes_first (cond_node b) (cond_value b) (cond_count b) rising i j l m (sym e) q

@@ -9,7 +9,8 @@ use lib.ListN.{length, get_or, set, take, drop}
 
 -- the first eight elements of a list that has them
 pub take_eight : (xs : List ℕ) → 8 ≤ length xs
-    → get_or xs 0 0 ∷ get_or xs 1 0 ∷ get_or xs 2 0 ∷ get_or xs 3 0 ∷ get_or xs 4 0 ∷ get_or xs 5 0 ∷ get_or xs 6 0 ∷ get_or xs 7 0 ∷ []
+    → get_or xs 0 0 ∷ get_or xs 1 0 ∷ get_or xs 2 0 ∷ get_or xs 3 0 ∷ get_or xs 4 0 ∷ get_or xs 5 0 ∷ get_or xs 6 0
+    ∷ get_or xs 7 0 ∷ []
     ≡ take 8 xs
 take_eight (a ∷ b ∷ c ∷ d ∷ e ∷ f ∷ g ∷ h ∷ xs) l = refl
 take_eight [] l = absurd (omega arith)

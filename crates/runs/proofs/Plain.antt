@@ -170,7 +170,8 @@ module _ (p : Plan) (w : WellFormed p) (plain : Plain p) where
     )
 
   -- ---- a skip is refused with 27, whatever is blocked
-  pub plain_skip : {q : Plan} {a : World} {g : ℕ} {b : World} {n : ℕ} → Answered p q a (one (skip g)) n b → (n ≡ 27) × (b ≡ a)
+  pub plain_skip : {q : Plan} {a : World} {g : ℕ} {b : World} {n : ℕ} → Answered p q a (one (skip g)) n b → (n ≡ 27)
+      × (b ≡ a)
   plain_skip {g = g} (accepted x) = absurd (x.0 (λ o. plain g o.node o.is_optional))
   plain_skip {g = g} (refused r (inl (e, x))) = (rw (sym e), refl)
   plain_skip {g = g} (refused r (inr (x, y))) = absurd (x (λ o. plain g o.node o.is_optional))

@@ -38,7 +38,8 @@ unfolding first_below or_next
 lowest g zero = nowhere (λ b l. absurd (omega arith))
 lowest g (suc n) = go (first_below n g) (lowest g n) (g n) refl
   where
-    go : (o : Option (List ℕ)) → Lowest g n o → (x : Option (List ℕ)) → g n ≡ x → Lowest g (suc n) (or_next o (λ u. g n))
+    go : (o : Option (List ℕ)) → Lowest g n o → (x : Option (List ℕ)) → g n ≡ x
+        → Lowest g (suc n) (or_next o (λ u. g n))
     go (some xs) (at c l e k) x q = at c (omega arith) e k
     go none (nowhere k) (some xs) q = rw q (at n (omega arith) q k)
     go none (nowhere k) none q = rw q (nowhere (λ b l. below b l (ℕ_discrete b n)))

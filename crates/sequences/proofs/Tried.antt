@@ -36,8 +36,8 @@ clear f = false
 
 -- the search, under one name
 unfoldable pub seeking : Unit {0}
-unfolding computing count_below start_b next_b every_literal_b safe_b calm_b unless prefixed or_next first_below may_follow_b
-    rest_in first_sequence refused23_b sequence_of
+unfolding computing count_below start_b next_b every_literal_b safe_b calm_b unless prefixed or_next first_below
+    may_follow_b rest_in first_sequence refused23_b sequence_of
 seeking = tt
 
 -- Z goes first; a third task, which has no conditions, follows them (109)

@@ -9,20 +9,21 @@ use Rattle.tables.specs.Segments.{segment_of, Position, Reached, AtSegment, AtPa
 use Rattle.tables.specs.Represents.{AtGroup}
 
 -- the segment of a node of shaped tables
-module _ {from kids : List ℕ} {size g : ℕ} {s : Segment} (a : AtGroup from kids size g) (e : s ≡ segment_of from g) where
-  -- a child has a greater number than its group
-  pub kid_later : {i x : ℕ} → Position s i → x ≡ get_or kids i 0 → (g < x) × (x < size)
-  kid_later {i} p q = rw q (a.shaped.rises g i a.below (rw e at p))
+module _ {from kids : List ℕ} {size g : ℕ} {s : Segment} (a : AtGroup from kids size g) (e : s ≡ segment_of from g)
+  where
+    -- a child has a greater number than its group
+    pub kid_later : {i x : ℕ} → Position s i → x ≡ get_or kids i 0 → (g < x) × (x < size)
+    kid_later {i} p q = rw q (a.shaped.rises g i a.below (rw e at p))
 
-  pub at_segment : AtSegment kids s
-  at_segment = rw e (record {
-    rises = a.shaped.starts g a.below;
-    ends = a.shaped.ends g a.below;
-    nodes = record {
-      each = λ i l h. omega
-          (arith, a.shaped.small, (a.shaped.rises g i a.below (record { low = l; high = h })).1);
-    };
-  })
+    pub at_segment : AtSegment kids s
+    at_segment = rw e (record {
+      rises = a.shaped.starts g a.below;
+      ends = a.shaped.ends g a.below;
+      nodes = record {
+        each = λ i l h. omega
+            (arith, a.shaped.small, (a.shaped.rises g i a.below (record { low = l; high = h })).1);
+      };
+    })
 
 module _ {kids : List ℕ} {s : Segment} (a : AtSegment kids s) where
   pub first_turn : Reached s s.start

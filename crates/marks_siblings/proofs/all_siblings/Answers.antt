@@ -35,4 +35,5 @@ loop-i-preserved c =
 
 pub returns : goal.returns
 returns c = let l = c in
-    λ p n g o hc. all_siblings g o hc (rw (last_turn l.loop-i.invariant.0 c.loop-i-test.false) at (l.loop-i.invariant.1 p n g o hc))
+    λ p n g o hc. all_siblings g o hc
+    (rw (last_turn l.loop-i.invariant.0 c.loop-i-test.false) at (l.loop-i.invariant.1 p n g o hc))

@@ -12,8 +12,14 @@ use Rattle.node_sets.proofs.mark_all.Goals.{In-loop-i}
 
 pub loop-i-init : goal.loop-i-init
 loop-i-init c =
-    let ts = c.args.list.now in
-    (omega arith, (c.no_nodes-marks.ensures.long, marked_none _ c.no_nodes-marks.ensures ∙ ap listed (sym (drop_none ts))))
+    let ts = c.args.list.now in (
+      omega arith,
+      (
+        c.no_nodes-marks.ensures.long,
+        marked_none _ c.no_nodes-marks.ensures
+            ∙ ap listed (sym (drop_none ts)),
+      ),
+    )
 
 -- the next task is a node's number
 inside : (c : In-loop-i) → get_or c.args.list.now (c.loop-i.i - 1) 0 < 128
@@ -36,7 +42,8 @@ loop-i-preserved c =
       omega arith,
       (
         length-set l.marks _ 1 ∙ l.invariant.1.0,
-        marked_cons l.marks _ (drop l.i ts) (omega (arith, inside (goal.at.loop-i-preserved c).In-loop-i, l.invariant.1.0)) l.invariant.1.1
+        marked_cons l.marks _ (drop l.i ts)
+            (omega (arith, inside (goal.at.loop-i-preserved c).In-loop-i, l.invariant.1.0)) l.invariant.1.1
             ∙ ap listed (sym (rw k at (drop-cons ts (l.i - 1) 0 (omega arith)))),
       ),
     )

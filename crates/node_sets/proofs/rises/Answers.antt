@@ -19,7 +19,8 @@ loop-i-preserved c =
       omega arith,
       (
         omega arith,
-        rises_on _ l.loop-i.i l.loop-i.invariant.0 (omega arith) l.loop-i.invariant.1.1 (omega (arith, c.if-list-i.false))
+        rises_on _ l.loop-i.i l.loop-i.invariant.0 (omega arith) l.loop-i.invariant.1.1
+            (omega (arith, c.if-list-i.false))
             ∙ ap (λ (i : ℕ). rising_b (drop i l.args.list.now)) e,
       ),
     )

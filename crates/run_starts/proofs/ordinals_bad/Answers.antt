@@ -38,7 +38,8 @@ bounds-table-k c = omega (
 
 pub returns-then-table-k-ne1 : goal.returns-then-table-k-ne1
 unfolding misnumbered
-returns-then-table-k-ne1 c = search_finds {t = true} c.loop-k.invariant (inside (goal.at.returns-then-table-k-ne1 c).In-loop-k)
+returns-then-table-k-ne1 c = search_finds {t = true} c.loop-k.invariant
+    (inside (goal.at.returns-then-table-k-ne1 c).In-loop-k)
     (sym (rw (ne_eqb _ 1 (λ z. c.if-table-k-ne1.true (held (goal.at.returns-then-table-k-ne1 c).In-loop-k ∙ z))))) refl
 
 pub loop-k-preserved : goal.loop-k-preserved

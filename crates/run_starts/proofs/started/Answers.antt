@@ -34,4 +34,9 @@ loop-i-preserved c =
     let q = started_in s.args.plan.now s.args.state.now in
     let y = ap num c.is_started.ensures in
     let e = count_more l.loop-i.i q in
-    elim c.if-is_started.branch [ then-is_started w ↦ let k = ap num w.if-is_started.true in (omega arith, (omega (arith, w.m-is), omega (arith, w.m-is, y, k))) | else-is_started w ↦ let k = ap num w.if-is_started.false in (omega arith, (omega (arith, w.m-is), omega (arith, w.m-is, y, k))) ]
+    elim c.if-is_started.branch [
+      | then-is_started w ↦ let k = ap num w.if-is_started.true
+          in (omega arith, (omega (arith, w.m-is), omega (arith, w.m-is, y, k)))
+      | else-is_started w ↦ let k = ap num
+          w.if-is_started.false in (omega arith, (omega (arith, w.m-is), omega (arith, w.m-is, y, k)))
+    ]

@@ -52,7 +52,8 @@ module _ (p : Plan) (w : WellFormed p) where
     })
 
     -- each test of a summary is its mark
-    pub blocked_marks : (n f : ℕ) (v : Bool) (m : Mark) → Reflects (marked_under_b p S n f v m) (MarkedUnder p S n f v m)
+    pub blocked_marks : (n f : ℕ) (v : Bool) (m : Mark) → Reflects (marked_under_b p S n f v m)
+        (MarkedUnder p S n f v m)
     unfolding marked_under_b
     blocked_marks n f v m = r_guarded _ _ (r_T _) (λ l. marks_exact (without p S) blocked_well_formed n f l v m)
 
@@ -238,37 +239,38 @@ module _ (p r : Plan) (w : WellFormed p) (wr : WellFormed r) (added : OrdersAdde
   }
 
   -- fewer nodes stand where the nodes in R are blocked than where those in S are
-  module _ (S R : ℕ → Bool) (ok_s : Blocks p S) (ok_r : Blocks r R) (fewer : (i : ℕ) → Stands r R i → Stands p S i) where
-    wq : WellFormed (without r R)
-    wq = blocked_well_formed r wr R ok_r
+  module _ (S R : ℕ → Bool) (ok_s : Blocks p S) (ok_r : Blocks r R) (fewer : (i : ℕ) → Stands r R i → Stands p S i)
+    where
+      wq : WellFormed (without r R)
+      wq = blocked_well_formed r wr R ok_r
 
-    standing : (i : ℕ) → Node (without r R) i → Stands r R i
-    standing i l = (r_stands r wr R i).to l
+      standing : (i : ℕ) → Node (without r R) i → Stands r R i
+      standing i l = (r_stands r wr R i).to l
 
-    -- the plan without R, but for its conditions, which are the same
-    blocked_thinner : Thinner (without p S) (without r R).tree (without r R).order 0
-    blocked_thinner = record {
-      present = wq.root_node;
-      same_kind = λ i l. added.same_kind i (node_in i (standing i l).node);
-      same_parent = λ i z l. added.same_parent i z (node_in i (standing i l).node);
-      no_other = λ g c ug hc. let (h, x) = child_stands r wr R hc in standing_child p w S (child_in h) (fewer c x);
-      all_parts = λ g c ug k hc. let h : Child r g c = child_out (child_stands p w S hc).0 in
-          standing_child r wr R h
-          (parts_stand r wr R ok_r k h (standing g (under_node (without r R) wq.root_node ug)));
-      all_orders = λ g a b ug ha hb x. (r_standing_order r wr R a b).from (
-        added.no_order_lost a b ((r_standing_order p w S a b).to x).0,
-        ((child_stands r wr R ha).1, (child_stands r wr R hb).1),
-      );
-    }
+      -- the plan without R, but for its conditions, which are the same
+      blocked_thinner : Thinner (without p S) (without r R).tree (without r R).order 0
+      blocked_thinner = record {
+        present = wq.root_node;
+        same_kind = λ i l. added.same_kind i (node_in i (standing i l).node);
+        same_parent = λ i z l. added.same_parent i z (node_in i (standing i l).node);
+        no_other = λ g c ug hc. let (h, x) = child_stands r wr R hc in standing_child p w S (child_in h) (fewer c x);
+        all_parts = λ g c ug k hc. let h : Child r g c = child_out (child_stands p w S hc).0 in
+            standing_child r wr R h
+            (parts_stand r wr R ok_r k h (standing g (under_node (without r R) wq.root_node ug)));
+        all_orders = λ g a b ug ha hb x. (r_standing_order r wr R a b).from (
+          added.no_order_lost a b ((r_standing_order p w S a b).to x).0,
+          ((child_stands r wr R ha).1, (child_stands r wr R hb).1),
+        );
+      }
 
-    -- 02's two promises, both at once: orders are added and more branches are blocked
-    pub promises : Keeps (without p S) (without r R)
-    promises = rw same at (thinner_keeps (without p S) (blocked_well_formed p w S ok_s) (without r R).tree
-        (without r R).order (rw same wq) blocked_thinner)
-      where
-        same : over p (without r R).tree (without r R).order ≡ without r R
-        same = ap (λ c. record { tree = (without r R).tree; conditions = c; order = (without r R).order })
-            added.same_conditions
+      -- 02's two promises, both at once: orders are added and more branches are blocked
+      pub promises : Keeps (without p S) (without r R)
+      promises = rw same at (thinner_keeps (without p S) (blocked_well_formed p w S ok_s) (without r R).tree
+          (without r R).order (rw same wq) blocked_thinner)
+        where
+          same : over p (without r R).tree (without r R).order ≡ without r R
+          same = ap (λ c. record { tree = (without r R).tree; conditions = c; order = (without r R).order })
+              added.same_conditions
 
 -- no order need be added
 none_added : (p : Plan) → OrdersAdded p p

@@ -17,7 +17,8 @@ use Rattle.runs.specs.Calls.{not_rising, post_opposed, Task, WrongStatus, Branch
 use Rattle.runs.specs.Blocked.{Stands}
 use Rattle.runs.specs.Branches.{Blocks}
 use Rattle.runs.specs.Model.Blocked.{stands, without}
-use Rattle.runs.specs.Model.Monitor.{status_b, task_b, absent_b, wrong_status_b, branch_begun_b, order_open_b, applies_b}
+use Rattle.runs.specs.Model.Monitor.{status_b, task_b, absent_b, wrong_status_b, branch_begun_b, order_open_b}
+use Rattle.runs.specs.Model.Monitor.{applies_b}
 use Rattle.runs.specs.Model.Monitor.{pre_unmet_b, inc_broken_b, post_opposed_b, or_else, first_of, settle, refusal_of}
 use Rattle.runs.specs.Model.Monitor.{step}
 use Rattle.runs.proofs.Reflect.{clash, decided, r_map, r_negate, same_test, true_T}
@@ -178,7 +179,8 @@ module _ (p : Plan) (w : WellFormed p) (S : ℕ → Bool) (ok : Blocks p S) wher
   tested_b a (one (finish t)) wrong_status = negate (status_b (a.status t) running)
   tested_b a (one (skip g)) wrong_status = wrong_status_b p a.status (skip g)
   tested_b a (one e) no_task = applies_b p p a (one e) no_task
-  tested_b a (one e) branch_begun = either (negate (stands p S (node_of e))) (λ u. branch_begun_b p a.status (node_of e))
+  tested_b a (one e) branch_begun = either (negate (stands p S (node_of e)))
+      (λ u. branch_begun_b p a.status (node_of e))
   tested_b a (one e) order_open = applies_b p p a (one e) order_open
   tested_b a (one e) pre_unmet = applies_b p p a (one e) pre_unmet
   tested_b a (one e) inc_broken = applies_b p p a (one e) inc_broken

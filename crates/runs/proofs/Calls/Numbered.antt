@@ -11,7 +11,8 @@ use borrow.Author.Tests.{eq-eqb, ne_eqb}
 use Rattle.runs.specs.Plan.{Plan}
 use Rattle.runs.specs.Execution.{Status, waiting, running, Status-discrete, start, finish, skip}
 use Rattle.runs.specs.Calls.{Call, one, together, finishes, World, fresh, happen, happen_all, Refusal, number}
-use Rattle.runs.specs.Calls.{Task, Answered, accepted, refused, started_by, Worked, no_calls, next_call, accepted_starts}
+use Rattle.runs.specs.Calls.{Task, Answered, accepted, refused, started_by, Worked, no_calls, next_call}
+use Rattle.runs.specs.Calls.{accepted_starts}
 use Rattle.runs.specs.Demand3.{Numbered}
 use Rattle.runs.proofs.Reflect.{clash}
 use Rattle.runs.proofs.Calls.First.{number_inj}

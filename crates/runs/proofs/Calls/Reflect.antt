@@ -12,7 +12,8 @@ use Rattle.runs.specs.Calls.{wrong_status, branch_begun, order_open, pre_unmet, 
 use Rattle.runs.specs.Calls.{post_opposed, no_optional, Task, Optional, WrongStatus, BranchBegun, OrderOpen}
 use Rattle.runs.specs.Calls.{PreUnmet, IncBroken, PostOpposed, Applies}
 use Rattle.runs.specs.Model.Monitor.{absent_b}
-use Rattle.runs.specs.Model.Monitor.{status_b, opposite_b, task_b, optional_b, complete_in, complete_b, begun_b, rival_b}
+use Rattle.runs.specs.Model.Monitor.{status_b, opposite_b, task_b, optional_b, complete_in, complete_b, begun_b}
+use Rattle.runs.specs.Model.Monitor.{rival_b}
 use Rattle.runs.specs.Model.Monitor.{wrong_status_b, branch_begun_b}
 use Rattle.runs.specs.Model.Monitor.{order_open_b, pre_unmet_b, inc_broken_b, post_opposed_b, applies_b}
 use Rattle.runs.proofs.Reflect.{clash, not_not, Reflects, r_map, r_false, r_both, r_either, r_guarded, r_negate}

@@ -274,7 +274,8 @@ module _ (p : Plan) (w : WellFormed p) (a : World) (ts : List ℕ) where
           )
 
 -- the states after a history
-after_finishes : (ts : List ℕ) (h : History) (x : ℕ) → ¬ Among x ts → status_after (finishes ts ++ h) x ≡ status_after h x
+after_finishes : (ts : List ℕ) (h : History) (x : ℕ) → ¬ Among x ts
+    → status_after (finishes ts ++ h) x ≡ status_after h x
 after_finishes [] h x k = refl
 after_finishes (t ∷ ts) h x k = after_other (finish t) (finishes ts ++ h) x (λ q. k (here q)) ∙ after_finishes ts h x
     (λ i. k (there i))

@@ -13,7 +13,8 @@ use Rattle.runs.proofs.Execution.AllOf.{no_choice}
 use Rattle.runs.proofs.Execution.Completeness.{complete_mono}
 
 module _ (p : Plan) (w : WellFormed p) where
-  pub done_stays : {n : ℕ} {e : Event} (h : History) → Enabled p n (status_after h) e → (x : ℕ) → status_after h x ≡ done
+  pub done_stays : {n : ℕ} {e : Event} (h : History) → Enabled p n (status_after h) e → (x : ℕ)
+      → status_after h x ≡ done
       → status_after (e ∷ h) x ≡ done
   done_stays {n} {e} h m x d = go (ℕ_discrete x (node_of e))
     where

@@ -75,7 +75,8 @@ module _ (p : Plan) (w : WellFormed p) where
       go (dec_under p w c (node_of e)) (asserts p e f) refl (λ z. last_of_part f u c s (λ x r y. k x r (one_later y)) z)
     where
       go : Dec (Under p c (node_of e)) → (o : Option Bool) → asserts p e f ≡ o
-          → (last_asserted p (part p w c s) f ≡ some u → last_asserted p s f ≡ some u) → last_asserted p (e ∷ s) f ≡ some u
+          → (last_asserted p (part p w c s) f ≡ some u → last_asserted p s f ≡ some u)
+          → last_asserted p (e ∷ s) f ≡ some u
       go (yes v) none wr ih = let q' : last_asserted p (e ∷ part p w c s) f ≡ some u = rw (part_in p w c e s v) at q in
           rw wr (ih (rw wr at q'))
       go (yes v) (some o) wr ih = let q' : last_asserted p (e ∷ part p w c s) f ≡ some u =

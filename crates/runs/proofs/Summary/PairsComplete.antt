@@ -28,7 +28,8 @@ module _ (p : Plan) (w : WellFormed p) where
   need_of d (skip g) k u q = clash cc
 
   -- what an event asserts, its task holds or leaves
-  pub assertion_of : {f : ℕ} {v : Bool} (d : ℕ) (e : Event) → OfKind p e → Under p d (node_of e) → asserts p e f ≡ some v
+  pub assertion_of : {f : ℕ} {v : Bool} (d : ℕ) (e : Event) → OfKind p e → Under p d (node_of e)
+      → asserts p e f ≡ some v
       → TaskWith p inc post f v d
   assertion_of d (start t) k u q = record { who = t; is_task = k; beneath = u; has = inl q }
   assertion_of d (finish t) k u q = record { who = t; is_task = k; beneath = u; has = inr q }

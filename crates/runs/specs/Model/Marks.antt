@@ -105,14 +105,16 @@ module _ (p : Plan) where
 
   -- each child of n that stands between d and c has a completed execution that does not assert the flag
   unfoldable pub avoided_b : ℕ → ℕ → ℕ → ℕ → Bool
-  avoided_b n f c d = every_child_b p n (λ b. implies (before_b p d b) (λ u. implies (before_b p b c) (λ u. avoid_b b f)))
+  avoided_b n f c d = every_child_b p n
+      (λ b. implies (before_b p d b) (λ u. implies (before_b p b c) (λ u. avoid_b b f)))
 
   -- the children c and d of n clobber the literal
   unfoldable pub pair_b : ℕ → ℕ → Bool → ℕ → ℕ → Bool
   pair_b n f v c d = either (both (unordered_b p c d)
       (λ u. either (both (condition_b pre inc f v c) (λ u. condition_b inc post f (not v) d))
       (λ u. both (condition_b post post f v c) (λ u. condition_b post post f (not v) d))))
-      (λ u. both (before_b p d c) (λ u. both (may_post_b d f (not v)) (λ u. both (may_pre_b c f v) (λ u. avoided_b n f c d))))
+      (λ u. both (before_b p d c) (λ u. both (may_post_b d f (not v))
+      (λ u. both (may_pre_b c f v) (λ u. avoided_b n f c d))))
 
   unfoldable pub may_clobber_in : ℕ → Bool → ℕ → ℕ → Bool
   may_clobber_in f v zero n = false

@@ -11,7 +11,8 @@ use Rattle.runs.specs.Execution.{skip, node_of, pre_of, asserts}
 use Rattle.runs.specs.Calls.{Call, one, together, finishes, events, World, happen_all, Refusal, no_task}
 use Rattle.runs.specs.Calls.{wrong_status, branch_begun, order_open}
 use Rattle.runs.specs.Calls.{pre_unmet, inc_broken, not_rising, post_opposed, no_optional, number, asks, checks}
-use Rattle.runs.specs.Model.Trees.{kind_b, picks_b, moves_b, by_kind, some_child_b, every_child_b, under_b, some_under_b}
+use Rattle.runs.specs.Model.Trees.{kind_b, picks_b, moves_b, by_kind, some_child_b, every_child_b, under_b}
+use Rattle.runs.specs.Model.Trees.{some_under_b}
 
 unfoldable pub status_b : Status → Status → Bool
 status_b s r = decide (Status-discrete s r)
@@ -99,7 +100,8 @@ module _ (whole p : Plan) where
   applies_b a (together ts) branch_begun = false
   applies_b a (together ts) order_open = false
   applies_b a (together ts) pre_unmet = false
-  applies_b a (together ts) inc_broken = any_in ts (λ t. inc_broken_b p (happen_all p a (finishes ts)).status (finish t))
+  applies_b a (together ts) inc_broken = any_in ts
+      (λ t. inc_broken_b p (happen_all p a (finishes ts)).status (finish t))
   applies_b a (together ts) no_optional = false
   applies_b a (together ts) not_rising = not_rising_b ts
   applies_b a (together ts) post_opposed = post_opposed_b p ts
