@@ -19,7 +19,8 @@ module _ {r : Recipe} {out out' : List ℕ} where
   small : {a : ℕ ⊎ ℕ} → Generates r out a out' → (n : ℕ) → a ≡ inl n → n < 256
   small g n e = ⊎_elim (λ z. omega (arith, z)) (λ z. omega (arith, z)) (g.refused n e)
 
-  pub generated_told : {a : ℕ ⊎ ℕ} {k : ℕ} → Generates r out a out' → k ≡ written_number a → GeneratedNumber r out k out'
+  pub generated_told : {a : ℕ ⊎ ℕ} {k : ℕ} → Generates r out a out' → k ≡ written_number a
+      → GeneratedNumber r out k out'
   generated_told {a} g e = rw e (record {
     returns = ap written_number g.returns;
     generates = rw (← tells a (small g)) g;

@@ -75,7 +75,8 @@ verdict_told b xs a x q =
       doomed = λ acc z. x.doomed acc ((tells acc DOOMED).0 (sym q ∙ z));
     }
   where
-    tells : refusal_under b xs ≡ 0 → (v : Verdict) → (verdict_number (said a) ≡ verdict_number (inr v)) ↔ (said a ≡ inr v)
+    tells : refusal_under b xs ≡ 0 → (v : Verdict) → (verdict_number (said a) ≡ verdict_number (inr v)) ↔
+        (said a ≡ inr v)
     tells acc v =
         number_tells verdict_number verdict_in verdict_back (x.returns ∙ sym (answer_none (refusal_under b xs) _ acc)) v
 

@@ -36,7 +36,8 @@ pub record VerdictNumber (b xs : List ℕ) (r : ℕ) : Type 0 where
   pub refused_29 : refusal b ≡ 0 → (r ≡ 29) ↔ ((¬ Refused28 (plan_of b) xs) × Refused29 (plan_of b) xs)
   pub judged : refusal_under b xs ≡ 0 → (v : Verdict)
       → (r ≡ verdict_number (inr v)) ↔ Judged (plan_under b xs) (start_of b) v
-  pub clear : refusal_under b xs ≡ 0 → (r ≡ verdict_number (inr CLEAR)) ↔ NeverViolates (plan_of b) (listed xs) (start_of b)
+  pub clear : refusal_under b xs ≡ 0 → (r ≡ verdict_number (inr CLEAR)) ↔ NeverViolates (plan_of b) (listed xs)
+      (start_of b)
   pub doomed : refusal_under b xs ≡ 0 → r ≡ verdict_number (inr DOOMED)
       → NeverCompletes (plan_of b) (listed xs) (start_of b)
 

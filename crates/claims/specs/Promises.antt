@@ -3,7 +3,8 @@
 use Rattle.std.specs.Prelude.{◌≡◌, ℕ, ◌<◌}
 use Rattle.std.proofs.Common.{inr}
 use mathlib.Core.List.{List, Memᴰ as Among}
-use Rattle.plan_format.specs.Format.{node_count, cond_count, flag_count, parent_of, kind_of, cond_node, cond_value, start_flag}
+use Rattle.plan_format.specs.Format.{node_count, cond_count, flag_count, parent_of, kind_of, cond_node, cond_value}
+use Rattle.plan_format.specs.Format.{start_flag}
 use Rattle.plan_rules.specs.Rules.{refusal}
 use Rattle.plan_check.specs.Meaning.{plan_of, OrderPair}
 use Rattle.plan_blocked.specs.Blocked.{refusal_under}

@@ -8,5 +8,6 @@ use Rattle.run_trials.specs.Terms.{none_set}
 use Rattle.run_trials.specs.Starred.{B, in_order}
 
 pub bytes_of_B : bytes_of (B none_set in_order) ≡ plan_b
-unfolding plan_b flag_byte two twos eight names nodes condition_nodes condition_values earlier_nodes later_nodes bytes_of
+unfolding plan_b flag_byte two twos eight names nodes condition_nodes condition_values earlier_nodes later_nodes
+    bytes_of
 bytes_of_B = refl

@@ -8,19 +8,23 @@ use lib.ListN.{replicate}
 use Rattle.plan_codes.specs.Names.{name_allowed}
 use Rattle.plan_codes.specs.Values.{flag_of, sign_of, place_of, value_bad}
 use Rattle.plan_format.specs.Format.{u16_at, node_count, cond_count, order_count, flag_count, whole_length, start_flag}
-use Rattle.plan_format.specs.Format.{name_char, entry_at, parent_of, kind_of, minutes_of, cond_node, cond_value, earlier_of}
+use Rattle.plan_format.specs.Format.{name_char, entry_at, parent_of, kind_of, minutes_of, cond_node, cond_value}
+use Rattle.plan_format.specs.Format.{earlier_of}
 use Rattle.plan_format.specs.Format.{later_of, is_kind, is_group}
 use Rattle.plan_rules.specs.Rules.{cause1, cause2, cause3, bad_start, cause4, bad_char, cause5, bad_entry, cause6}
 use Rattle.plan_rules.specs.Rules.{bad_parent, cause7, childless, cause8, bad_condition, cause9, not_below, not_rising}
-use Rattle.plan_rules.specs.Rules.{cause10, both_signs, cause11, post_of, no_post, cause12, is_child, bad_pair, bad_order}
+use Rattle.plan_rules.specs.Rules.{cause10, both_signs, cause11, post_of, no_post, cause12, is_child, bad_pair}
+use Rattle.plan_rules.specs.Rules.{bad_order}
 use Rattle.plan_rules.specs.Rules.{cause13, cause14, refusal}
-use Rattle.plan_check.specs.Meaning.{plan_of, start_of, kind_at, condition_is, has_condition, sign_in, order_is, has_order}
+use Rattle.plan_check.specs.Meaning.{plan_of, start_of, kind_at, condition_is, has_condition, sign_in, order_is}
+use Rattle.plan_check.specs.Meaning.{has_order}
 use Rattle.runs.specs.Model.Computing.{computing}
 use Rattle.sequences.proofs.Tried.{seeking}
 use Rattle.base.specs.Bits.{bit}
 use Rattle.base.specs.Count.{count_below}
 use Rattle.run_flags.specs.Flags.{flag_in}
-use Rattle.run_starts.specs.Starts.{node_byte, ordinal_at, ordinal_in, started_in, started_count, holders, stray_ordinal}
+use Rattle.run_starts.specs.Starts.{node_byte, ordinal_at, ordinal_in, started_in, started_count, holders}
+use Rattle.run_starts.specs.Starts.{stray_ordinal}
 use Rattle.run_starts.specs.Starts.{misnumbered}
 use Rattle.run_state.specs.State.{too_short, bad_flag, bad_byte, bad_node, status_at, moves, status_in, bad_absent}
 use Rattle.run_state.specs.State.{malformed_under, room_refusal_under, state_refusal_under}
@@ -52,7 +56,8 @@ use Rattle.plan_layout.specs.Fields.{byte_at}
 use Rattle.plan_parts.specs.Joined.{in_turn, parent_under}
 use Rattle.plan_merge.specs.Model.{refused33, refused34, pair_refusal, merge_refusal, merge_answer, merge_left}
 use Rattle.verdict.specs.Verdict.{answer_of}
-use Rattle.run_trials.specs.Merged.{of_merges, AllMerged, of_merged_verdicts, AllJudged, nine_flags, merged_plan, one_task, two_tasks}
+use Rattle.run_trials.specs.Merged.{of_merges, AllMerged, of_merged_verdicts, AllJudged, nine_flags, merged_plan}
+use Rattle.run_trials.specs.Merged.{one_task, two_tasks}
 use Rattle.plan_merge.specs.Calls.{Merges}
 use Rattle.run_trials.specs.Terms.{none_set}
 use Rattle.run_trials.proofs.Merged.{answer_in, merge_b, all_merged_b, all_merged, merged_bytes, judged_b, judged_row_b}
@@ -62,13 +67,13 @@ use Rattle.run_trials.proofs.Members.{all_called}
 
 -- the plans, their bytes and their meaning, and the bytes of states, under one name
 unfoldable pub bytes : Unit {0}
-unfolding computing name_allowed flag_of sign_of place_of value_bad u16_at node_count cond_count order_count flag_count
-    whole_length start_flag name_char entry_at parent_of kind_of minutes_of cond_node cond_value earlier_of later_of is_kind is_group
-    cause1 cause2 cause3 bad_start cause4 bad_char cause5 bad_entry cause6 bad_parent cause7 childless cause8 bad_condition
-    cause9 not_below not_rising cause10 both_signs cause11 post_of no_post cause12 is_child bad_pair bad_order cause13 cause14
-    refusal refusal_under blocked_refusal refused28_b refused29_b unblockable_b stands standing_order plan_of kind_at
-    condition_is has_condition sign_in order_is has_order flag_byte two twos eight names nodes condition_nodes condition_values
-    earlier_nodes later_nodes bytes_of
+unfolding computing name_allowed flag_of sign_of place_of value_bad u16_at node_count cond_count order_count
+    flag_count whole_length start_flag name_char entry_at parent_of kind_of minutes_of cond_node cond_value earlier_of
+    later_of is_kind is_group cause1 cause2 cause3 bad_start cause4 bad_char cause5 bad_entry cause6 bad_parent cause7
+    childless cause8 bad_condition cause9 not_below not_rising cause10 both_signs cause11 post_of no_post cause12
+    is_child bad_pair bad_order cause13 cause14 refusal refusal_under blocked_refusal refused28_b refused29_b
+    unblockable_b stands standing_order plan_of kind_at condition_is has_condition sign_in order_is has_order
+    flag_byte two twos eight names nodes condition_nodes condition_values earlier_nodes later_nodes bytes_of
     status_bytes state_bytes
 bytes = tt
 
@@ -89,8 +94,9 @@ starts_hold = all_hold of_starts tt
 
 -- 16 and 15 of a state
 unfoldable pub checks : Unit {0}
-unfolding bytes node_byte ordinal_at ordinal_in too_short bad_flag bad_byte started_in started_count holders stray_ordinal
-    misnumbered bad_node bad_absent malformed_under room_refusal_under state_refusal_under flag_in bit count_below all_checked_b
+unfolding bytes node_byte ordinal_at ordinal_in too_short bad_flag bad_byte started_in started_count holders
+    stray_ordinal misnumbered bad_node bad_absent malformed_under room_refusal_under state_refusal_under flag_in bit
+    count_below all_checked_b
 checks = tt
 
 pub places_checked : AllChecked of_places
@@ -139,14 +145,14 @@ sequences_told = all_sequenced of_sequences tt
 
 -- every row for 02's members
 pub members_called : AllCalled of_member_calls
-unfolding bytes start_of coming member_in bad_member members_refusal member_call_refusal member_return members_left answers_of
-    list_after same_verdict same_answer same_answers member_b all_called_b
+unfolding bytes start_of coming member_in bad_member members_refusal member_call_refusal member_return members_left
+    answers_of list_after same_verdict same_answer same_answers member_b all_called_b
 members_called = all_called of_member_calls tt
 
 -- every row for 02's pooled books
 unfoldable pub joining : Unit {0}
-unfolding bytes start_of in_turn parent_under size_number size_byte entry_part value_part part_at byte_at overlay refused33
-    refused34 pair_refusal merge_refusal merge_left answer_of same_verdict same_answer
+unfolding bytes start_of in_turn parent_under size_number size_byte entry_part value_part part_at byte_at overlay
+    refused33 refused34 pair_refusal merge_refusal merge_left answer_of same_verdict same_answer
 joining = tt
 
 pub merges_told : AllMerged of_merges

@@ -13,7 +13,8 @@ use Rattle.runs.proofs.Reflect.{Reflects, r_both, r_T, r_eq}
 use Rattle.plan_rules.specs.Rules.{refusal}
 use Rattle.plan_layout.specs.Layout.{plan_length}
 use Rattle.verdict.specs.Verdict.{answer_of}
-use Rattle.plan_merge.specs.Model.{merged_sizes, refused33, refused34, pair_refusal, merge_refusal, merge_answer, merge_left}
+use Rattle.plan_merge.specs.Model.{merged_sizes, refused33, refused34, pair_refusal, merge_refusal, merge_answer}
+use Rattle.plan_merge.specs.Model.{merge_left}
 use Rattle.run_trials.specs.Written.{bytes_of}
 use Rattle.run_trials.specs.Merged.{MergeRow, RowMerged, AllMerged, JudgedRow, lent, RowJudged, AllJudged}
 use Rattle.run_trials.proofs.Sequences.{same_answer, same_answer_lem}

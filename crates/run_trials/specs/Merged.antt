@@ -123,7 +123,8 @@ of_merged_verdicts =
     ∷ judged (B none_set in_order) (B none_set in_order) CLEAR CLEAR OPEN
     ∷ []
 
--- ---- merged plans, byte by byte: B, and one task with 9 flags of which flag 8 is set; that task, and one with one flag
+-- ---- merged plans, byte by byte: B, and one task with 9 flags of which flag 8 is set; that task, and one with one
+-- flag
 abbrev pub nine_flags : PlanPieces
 nine_flags = lone_task 9 (one_set 8) []
 

@@ -32,7 +32,8 @@ twos (n ∷ l) = two n ++ twos l
 
 -- eight bytes of flags
 unfoldable pub eight : (ℕ → Bool) → List ℕ
-eight F = flag_byte F 0 ∷ flag_byte F 1 ∷ flag_byte F 2 ∷ flag_byte F 3 ∷ flag_byte F 4 ∷ flag_byte F 5 ∷ flag_byte F 6 ∷
+eight F = flag_byte F 0 ∷ flag_byte F 1 ∷ flag_byte F 2 ∷ flag_byte F 3 ∷ flag_byte F 4 ∷ flag_byte F 5
+    ∷ flag_byte F 6 ∷
     flag_byte F 7 ∷ []
 
 unfoldable pub names : List Entry → List ℕ
