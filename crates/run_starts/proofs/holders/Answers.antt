@@ -24,23 +24,20 @@ below c = ltb-true _ 129
 
 pub overflow_add-table : goal.overflow_add-table
 overflow_add-table c =
-    let l = c in
-    let s = l in
     omega (
       arith,
-      l.loop-i.invariant.1.1 _ (below (goal.at.overflow_add-table c).Then-is_started-k),
-      count_le l.loop-i.i (holds s.args.plan.now s.args.state.now c.ordinal-k.result),
-      s.requires.plan.limits.nodes,
+      c.loop-i.invariant.1.1 _ (below (goal.at.overflow_add-table c).Then-is_started-k),
+      count_le c.loop-i.i (holds c.args.plan.now c.args.state.now c.ordinal-k.result),
+      c.requires.plan.limits.nodes,
     )
 
 pub returns : goal.returns
 unfolding holders
 returns c =
-    let l = c in
-    let a = l.args in
-    let e : l.loop-i.i ≡ node_count a.plan.now = omega arith in (
-      l.loop-i.invariant.1.0,
-      λ k h. l.loop-i.invariant.1.1 k h
+    let a = c.args in
+    let e : c.loop-i.i ≡ node_count a.plan.now = omega arith in (
+      c.loop-i.invariant.1.0,
+      λ k h. c.loop-i.invariant.1.1 k h
           ∙ ap (λ (n : ℕ). count_below n (holds a.plan.now a.state.now k)) e,
     )
 
@@ -58,14 +55,12 @@ bounds-table-k-then-is_started-k c = below (goal.at.bounds-table-k-then-is_start
 
 pub loop-i-preserved : goal.loop-i-preserved
 loop-i-preserved c =
-    let o = c in
-    let l = o in
     let x = c.is_started in (
       omega arith,
       elim c.if-is_started-k.branch [
-        | then-is_started-k w ↦ held_one _ _ l.loop-i.i _ o.ordinal-k.ensures x.result x.ensures l.loop-i.table
-            c.if-is_started-k.table l.loop-i.invariant.1 w.if-is_started-k.true w.table-is
-        | else-is_started-k w ↦ held_none _ _ l.loop-i.i _ o.ordinal-k.ensures x.result x.ensures l.loop-i.table
-            c.if-is_started-k.table l.loop-i.invariant.1 w.if-is_started-k.false w.table-is
+        | then-is_started-k w ↦ held_one _ _ c.loop-i.i _ c.ordinal-k.ensures x.result x.ensures c.loop-i.table
+            c.if-is_started-k.table c.loop-i.invariant.1 w.if-is_started-k.true w.table-is
+        | else-is_started-k w ↦ held_none _ _ c.loop-i.i _ c.ordinal-k.ensures x.result x.ensures c.loop-i.table
+            c.if-is_started-k.table c.loop-i.invariant.1 w.if-is_started-k.false w.table-is
       ],
     )

@@ -18,8 +18,7 @@ inside : (c : In-loop-k) → let a = c.args in
 inside c = omega (arith, c.loop-k-test.true, c.started-m.ensures)
 
 below : (c : In-loop-k) → c.loop-k.k < 128
-below c = let s = c in
-    omega (arith, inside c, started_le s.args.plan.now s.args.state.now, s.requires.plan.limits.nodes)
+below c = omega (arith, inside c, started_le c.args.plan.now c.args.state.now, c.requires.plan.limits.nodes)
 
 -- an element of the table, by its number
 held : (c : In-loop-k) → get_or c.holders-table.result (c.loop-k.k + 1) 0

@@ -16,10 +16,9 @@ loop-i-init c = (omega arith, (omega arith, refl))
 pub returns : goal.returns
 unfolding started_count
 returns c =
-    let l = c in
-    let a = l.args in
-    let e : l.loop-i.i ≡ node_count a.plan.now = omega arith in
-    l.loop-i.invariant.1.1 ∙ ap (λ (k : ℕ). count_below k (started_in a.plan.now a.state.now)) e
+    let a = c.args in
+    let e : c.loop-i.i ≡ node_count a.plan.now = omega arith in
+    c.loop-i.invariant.1.1 ∙ ap (λ (k : ℕ). count_below k (started_in a.plan.now a.state.now)) e
 
 pub nodes-n-requires : goal.nodes-n-requires
 nodes-n-requires c = c.requires.plan.limits.long
@@ -29,14 +28,14 @@ is_started-requires c = (omega arith, c.requires)
 
 pub loop-i-preserved : goal.loop-i-preserved
 loop-i-preserved c =
-    let l = c in
-    let s = l in
-    let q = started_in s.args.plan.now s.args.state.now in
+    let q = started_in c.args.plan.now c.args.state.now in
     let y = ap num c.is_started.ensures in
-    let e = count_more l.loop-i.i q in
+    let e = count_more c.loop-i.i q in
     elim c.if-is_started.branch [
-      | then-is_started w ↦ let k = ap num w.if-is_started.true
-          in (omega arith, (omega (arith, w.m-is), omega (arith, w.m-is, y, k)))
-      | else-is_started w ↦ let k = ap num
-          w.if-is_started.false in (omega arith, (omega (arith, w.m-is), omega (arith, w.m-is, y, k)))
+      | then-is_started w ↦
+          let k = ap num w.if-is_started.true in
+          (omega arith, (omega (arith, w.m-is), omega (arith, w.m-is, y, k)))
+      | else-is_started w ↦
+          let k = ap num w.if-is_started.false in
+          (omega arith, (omega (arith, w.m-is), omega (arith, w.m-is, y, k)))
     ]
