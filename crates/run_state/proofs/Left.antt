@@ -13,6 +13,7 @@ module _ (b xs s : List ℕ) where
   unfolding fresh_state
   fresh_refused n = rw (ne_eqb (room_refusal_under b xs s) 0 n)
 
-  pub fresh_accepted : room_refusal_under b xs s ≡ 0 → overlay (fresh_byte b) (8 + 3 * node_count b) s ≡ fresh_state b xs s
+  pub fresh_accepted : room_refusal_under b xs s ≡ 0
+      → overlay (fresh_byte b) (8 + 3 * node_count b) s ≡ fresh_state b xs s
   unfolding fresh_state
   fresh_accepted e = rw (eq-eqb (room_refusal_under b xs s) 0 e)

@@ -60,7 +60,8 @@ module _ (b : List ℕ) (n : ℕ) where
 
   pub moves_node : moves b n ≡ true → n < node_count b
   unfolding moves
-  moves_node y = ⊎_elim (λ x. (kind_is b n 0 x).0) (λ x. (kind_is b n 3 x).0) (or_split (is_kind b n 0) (is_kind b n 3) y)
+  moves_node y = ⊎_elim (λ x. (kind_is b n 0 x).0) (λ x. (kind_is b n 3 x).0)
+      (or_split (is_kind b n 0) (is_kind b n 3) y)
 
 module _ (b s : List ℕ) (ok : state_refusal b s ≡ 0) where
   pub has_room : Roomy b s

@@ -115,7 +115,8 @@ module _ (b xs s : List ℕ) where
   node_in n l h = rw (h.is n l) (turned (bad_byte b s n) _ (stray_ordinal b s n))
 
   pub bad_parts : {table : List ℕ} → Standing b (listed xs) table → (x y z : Bool) → x ≡ any_below 64 (bad_flag b s)
-      → y ≡ any_below (node_count b) (bad_node_in b table s) → z ≡ misnumbered b s → (x || y || z) ≡ malformed_under b xs s
+      → y ≡ any_below (node_count b) (bad_node_in b table s) → z ≡ misnumbered b s
+      → (x || y || z) ≡ malformed_under b xs s
   unfolding malformed_under
   bad_parts {table} h x y z ex ey ez = rw (ex, ey, ez, some_same (node_count b) (bad_node_in b table s) _ at)
     where

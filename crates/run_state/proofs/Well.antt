@@ -26,9 +26,11 @@ module _ (b xs s : List ℕ) where
   pub well_under : malformed_under b xs s ≡ false → WellUnder
   unfolding malformed_under bad_node
   well_under e =
-      let v = or_none (any_below 64 (bad_flag b s) || any_below (node_count b) (λ n. bad_node b s n || bad_absent b xs s n))
+      let v = or_none (any_below 64 (bad_flag b s) || any_below (node_count b)
+      (λ n. bad_node b s n || bad_absent b xs s n))
       (misnumbered b s) e in
-      let w = or_none (any_below 64 (bad_flag b s)) (any_below (node_count b) (λ n. bad_node b s n || bad_absent b xs s n))
+      let w = or_none (any_below 64 (bad_flag b s))
+      (any_below (node_count b) (λ n. bad_node b s n || bad_absent b xs s n))
       v.0 in
       let node : (n : ℕ) → n < node_count b → (bad_node b s n ≡ false) × (bad_absent b xs s n ≡ false) =
       λ n l. or_none (bad_node b s n) (bad_absent b xs s n) (none_at (node_count b) _ w.1 n l) in

@@ -33,7 +33,8 @@ bad_absent b xs s n = not ((plan_under b xs).tree.here n) && not (eqb (node_byte
 
 unfoldable pub malformed_under : List ℕ → List ℕ → List ℕ → Bool
 malformed_under b xs s =
-    any_below 64 (bad_flag b s) || any_below (node_count b) (λ n. bad_node b s n || bad_absent b xs s n) || misnumbered b s
+    any_below 64 (bad_flag b s) || any_below (node_count b) (λ n. bad_node b s n || bad_absent b xs s n)
+    || misnumbered b s
 
 -- refusals 1 to 14, 28, 29 and 15
 unfoldable pub room_refusal_under : List ℕ → List ℕ → List ℕ → ℕ
