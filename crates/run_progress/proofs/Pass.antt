@@ -58,7 +58,8 @@ module _ (k : Tally) (b s : List ℕ) (ok : state_refusal b s ≡ 0) where
 
   not_counted : (g c : ℕ) → c ≤ g → counted_child k b s g c ≡ false
   unfolding counted_child
-  not_counted g c l = not_passed _ (λ y. omega (arith, lower g c (and_both (is_child b g c) (counted_at k b s g c) y).0))
+  not_counted g c l = not_passed _
+      (λ y. omega (arith, lower g c (and_both (is_child b g c) (counted_at k b s g c) y).0))
 
   from_back : (m g : ℕ) → m ≤ node_count b → node_count b ≤ g + 1 + m → part k b s m g ≡ children_counted k b s g
   unfolding part children_counted
@@ -108,7 +109,8 @@ module _ (k : Tally) (b s : List ℕ) (g c : ℕ) where
   unfolding counted_at
   at_begun e = rw e
 
-  pub at_ends_all : k ≡ Ends → is_kind b g 1 ≡ true → not (complete_b (plan_of b) (status_in b s) c) ≡ counted_at k b s g c
+  pub at_ends_all : k ≡ Ends → is_kind b g 1 ≡ true
+      → not (complete_b (plan_of b) (status_in b s) c) ≡ counted_at k b s g c
   unfolding counted_at same_b
   at_ends_all e q = rw (e, q)
 

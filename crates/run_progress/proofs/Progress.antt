@@ -66,7 +66,8 @@ module _ (b s : List ℕ) (ok : state_refusal b s ≡ 0) (n : ℕ) (l : n < node
       let x = and_both (is_child b n w.0) (counted_at k b s n w.0) w.2 in
       (w.0, is_child_lem b n w.0 x.0, x.1)
 
-  child_counted : (k : Tally) (c : ℕ) → Child (plan_of b) n c → counted_at k b s n c ≡ true → children_counted k b s n ≡ 0
+  child_counted : (k : Tally) (c : ℕ) → Child (plan_of b) n c → counted_at k b s n c ≡ true
+      → children_counted k b s n ≡ 0
       → ⊥
   unfolding children_counted counted_child
   child_counted k c h e z =

@@ -19,7 +19,7 @@ use tables::{Nodes, no_nodes};
 
 // Which children of a group are counted: those that are begun; or, for an all-of group those that are not complete, for
 // another the complete ones.
-#[derive(Drop)]
+#[derive(Clone, Copy)]
 pub enum Tally {
     Begun,
     Ends,

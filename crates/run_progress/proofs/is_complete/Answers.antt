@@ -1,0 +1,46 @@
+-- `run_progress::is_complete` meets its contract. Assumes nothing.
+use mathlib.Core.Path.{sym, ap, ◌∙◌}
+use mathlib.Core.Bool.{not, ◌||◌}
+use Prim.Native.Nat.{ℕ, ◌<◌}
+use lib.Dec.{eqb}
+use Rattle.plan_check.proofs.Meaning.{kind_is}
+use Rattle.plan_check.proofs.Nodes.{other_kind}
+use Rattle.run_starts.specs.Starts.{node_byte}
+use Rattle.run_state.proofs.Passed.{has_room, node_small, byte_inside}
+use Rattle.run_progress.proofs.Progress.{all_complete, other_complete}
+use native.Mathlib.Omega.{arith}
+use Rattle.run_progress.proofs.is_complete.Goals as goal
+use Rattle.run_progress.proofs.is_complete.Goals.{Start}
+
+small : (c : Start) → c.args.n < 128
+small c = node_small _ _ c.requires.1.0 _ c.requires.0
+
+pub returns-then-is_kind : goal.returns-then-is_kind
+returns-then-is_kind c =
+    ap (λ (x : ℕ). eqb x 0) c.requires.1.1
+    ∙ all_complete c.args.plan.now c.args.state.now c.requires.1.0 c.args.n c.requires.0
+    (kind_is _ _ 1 (sym c.is_kind.ensures ∙ c.if-is_kind.true)).1
+
+pub overflow_add-result : goal.overflow_add-result
+overflow_add-result c = omega (arith, small (goal.at.overflow_add-result c).Start)
+
+pub bounds-state-n : goal.bounds-state-n
+bounds-state-n c = byte_inside _ _ c.requires.1.0 _ c.requires.0
+
+pub returns : goal.returns
+unfolding node_byte
+returns c =
+    let b = c.args.plan.now in
+    let n = c.args.n in
+    ap (λ (x : ℕ). not (eqb x 0) || eqb (node_byte c.args.state.now n) 2) c.requires.1.1
+    ∙ other_complete b c.args.state.now c.requires.1.0 n c.requires.0
+    (other_kind b n 1 c.requires.0 (sym c.is_kind.ensures ∙ c.if-is_kind.false))
+
+pub is_kind-requires : goal.is_kind-requires
+is_kind-requires c = (has_room _ _ c.requires.1.0).plan.fits
+
+pub bounds-ends-n : goal.bounds-ends-n
+bounds-ends-n c = small (goal.at.bounds-ends-n c).Start
+
+pub bounds-ends-n-2 : goal.bounds-ends-n-2
+bounds-ends-n-2 c = small (goal.at.bounds-ends-n-2 c).Start
