@@ -33,7 +33,8 @@ pub broken_turn : (b s clear set : List ℕ) (M : ℕ → Bool) (i node f : ℕ)
 unfolding broken_at node_byte
 broken_turn b s clear set M i node f sign kept o m d en eo em ef es ek ed = rw (ed, ek, eo, em, en, ef, es)
 
-pub kept_set : (clear set : List ℕ) (f : ℕ) (sign : Bool) → sign ≡ true → flag_in set f ≡ flag_in (cond sign set clear) f
+pub kept_set : (clear set : List ℕ) (f : ℕ) (sign : Bool) → sign ≡ true
+    → flag_in set f ≡ flag_in (cond sign set clear) f
 kept_set clear set f sign y = rw y
 
 pub kept_clear : (clear set : List ℕ) (f : ℕ) (sign : Bool) → sign ≡ false

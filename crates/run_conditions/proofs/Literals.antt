@@ -47,7 +47,8 @@ module _ (b : List ℕ) (q : ℕ) (M : ℕ → Bool) where
   length_literals zero bytes = refl
   length_literals (suc k) bytes =
       ⊎_elim
-      (λ (y : is_of b q M k ≡ true). rw y (length_literals k _ ∙ length_with bytes (flag_of (cond_value b k)) (set_at b k)))
+      (λ (y : is_of b q M k ≡ true). rw y (length_literals k _
+      ∙ length_with bytes (flag_of (cond_value b k)) (set_at b k)))
       (λ (y : is_of b q M k ≡ false). rw y (length_literals k bytes))
       (either (is_of b q M k))
 
@@ -100,8 +101,8 @@ module _ (b : List ℕ) (q : ℕ) (M : ℕ → Bool) where
         (λ z.
         ⊎_elim
         (λ (y : is_of b q M k ≡ true). rw y
-        (literals_same k j _ (omega (arith, length_with bytes (flag_of (cond_value b k)) (set_at b k))) (omega arith) o e
-        (λ i m. h i (omega arith))))
+        (literals_same k j _ (omega (arith, length_with bytes (flag_of (cond_value b k)) (set_at b k)))
+        (omega arith) o e (λ i m. h i (omega arith))))
         (λ (y : is_of b q M k ≡ false). rw y
         (literals_same k j bytes long (omega arith) o e (λ i m. h i (omega arith))))
         (either (is_of b q M k)))

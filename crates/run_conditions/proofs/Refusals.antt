@@ -20,7 +20,8 @@ use Rattle.runs.proofs.Searches.{found_at, some_yes}
 use Rattle.plan_check.specs.Meaning.{plan_of, sign_in}
 use Rattle.runs.specs.Plan.{Place, pre, inc, post, place_number}
 use Rattle.runs.specs.Execution.{Event, start, node_of, asserts, running}
-use Rattle.runs.specs.Calls.{together, finishes, Rising, fresh, happen_all, inc_broken, PreUnmet, IncBroken, PostOpposed}
+use Rattle.runs.specs.Calls.{together, finishes, Rising, fresh, happen_all, inc_broken, PreUnmet, IncBroken}
+use Rattle.runs.specs.Calls.{PostOpposed}
 use Rattle.runs.specs.Tests.{same_b}
 use Rattle.runs.specs.Searches.{any_below, listed}
 use Rattle.runs.specs.Model.Monitor.{pre_unmet_b, inc_broken_b, post_opposed_b, applies_b}
@@ -136,7 +137,8 @@ module _ (b s : List ℕ) (ok : state_refusal b s ≡ 0) where
           let f = flag_of (cond_value b i) in
           let v = set_at b i in
           let x3 = and_both (eqb (place_of (cond_value b i)) 1 && not (M (cond_node b i))
-          && eqb (node_byte s (cond_node b i)) 1) (not (same_b v (flag_in (cond v (after true) (after false)) f))) w.2 in
+          && eqb (node_byte s (cond_node b i)) 1)
+          (not (same_b v (flag_in (cond v (after true) (after false)) f))) w.2 in
           let x2 = and_both (eqb (place_of (cond_value b i)) 1 && not (M (cond_node b i)))
           (eqb (node_byte s (cond_node b i)) 1) x3.0 in
           let x1 = and_both (eqb (place_of (cond_value b i)) 1) (not (M (cond_node b i))) x2.0 in

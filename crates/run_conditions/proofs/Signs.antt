@@ -44,10 +44,12 @@ pub set_of : (b : List ℕ) (q : ℕ) (M : ℕ → Bool) (i : ℕ) → M (cond_n
 unfolding is_of
 set_of b q M i n p = and_of (M (cond_node b i)) (eqb (place_of (cond_value b i)) q) n (eq-eqb _ _ p)
 
-pub of_is : (b : List ℕ) (q t i : ℕ) → is_of b q (only t) i ≡ true → (cond_node b i ≡ t) × (place_of (cond_value b i) ≡ q)
+pub of_is : (b : List ℕ) (q t i : ℕ) → is_of b q (only t) i ≡ true
+    → (cond_node b i ≡ t) × (place_of (cond_value b i) ≡ q)
 of_is b q t i y = let w = of_set b q (only t) i y in (eqb-true _ _ w.0, w.1)
 
-pub is_of_lem : (b : List ℕ) (q t i : ℕ) → cond_node b i ≡ t → place_of (cond_value b i) ≡ q → is_of b q (only t) i ≡ true
+pub is_of_lem : (b : List ℕ) (q t i : ℕ) → cond_node b i ≡ t → place_of (cond_value b i) ≡ q
+    → is_of b q (only t) i ≡ true
 is_of_lem b q t i n p = set_of b q (only t) i (eq-eqb _ _ n) p
 
 one_sign : {o : Option Bool} {x y : Bool} → o ≡ some x → o ≡ some y → x ≡ y

@@ -111,7 +111,7 @@ pub fn unmet(plan: &[u8], place: u16, tasks: &Nodes, flags: Flags) -> bool
 }
 
 // What an event makes of flags that are all clear, and of flags that are all set.
-#[derive(Drop)]
+#[derive(Clone, Copy)]
 struct Images {
     clear: Flags,
     set: Flags,
