@@ -52,7 +52,8 @@ module _ (b s : List ℕ) (g n : ℕ) where
   no_choice y = rw y
 
 module _ (b s : List ℕ) (ok : state_refusal b s ≡ 0) where
-  begins : (n : ℕ) → n < node_count b → Reflects (begun_b (plan_of b) (status_in b s) n) (Begun (plan_of b) (status_in b s) n)
+  begins : (n : ℕ) → n < node_count b
+      → Reflects (begun_b (plan_of b) (status_in b s) n) (Begun (plan_of b) (status_in b s) n)
   begins n l = r_begun (plan_of b) (well_formed b s ok) (status_in b s) n (is_node b n l)
 
   -- the begun branches of g but for n
@@ -104,7 +105,8 @@ module _ (b s : List ℕ) (ok : state_refusal b s ≡ 0) where
             (T_true _ ((begins c l).from x)))),
       ))
 
-  rival_at_lem : (g n : ℕ) → Picks ((plan_of b).tree.kind g) → Child (plan_of b) g n → Rival (plan_of b) (status_in b s) g n
+  rival_at_lem : (g n : ℕ) → Picks ((plan_of b).tree.kind g) → Child (plan_of b) g n
+      → Rival (plan_of b) (status_in b s) g n
       → rival_at b s g n ≡ true
   unfolding rival_at
   rival_at_lem g n x h r = rw no (at (rival_from g n h r))
@@ -132,7 +134,8 @@ module _ (b s : List ℕ) (ok : state_refusal b s ≡ 0) where
         r : Clean b
         r = (has_room b s ok).plan
 
-    pub rival_here : {t : ℕ} → Under (plan_of b) n t → rival_at b s g n ≡ true → BranchBegun (plan_of b) (status_in b s) t
+    pub rival_here : {t : ℕ} → Under (plan_of b) n t → rival_at b s g n ≡ true
+        → BranchBegun (plan_of b) (status_in b s) t
     unfolding rival_at
     rival_here u y =
         let x = ltb (num (begun_b (plan_of b) (status_in b s) n)) (children_counted tallies.Begun b s g) in
@@ -170,10 +173,12 @@ module _ (b s : List ℕ) (ok : state_refusal b s ≡ 0) where
   pub none_at_root : BranchBegun (plan_of b) (status_in b s) 0 → ⊥
   none_at_root x = omega (arith, x.own_child.not_root, under_le (plan_of b) (well_formed b s ok) x.above)
 
-  branches : (t : ℕ) → Reflects (branch_begun_b (plan_of b) (status_in b s) t) (BranchBegun (plan_of b) (status_in b s) t)
+  branches : (t : ℕ) → Reflects (branch_begun_b (plan_of b) (status_in b s) t)
+      (BranchBegun (plan_of b) (status_in b s) t)
   branches t = r_branch_begun (plan_of b) (well_formed b s ok) (status_in b s) t
 
-  pub begun_yes : (t : ℕ) → BranchBegun (plan_of b) (status_in b s) t → true ≡ branch_begun_b (plan_of b) (status_in b s) t
+  pub begun_yes : (t : ℕ) → BranchBegun (plan_of b) (status_in b s) t
+      → true ≡ branch_begun_b (plan_of b) (status_in b s) t
   begun_yes t x = sym (T_true _ ((branches t).from x))
 
   pub begun_no : (t : ℕ) → (BranchBegun (plan_of b) (status_in b s) t → ⊥)

@@ -63,7 +63,8 @@ module _ (b s : List ℕ) (ok : state_refusal b s ≡ 0) (t : ℕ) (marks : List
   open_to y =
       let w = found_at (order_count b) (open_at b s marks) (T_true _ y) in
       let j = w.0 in
-      let x = and_both (eqb (get_or marks (later_of b j) 0) 1) (not (complete_b (plan_of b) (status_in b s) (earlier_of b j)))
+      let x = and_both (eqb (get_or marks (later_of b j) 0) 1)
+      (not (complete_b (plan_of b) (status_in b s) (earlier_of b j)))
       w.2 in
       let n = order_nodes b accepted j w.1 in
       let u = one_num (under_b (plan_of b) (later_of b j) t)

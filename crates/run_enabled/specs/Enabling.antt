@@ -16,4 +16,5 @@ rival_at b s g n = not (is_kind b g 1)
 
 -- the later node of order j is marked, and its earlier node is not complete
 unfoldable pub open_at : List ℕ → List ℕ → List ℕ → ℕ → Bool
-open_at b s marks j = eqb (get_or marks (later_of b j) 0) 1 && not (complete_b (plan_of b) (status_in b s) (earlier_of b j))
+open_at b s marks j = eqb (get_or marks (later_of b j) 0) 1
+    && not (complete_b (plan_of b) (status_in b s) (earlier_of b j))
