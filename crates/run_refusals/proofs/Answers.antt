@@ -18,7 +18,8 @@ use Rattle.runs.specs.Plan.{optional, itself}
 use Rattle.runs.specs.Numbers.{kind_number, status_byte}
 use Rattle.runs.specs.Execution.{waiting, running, Status-discrete, Event, start, finish, skip, node_of}
 use Rattle.runs.specs.Calls.{Call, one, checks, asks}
-use Rattle.runs.specs.Model.Monitor.{returned, first_of, refusal_number, applies_b, task_b, optional_b, status_b, begun_b}
+use Rattle.runs.specs.Model.Monitor.{returned, first_of, refusal_number, applies_b, task_b, optional_b, status_b}
+use Rattle.runs.specs.Model.Monitor.{begun_b}
 use Rattle.runs.specs.Model.Monitor.{wrong_status_b, branch_begun_b, order_open_b, pre_unmet_b, inc_broken_b}
 use Rattle.plan_blocked.specs.Inner.{Standing}
 use Rattle.plan_blocked.proofs.Refused.{blocks}
@@ -70,7 +71,8 @@ module _ (b xs s : List ℕ) (under : state_refusal_under b xs s ≡ 0) where
   unfolding first_of tested_b applies_b world_of negate tree_refusal begin_refusal stood
   chain_of (start t) x = by_table (one (start t)) ∙ start_chain (not (task_b (plan_of b) t))
       (not (status_b (status_in b s t) waiting))
-      (or (not (stood t)) (λ u. branch_begun_b (plan_of b) (status_in b s) t)) (order_open_b (plan_of b) (status_in b s) t)
+      (or (not (stood t)) (λ u. branch_begun_b (plan_of b) (status_in b s) t))
+      (order_open_b (plan_of b) (status_in b s) t)
       (pre_unmet_b (plan_of b) (flag_shown s) (start t)) (inc_broken_b (plan_of b) (status_in b s) (start t))
   chain_of (finish t) x =
       by_table (one (finish t)) ∙ finish_chain (not (task_b (plan_of b) t)) (not (status_b (status_in b s t) running))
@@ -136,7 +138,8 @@ module _ (b xs s : List ℕ) (under : state_refusal_under b xs s ≡ 0) where
     unfolding first_of tested_b applies_b world_of negate tree_refusal stood
     skips = by_table (one (skip g))
         ∙ skip_chain (not (optional_b (plan_of b) g)) (wrong_status_b (plan_of b) (status_in b s) (skip g))
-        (or (not (stood g)) (λ u. branch_begun_b (plan_of b) (status_in b s) g)) (order_open_b (plan_of b) (status_in b s) g)
+        (or (not (stood g)) (λ u. branch_begun_b (plan_of b) (status_in b s) g))
+        (order_open_b (plan_of b) (status_in b s) g)
         ∙ rw (optional_is b s ok g)
 
     pub skip_27 : is_kind b g 3 ≡ false → 27 ≡ event_refusal b xs s (skip g)
@@ -185,7 +188,8 @@ module _ (b xs s : List ℕ) (under : state_refusal_under b xs s ≡ 0) where
             (record { who = g; moves = shown_moves b s ok g q; beneath = itself; begun = q }))) ∙ x))
 
   -- ---- an accepted event: its node is of the kind that it moves, and has the byte that it asks for
-  pub accepted_kind : (e : Event) → event_refusal b xs s e ≡ 0 → is_kind b (node_of e) (kind_number (event_kind e)) ≡ true
+  pub accepted_kind : (e : Event) → event_refusal b xs s e ≡ 0
+      → is_kind b (node_of e) (kind_number (event_kind e)) ≡ true
   accepted_kind (start t) z = answer_task t (start t) refl tt z
   accepted_kind (finish t) z = answer_task t (finish t) refl tt z
   accepted_kind (skip g) z = skip_optional g z

@@ -86,7 +86,8 @@ module _ (b table s : List ℕ) (t : ℕ) where
       → r ≡ begin_refusal b s (start t) (marked table t)
   unfolding begin_refusal
   begin_tree r q n =
-      q ∙ first_some (tree_refusal b s t (marked table t)) (cond (pre_unmet_b (plan_of b) (flag_shown s) (start t)) 21 0)
+      q ∙ first_some (tree_refusal b s t (marked table t))
+      (cond (pre_unmet_b (plan_of b) (flag_shown s) (start t)) 21 0)
       (λ z. n (q ∙ z))
 
   pub begin_unmet : tree_refusal b s t (marked table t) ≡ 0 → (z : Bool)
@@ -94,4 +95,5 @@ module _ (b table s : List ℕ) (t : ℕ) where
       → cond z 21 0 ≡ begin_refusal b s (start t) (marked table t)
   unfolding begin_refusal
   begin_unmet q z d = ap (λ (x : Bool). cond x 21 0) (sym d)
-      ∙ first_none (tree_refusal b s t (marked table t)) (cond (pre_unmet_b (plan_of b) (flag_shown s) (start t)) 21 0) q
+      ∙ first_none (tree_refusal b s t (marked table t)) (cond (pre_unmet_b (plan_of b) (flag_shown s) (start t)) 21 0)
+      q

@@ -62,7 +62,8 @@ module _ (b s : List ℕ) (ok : state_refusal b s ≡ 0) where
   -- the status of a task, by its byte
   pub status_is : (t : ℕ) → is_kind b t 0 ≡ true → (q : Status)
       → eqb (node_byte s t) (status_byte q) ≡ status_b (status_in b s t) q
-  status_is t y q = same_test _ _ (r_map (byte_is b s ok t (kind_is b t 0 y).0 q) (r_eq (node_byte s t) (status_byte q)))
+  status_is t y q = same_test _ _
+      (r_map (byte_is b s ok t (kind_is b t 0 y).0 q) (r_eq (node_byte s t) (status_byte q)))
       (r_status (status_in b s t) q)
 
   -- what an event asserts

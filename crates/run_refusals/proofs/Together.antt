@@ -15,7 +15,8 @@ use Rattle.plan_check.specs.Meaning.{plan_of}
 use Rattle.runs.specs.Plan.{post, place_number}
 use Rattle.runs.specs.Execution.{running}
 use Rattle.runs.specs.Calls.{together, Rising, no_task, wrong_status, inc_broken, not_rising, post_opposed}
-use Rattle.runs.specs.Model.Monitor.{first_of, or_else, refusal_number, applies_b, task_b, status_b, not_rising_b, post_opposed_b}
+use Rattle.runs.specs.Model.Monitor.{first_of, or_else, refusal_number, applies_b, task_b, status_b, not_rising_b}
+use Rattle.runs.specs.Model.Monitor.{post_opposed_b}
 use Rattle.runs.specs.Tests.{negate}
 use Rattle.runs.specs.Searches.{any_below, any_in, listed}
 use Rattle.runs.proofs.Reflect.{T_true}
@@ -61,7 +62,8 @@ module _ (b s : List ℕ) (ok : state_refusal b s ≡ 0) (ts : List ℕ) where
 
     -- 26, by what the function has at hand
     pub together_26 : (M : ℕ → Bool) → M ≡ listed ts → (next : List ℕ) → next ≡ made b (place_number post) M (take 8 s)
-        → (r : Bool) → r ≡ any_below (cond_count b) (unmet_at b (place_number post) M next) → r ≡ post_opposed_b (plan_of b) ts
+        → (r : Bool) → r ≡ any_below (cond_count b) (unmet_at b (place_number post) M next)
+        → r ≡ post_opposed_b (plan_of b) ts
     together_26 M m next n r h = rw (n, m) at h ∙ opposed_is b s ok ts is_rising
 
   module _ (z : any_in ts unfit ≡ false) where

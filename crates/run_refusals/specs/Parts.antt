@@ -15,6 +15,7 @@ tree_refusal b s t v = cond (either (negate v) (λ u. branch_begun_b (plan_of b)
 
 -- 19 to 21 of a start, 19 and 20 of a skip; none of them is asked of a finish
 unfoldable pub begin_refusal : List ℕ → List ℕ → Event → Bool → ℕ
-begin_refusal b s (start t) v = first (tree_refusal b s t v) (cond (pre_unmet_b (plan_of b) (flag_shown s) (start t)) 21 0)
+begin_refusal b s (start t) v =
+    first (tree_refusal b s t v) (cond (pre_unmet_b (plan_of b) (flag_shown s) (start t)) 21 0)
 begin_refusal b s (finish t) v = 0
 begin_refusal b s (skip g) v = tree_refusal b s g v

@@ -27,7 +27,7 @@ use run_tasks::{no_task, not_rising, not_running};
 use tables::Nodes;
 
 // How a call moves a task on.
-#[derive(Drop)]
+#[derive(Clone, Copy)]
 pub enum Move {
     Start,
     Finish,

@@ -1,7 +1,0 @@
--- `asserted_place` meets its contract. Assumes nothing.
-use Rattle.run_refusals.proofs.asserted_place.Statement.{statement}
-use Rattle.run_refusals.proofs.asserted_place.Tie as tie
-
-pub asserted_place_spec : {M : Type 1} → statement M
-asserted_place_spec = tie.close (tie.spec (λ c. c.match.keys1) (λ c. c.match.keys2)
-    (λ c. rw c.enum_told.given.1) (λ c. rw c.enum_told2.given.1))
