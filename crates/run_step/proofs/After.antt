@@ -25,7 +25,8 @@ use Rattle.run_starts.specs.Starts.{node_byte, ordinal_at, ordinal_in, started_i
 use Rattle.run_starts.specs.Inner.{with_ordinal}
 use Rattle.run_state.specs.State.{bad_flag, bad_byte, moves, status_in, flag_shown, ordinal_shown}
 use Rattle.run_state.specs.Inner.{state_refusal}
-use Rattle.run_state.proofs.Passed.{well_passed, has_room, is_well, status_of_lem, task_moves, optional_moves, moves_node}
+use Rattle.run_state.proofs.Passed.{well_passed, has_room, is_well, status_of_lem, task_moves, optional_moves}
+use Rattle.run_state.proofs.Passed.{moves_node}
 use Rattle.run_starts.proofs.Ordinals.{ordinal_length, ordinal_before, ordinal_past, ordinal_other, ordinal_own}
 use Rattle.run_starts.proofs.Numbering.{Numbering, start_numbering, same_numbering}
 use Rattle.run_refusals.specs.Inner.{event_place}
@@ -45,7 +46,8 @@ module _ (b : List ℕ) (k : ℕ) where
   start_length (finish t) z = refl
   start_length (skip g) z = refl
 
-  start_before : (e : Event) (z : List ℕ) (j : ℕ) → j < 8 + node_count b → get_or (with_start b k e z) j 0 ≡ get_or z j 0
+  start_before : (e : Event) (z : List ℕ) (j : ℕ) → j < 8 + node_count b
+      → get_or (with_start b k e z) j 0 ≡ get_or z j 0
   start_before (start t) z j l = ordinal_before b z t k j l
   start_before (finish t) z j l = refl
   start_before (skip g) z j l = refl
@@ -57,7 +59,8 @@ module _ (b : List ℕ) (k : ℕ) where
   start_past (skip g) z l room j h = refl
 
 -- the ordinals, by the number of starts before
-start_ordinal : (b z : List ℕ) (m : ℕ) (e : Event) → node_of e < node_count b → 8 + 3 * node_count b ≤ length z → (n : ℕ)
+start_ordinal : (b z : List ℕ) (m : ℕ) (e : Event) → node_of e < node_count b → 8 + 3 * node_count b ≤ length z
+    → (n : ℕ)
     → ordinal_in b (with_start b (suc m) e z) n ≡ numbered m (ordinal_in b z) e n
 start_ordinal b z m (start t) l room n =
     by_cases (ℕ_discrete n t)
@@ -164,7 +167,8 @@ module _ (b s : List ℕ) (ok : state_refusal b s ≡ 0) (e : Event) (fit : Fit 
   unfolding status_in
   shows_status n =
       by_cases (ℕ_discrete n (node_of e))
-      (λ (q : n ≡ node_of e). rw (eq-eqb n (node_of e) q, q, fit_moves b e fit, after_own) (status_of_lem (status_of e)))
+      (λ (q : n ≡ node_of e). rw (eq-eqb n (node_of e) q, q, fit_moves b e fit, after_own)
+      (status_of_lem (status_of e)))
       (λ q. rw (ne_eqb n (node_of e) q)
       (⊎_elim
       (λ (y : moves b n ≡ true). rw (y, after_other n (moves_node b n y) q))
@@ -197,7 +201,8 @@ module _ (b s : List ℕ) (ok : state_refusal b s ≡ 0) (e : Event) (fit : Fit 
       ∙ numbered_same (started_count b s) (ordinal_in b s) (ordinal_shown b s) e n (sym (o s)))
       (λ l.
       let o : (z : List ℕ) → ordinal_shown b z n ≡ 0 = λ z. rw (le-ltb n (node_count b) (omega arith)) in
-      o after ∙ sym (o s) ∙ sym (numbered_other (started_count b s) (ordinal_shown b s) e n (λ q. omega (arith, inside))))
+      o after ∙ sym (o s) ∙ sym (numbered_other (started_count b s) (ordinal_shown b s) e n
+      (λ q. omega (arith, inside))))
 
   -- ---- the state stays well formed
   after_started : started_in b after (node_of e) ≡ is_kind b (node_of e) 0
