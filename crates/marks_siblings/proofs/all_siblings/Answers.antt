@@ -10,30 +10,25 @@ loop-i-init c = (first_turn c.requires.0, λ p n g o hc. no_siblings g o hc refl
 
 pub bounds-kids-i : goal.bounds-kids-i
 bounds-kids-i c =
-    let l = c in
-    position_small l.requires.0 (position l.loop-i.invariant.0 c.loop-i-test.true)
+    position_small c.requires.0 (position c.loop-i.invariant.0 c.loop-i-test.true)
 
 pub with_sibling-s-requires : goal.with_sibling-s-requires
-with_sibling-s-requires c =
-    let l = c in
-    let s = l in (
-      s.requires.1,
-      kid_small s.requires.0 (position l.loop-i.invariant.0 c.loop-i-test.true)
-          c.wide.ensures.0,
-    )
+with_sibling-s-requires c = (
+  c.requires.1,
+  kid_small c.requires.0 (position c.loop-i.invariant.0 c.loop-i-test.true)
+      c.wide.ensures.0,
+)
 
 pub loop-i-preserved : goal.loop-i-preserved
 loop-i-preserved c =
-    let l = c in
-    let turn = l.loop-i.invariant.0 in
+    let turn = c.loop-i.invariant.0 in
     let test = c.loop-i-test.true in
     let e = c.wide.ensures.0 in (
       next_turn turn test,
       λ p n g o hc. with_sibling g o hc turn.low e (listed g.listed e (position turn test))
-          c.with_sibling-s.ensures (l.loop-i.invariant.1 p n g o hc),
+          c.with_sibling-s.ensures (c.loop-i.invariant.1 p n g o hc),
     )
 
 pub returns : goal.returns
-returns c = let l = c in
-    λ p n g o hc. all_siblings g o hc
-    (rw (last_turn l.loop-i.invariant.0 c.loop-i-test.false) at (l.loop-i.invariant.1 p n g o hc))
+returns c = λ p n g o hc. all_siblings g o hc
+    (rw (last_turn c.loop-i.invariant.0 c.loop-i-test.false) at (c.loop-i.invariant.1 p n g o hc))
