@@ -37,6 +37,7 @@ pub record Assessed (b xs : List ℕ) (a : Answer) : Type 0 where
   pub refused_29 : refusal b ≡ 0 → (said a ≡ inl 29) ↔ ((¬ Refused28 (plan_of b) xs) × Refused29 (plan_of b) xs)
   -- of an accepted plan and list: 01's words for each verdict, on what is left of the plan; CLEAR exactly if no call in
   -- any list returns 21, 22 or 26; DOOMED: the root is complete after no list
-  pub judged : refusal_under b xs ≡ 0 → (v : verdicts.Verdict) → (said a ≡ inr v) ↔ Judged (plan_under b xs) (start_of b) v
+  pub judged : refusal_under b xs ≡ 0 → (v : verdicts.Verdict)
+      → (said a ≡ inr v) ↔ Judged (plan_under b xs) (start_of b) v
   pub clear : refusal_under b xs ≡ 0 → (said a ≡ inr CLEAR) ↔ NeverViolates (plan_of b) (listed xs) (start_of b)
   pub doomed : refusal_under b xs ≡ 0 → said a ≡ inr DOOMED → NeverCompletes (plan_of b) (listed xs) (start_of b)

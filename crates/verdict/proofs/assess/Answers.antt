@@ -11,8 +11,9 @@ passed c = sym c.check_blocked-r.ensures.returns ∙ c.if-r-ne0.false
 
 pub returns : goal.returns
 returns c =
-    assessed _ _ c.judge.result (passed (goal.at.returns c).Else-r-ne0)
-    (c.judge.ensures _ (blocks _ _ (passed (goal.at.returns c).Else-r-ne0)) (c.check_blocked-r.ensures.standing c.if-r-ne0.false))
+    let p = passed (goal.at.returns c).Else-r-ne0 in
+    assessed _ _ c.judge.result p
+    (c.judge.ensures _ (blocks _ _ p) (c.check_blocked-r.ensures.standing c.if-r-ne0.false))
 
 pub check_blocked-r-requires : goal.check_blocked-r-requires
 check_blocked-r-requires c = c.all_nodes-standing.ensures

@@ -8,7 +8,8 @@ pub returns-then-failing-eq0 : goal.returns-then-failing-eq0
 returns-then-failing-eq0 c p F w l t s = judged_clear p w l F t s c.failing.ensures c.if-failing-eq0.true
 
 pub returns-then-failing-ne0 : goal.returns-then-failing-ne0
-returns-then-failing-ne0 c p F w l t s = judged_doomed p w l F t s (search rules) c.failing-2.ensures c.if-failing-ne0.true
+returns-then-failing-ne0 c p F w l t s =
+    judged_doomed p w l F t s (search rules) c.failing-2.ensures c.if-failing-ne0.true
 
 pub returns : goal.returns
 returns c p F w l t s =
