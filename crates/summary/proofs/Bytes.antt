@@ -91,7 +91,8 @@ module _ (b xs : List ℕ) (ok : refusal_under b xs ≡ 0) (n : ℕ) where
       rw (flag, sign, mark, sign_back v, mark_byte m)
 
   pub byte_tells : (out : List ℕ) → 16 * flag_count b ≤ length out → (f : ℕ) → f < flag_count b → (v : Bool) (m : Mark)
-      → Tells (get_or (overlay (summary_byte b xs n) (16 * flag_count b) out) (8 * (2 * f + sign_number v) + byte_of m) 0)
+      → Tells
+      (get_or (overlay (summary_byte b xs n) (16 * flag_count b) out) (8 * (2 * f + sign_number v) + byte_of m) 0)
       (MarkedUnder (plan_of b) (listed xs) n f v m)
   byte_tells out long f k v m =
       rw (
