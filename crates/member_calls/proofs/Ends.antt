@@ -88,7 +88,8 @@ module _ (b ms : List ℕ) (c : MemberCall) where
         ) (byte_shows c.joins))
         (λ k. rw (ne_eqb x c.node k, get_or-set_other ms c.node x (num c.joins) 0 k) refl))
 
-    pub as_judged : inr (verdict (members_of (plan_of b) (changed (member_in b ms) c)) (start_of b)) ≡ member_return b ms c
+    pub as_judged : inr (verdict (members_of (plan_of b) (changed (member_in b ms) c)) (start_of b))
+        ≡ member_return b ms c
     unfolding member_return
     as_judged = answer_none _ _ z
 
