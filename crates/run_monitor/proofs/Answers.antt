@@ -40,7 +40,8 @@ module _ (b xs s : List ℕ) where
     left = under_well_formed b xs (list_passed b xs s under)
 
     -- the root of what is left is complete exactly if that of the whole plan is
-    root : Reflects (complete_b (plan_under b xs) (status_in b s) 0) (execution.Complete (plan_under b xs) (status_in b s) 0)
+    root : Reflects (complete_b (plan_under b xs) (status_in b s) 0)
+        (execution.Complete (plan_under b xs) (status_in b s) 0)
     root = r_complete (plan_under b xs) left (status_in b s) 0 left.root_node
 
     same : complete_b (plan_of b) (status_in b s) 0 ≡ complete_b (plan_under b xs) (status_in b s) 0

@@ -44,7 +44,8 @@ called b xs s c q h = record {
   later = λ i l. ap (λ (z : List ℕ). get_or z i 0) h ∙ (call_keeps b xs s c).later i l;
 }
 
-pub called_16 : (b xs s : List ℕ) (c : Call) (r : ℕ) → r ≡ state_refusal_under b xs s → (r ≡ 0 → ⊥) → Called b xs s c r s
+pub called_16 : (b xs s : List ℕ) (c : Call) (r : ℕ) → r ≡ state_refusal_under b xs s → (r ≡ 0 → ⊥)
+    → Called b xs s c r s
 called_16 b xs s c r q n = let w = refused_16 b xs s c (λ z. n (q ∙ z)) in called b xs s c (q ∙ w.0) w.1
 
 pub called_22 : (b xs s : List ℕ) (c : Call) → state_refusal_under b xs s ≡ 0 → (r : ℕ)

@@ -28,6 +28,7 @@ module _ (b xs s : List ℕ) (c : Call) where
     unfolding call_return call_state
     refused_22 n = (rw ok, rw (ok, ne_eqb (call_refusal b xs s c) 0 n))
 
-    pub accepted : call_refusal b xs s c ≡ 0 → (0 ≡ call_return b xs s c) × (after_all b s (events c) ≡ call_state b xs s c)
+    pub accepted : call_refusal b xs s c ≡ 0 → (0 ≡ call_return b xs s c)
+        × (after_all b s (events c) ≡ call_state b xs s c)
     unfolding call_return call_state
     accepted z = (rw (ok, z), rw (ok, z))

@@ -23,7 +23,8 @@ word_for true = COMPLETE
 word_for false = UNFINISHED
 
 unfoldable pub status_answer : List ℕ → List ℕ → List ℕ → ℕ ⊎ Word
-status_answer b xs s = refused_or (state_refusal_under b xs s) (word_for (complete_b (plan_under b xs) (status_in b s) 0))
+status_answer b xs s = refused_or (state_refusal_under b xs s)
+    (word_for (complete_b (plan_under b xs) (status_in b s) 0))
 
 -- what `status` answers with the list xs of blocked nodes: COMPLETE exactly if the state passes the checks up to 16 and
 -- shows the root complete, of what is left of the plan
