@@ -2,7 +2,8 @@
 -- with any numbers, refused calls anywhere among them, on any bytes that have room for a state.
 -- Its hypotheses are the relations that `fresh`, `start`, `finish`, `skip`, `finish_together`, `assess` and `status`
 -- promise; what it says comes from the plan and the calls alone.
-use Rattle.std.specs.Prelude.{ℕ, suc, ◌+◌, ◌*◌, ◌≤◌, ◌<◌, ◌≡◌, ◌≢◌, ◌⊎◌, ◌↔◌, true, false, List, [], ◌∷◌, ◌++◌, length, get_or}
+use Rattle.std.specs.Prelude.{ℕ, suc, ◌+◌, ◌*◌, ◌≤◌, ◌<◌, ◌≡◌, ◌≢◌, ◌⊎◌, ◌↔◌, true, false, List, [], ◌∷◌, ◌++◌, length}
+use Rattle.std.specs.Prelude.{get_or}
 use Rattle.std.proofs.Common.{inr}
 use Rattle.plan_format.specs.Format.{node_count, is_kind}
 use Rattle.plan_blocked.specs.Blocked.{plan_under, refusal_under}
