@@ -26,7 +26,9 @@ is_listing : (b : List ℕ) → refusal b ≡ 0 → IsListing b (text_of b)
 unfolding text_of first_line
 is_listing b e = record {
   verdict = model.verdict (plan_of b) (start_of b);
-  judged = (verdict_exact (plan_of b) (means_well_formed b e) (start_of b) (model.verdict (plan_of b) (start_of b))).0 refl;
+  judged =
+      let v = model.verdict (plan_of b) (start_of b) in
+      (verdict_exact (plan_of b) (means_well_formed b e) (start_of b) v).0 refl;
   len = length_of b;
   wait = wait_within b;
   longest = longest_wait b;

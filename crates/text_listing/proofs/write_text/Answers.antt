@@ -1,0 +1,51 @@
+-- `write_text` meets its contract. Assumes nothing.
+use mathlib.Core.Path.{ap}
+use Prim.Native.Nat.{ℕ}
+use lib.ListN.{length}
+use Rattle.plan_check.proofs.Accepted.{clean}
+use Rattle.verdict.specs.Verdict.{word_of}
+use Rattle.text_decimals.proofs.Written.{wrote_long, wrote_then, wrote_same}
+use Rattle.text_lines.specs.Model.{ending}
+use Rattle.text_listing.specs.Text.{letters}
+use Rattle.text_listing.proofs.Text.{letters_limit, root_limit, text_is}
+use native.Mathlib.Omega.{arith}
+use Rattle.text_listing.proofs.write_text.Goals as goal
+
+pub end_line-b-requires : goal.end_line-b-requires
+end_line-b-requires c =
+    let w = c.write_word-a.ensures in
+    omega (
+      arith,
+      c.requires.2,
+      w.next,
+      wrote_long w,
+      letters_limit (word_of c.args.verdict),
+      root_limit (clean _ c.requires.0),
+      ap (λ (x : ℕ). length (ending x)) c.longest_waits-root.ensures.1,
+    )
+
+pub write_lines-requires : goal.write_lines-requires
+write_lines-requires c =
+    let w = c.write_word-a.ensures in
+    let e = c.end_line-b.ensures in (
+      c.requires.0,
+      c.longest_waits-root.ensures.0,
+      c.rank-k.ensures.is,
+      omega (
+        arith,
+        c.requires.2,
+        w.next,
+        wrote_long w,
+        e.next,
+        wrote_long e,
+        letters_limit (word_of c.args.verdict),
+        root_limit (clean _ c.requires.0),
+        ap (λ (x : ℕ). length (ending x)) c.longest_waits-root.ensures.1,
+      ),
+    )
+
+pub returns : goal.returns
+returns c =
+    let word = wrote_same (ap letters c.requires.1) c.write_word-a.ensures in
+    let line = wrote_same (ap ending c.longest_waits-root.ensures.1) c.end_line-b.ensures in
+    wrote_same (text_is _) (wrote_then (wrote_then word line) c.write_lines.ensures)
