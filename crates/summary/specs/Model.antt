@@ -9,7 +9,8 @@ use Rattle.runs.specs.Model.Blocked.{marked_under_b}
 
 -- the mark of byte i: entry i / 8 is 2 f + sign, and its eight bytes are the marks
 unfoldable pub summary_byte : List ℕ → List ℕ → ℕ → ℕ → ℕ
-summary_byte b xs n i = cond (marked_under_b (plan_of b) (listed xs) n (i / 8 / 2) (eqb (i / 8 % 2) 1) (mark_at (i % 8))) 1 0
+summary_byte b xs n i =
+    cond (marked_under_b (plan_of b) (listed xs) n (i / 8 / 2) (eqb (i / 8 % 2) 1) (mark_at (i % 8))) 1 0
 
 -- the bytes after a call that returned r: accepted, the 2 V entries and then what was there; refused, all that was
 -- there
