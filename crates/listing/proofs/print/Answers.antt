@@ -1,0 +1,29 @@
+-- `print` meets its contract. Assumes nothing.
+use mathlib.Core.Path.{ap, ◌∙◌}
+use Prim.Native.Nat.{◌≤◌}
+use lib.ListN.{length}
+use Rattle.text_decimals.proofs.Written.{wrote_long, wrote_then, wrote_same}
+use Rattle.text_lines.proofs.Text.{ending_limit}
+use Rattle.listing.proofs.Printed.{refused_is}
+use Rattle.listing.proofs.Answers.{text_answered, refused_answered, prints}
+use native.Mathlib.Omega.{arith}
+use borrow.Author.Rules.{rules}
+use Rattle.listing.proofs.print.Goals as goal
+
+pub end_line-requires : goal.end_line-requires
+end_line-requires c =
+    let l : 2048 ≤ length c.args.out.now = search rules in
+    let w = refused_answered _ _ l c.in-Refused.ensures in
+    let b = c.write_bytes-a.ensures in
+    omega (arith, l, b.next, wrote_long b, ap length w.2, ending_limit c.in-Refused.n (omega (arith, w.0)))
+
+pub returns-in-Refused : goal.returns-in-Refused
+returns-in-Refused c =
+    let l : 2048 ≤ length c.args.out.now = search rules in
+    let w = refused_answered _ _ l c.in-Refused.ensures in
+    prints _ l (wrote_same (refused_is _ ∙ w.1) (wrote_then (rw w.2 at c.write_bytes-a.ensures) c.end_line.ensures))
+
+pub returns-in-Length : goal.returns-in-Length
+returns-in-Length c =
+    let l : 2048 ≤ length c.args.out.now = search rules in
+    prints _ l (text_answered _ _ c.in-Length.ensures)
