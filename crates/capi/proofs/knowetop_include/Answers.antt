@@ -1,0 +1,6 @@
+-- `knowetop_include` meets its contract. Assumes nothing.
+use Rattle.capi.proofs.Members.{member_told}
+use Rattle.capi.proofs.knowetop_include.Goals as goal
+
+pub returns : goal.returns
+returns c = member_told c.include-answer.ensures c.verdict_number.ensures

@@ -1,0 +1,6 @@
+-- `knowetop_verdict` meets its contract. Assumes nothing.
+use Rattle.capi.proofs.Told.{verdict_told}
+use Rattle.capi.proofs.knowetop_verdict.Goals as goal
+
+pub returns : goal.returns
+returns c = verdict_told _ _ _ c.assess-answer.ensures c.verdict_number.ensures
