@@ -3,7 +3,7 @@
 
 usage: tools/port_names.py [ROOT]
 
-Run once, after /opt/rattle/port/port.py, in the repository or in ROOT. A row of the table is: the old name, a tab, the
+Run once, after port.py of the toolchain, in the repository or in ROOT. A row of the table is: the old name, a tab, the
 new name, and, where the row holds in some files alone, a tab and those files' beginnings, joined by commas. In .antt
 files the code, code spans of comments and bare words without a dash turn; in .rt files and in must-fail edits the same
 words; in pages (.md) only code spans and code blocks. Strings stay. A name that a library declares stays in each file
