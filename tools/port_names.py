@@ -6,8 +6,9 @@ usage: tools/port_names.py [ROOT]
 Run once, after port.py of the toolchain, in the repository or in ROOT. A row of the table is: the old name, a tab, the
 new name, and, where the row holds in some files alone, a tab and those files' beginnings, joined by commas. In .antt
 files the code, code spans of comments and bare words without a dash turn; in .rt files and in must-fail edits the same
-words; in pages (.md) only code spans and code blocks. Strings stay. A name that a library declares stays in each file
-that imports it from there.
+words; in pages (.md) only code spans and code blocks, but for the names of samples. Strings stay, and so do the pages
+of samples/, whose plans have words of their own. A name that a library declares stays in each file that imports it
+from there.
 """
 
 import os
@@ -74,6 +75,8 @@ def turn_file(text, mark, names):
 
 
 def turn_page(text, names):
+    samples = {f.split(".")[0] for f in os.listdir(os.path.join(ROOT, "samples"))}
+    names = {old: new for old, new in names.items() if old not in samples}
     out, at = [], 0
     for m in re.finditer(FENCE.pattern + "|" + SPAN.pattern.replace(r"\1", r"\2"), text, re.M | re.S):
         out += [text[at : m.start()], turn(m[0], names)]
@@ -84,7 +87,7 @@ def turn_page(text, names):
 def main():
     table = rows()
     for folder, dirs, files in os.walk(ROOT):
-        dirs[:] = [d for d in dirs if d not in (".git", "out", "target", "tools", "reference")]
+        dirs[:] = [d for d in dirs if d not in (".git", "out", "target", "tools", "reference", "samples")]
         for f in files:
             full = os.path.join(folder, f)
             path = os.path.relpath(full, ROOT)
