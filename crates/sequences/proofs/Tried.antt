@@ -28,8 +28,8 @@ tasks k n o = record {
 abbrev free : ℕ → ℕ → Bool
 free a b = false
 
-abbrev A-then-Z : ℕ → ℕ → Bool
-A-then-Z a b = both (eqb a 1) (λ u. eqb b 2)
+abbrev a_then_z : ℕ → ℕ → Bool
+a_then_z a b = both (eqb a 1) (λ u. eqb b 2)
 
 abbrev clear : ℕ → Bool
 clear f = false
@@ -53,7 +53,7 @@ unfolding computing ahead_b serial_order
 verdicts = (refl, refl, refl)
 
 -- the plan's own order stands against it: 24
-no_sequence : sequence_of (tasks all_of 3 A-then-Z) clear ≡ inl 24
+no_sequence : sequence_of (tasks all_of 3 a_then_z) clear ≡ inl 24
 unfolding seeking
 no_sequence = refl
 
