@@ -1,2 +1,2 @@
--- What a call answers that writes.
-pub mod Written
+-- The causes for which calls are refused, by number.
+pub mod Refusals

@@ -1,7 +1,5 @@
-// Numbers and a conversion that many crates use.
+// Numbers that many crates use.
 #![tactic(auto)]
-
-ghost use Rattle.std.specs.Prelude.{◌≡◌, ◌<◌};
 
 pub mod kinds;
 pub mod places;
@@ -9,10 +7,3 @@ pub mod statuses;
 
 // The word with every bit set.
 pub const ALL: u64 = 18446744073709551615;
-
-// A byte as an index.
-pub fn wide(x: u8) -> usize
-    ensures { (result ≡ x) × (result < 256) }
-{
-    x as usize
-}

@@ -10,7 +10,6 @@ ghost use Rattle.tables.specs.Sizes.{NODES};
 ghost use Rattle.marks_between.specs.Passing.{StandsBetween, Disturbs, InTheWay, LetsPass, PassingPart};
 ghost use Rattle.marks_between.specs.Passing.{PassingWord};
 
-use base::wide;
 use marks_row::columns::{ASSERTS, AVOID};
 use marks_row::{Rows, neither, word_at};
 use marks_siblings::narrowed;
@@ -115,7 +114,7 @@ fn passing_part(
         if left == 0 {
             return 0;
         }
-        let b = wide(kids[i]);
+        let b = usize::from(kids[i]);
         left = narrowed(
             left,
             in_the_way(order, always, b, passage),
@@ -142,7 +141,7 @@ pub fn passing(
 {
     let j = partners.at;
     let passage = Passage {
-        from: wide(kids[j]),
+        from: usize::from(kids[j]),
         to: partners.child,
     };
     let later = Segment {

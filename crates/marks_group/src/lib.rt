@@ -12,7 +12,7 @@ ghost use Rattle.marks_group.specs.Masks.{mask_of};
 ghost use Rattle.marks_group.specs.Empty.{with_empty};
 
 use base::kinds::OPTIONAL;
-use base::{ALL, wide};
+use base::ALL;
 use marks_row::columns::{AVOID, COVERED, END, MUST_INC};
 use marks_row::{COLUMNS, Rows, Words, word_at};
 use marks_siblings::{Siblings, all_siblings};
@@ -126,7 +126,7 @@ pub fn any_words(kind: u8, kids: &Nodes, segment: Segment, rows: &Rows) -> Words
     let mut words = start_words(every);
     let mut i = segment.start;
     while i < segment.end {
-        let next = merged(every, words, rows, wide(kids[i]), mask);
+        let next = merged(every, words, rows, usize::from(kids[i]), mask);
         words = next;
         i += 1;
     }
@@ -148,7 +148,7 @@ pub fn all_words(kids: &Nodes, segment: Segment, order: &Orders, rows: &Rows) ->
     let mut words = start_words(every);
     let mut i = segment.start;
     while i < segment.end {
-        let child = wide(kids[i]);
+        let child = usize::from(kids[i]);
         let mask = mask_words(all_siblings(kids, segment, order, rows, child));
         let next = merged(every, words, rows, child, mask);
         words = next;

@@ -5,7 +5,6 @@
 ghost use Rattle.tables.specs.Segments.{AtSegment};
 ghost use Rattle.marks_may_pairs.specs.Search.{SearchedTo, Search, AllPairs};
 
-use base::wide;
 use marks_between::Partners;
 use marks_pair::{Literals, next_partner, pair_words};
 use marks_row::Rows;
@@ -45,7 +44,7 @@ pub fn clobbering_pair(
     let mut i = cursor.child;
     let mut j = cursor.partner;
     'search: while i < segment.end {
-        let c = wide(kids[i]);
+        let c = usize::from(kids[i]);
         j = next_partner(rows, wanted, c, j, segment.end);
         while j < segment.end {
             let partners = Partners { child: c, at: j };

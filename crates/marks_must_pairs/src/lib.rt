@@ -8,7 +8,7 @@ ghost use Rattle.marks_between.specs.Passing.{PairWord};
 ghost use Rattle.tables.specs.Sizes.{NODES};
 ghost use Rattle.marks_must_pairs.specs.MustPairs.{MustPair, WithChildWord, MustPairsWord};
 
-use base::{ALL, wide};
+use base::ALL;
 use marks_between::{OfSign, Partners, ToPass, passing};
 use marks_row::{Rows, must_post, must_pre};
 use tables::codes::AFTER;
@@ -30,7 +30,7 @@ fn must_pair_word(
 {
     let c = partners.child;
     let j = partners.at;
-    let d = wide(kids[j]);
+    let d = usize::from(kids[j]);
     let sign = wanted.sign;
     if order[c * NODES + d] == AFTER {
         let shared = wanted.flags & (must_post(rows, d, 1 - sign) & must_pre(rows, c, sign));
@@ -92,7 +92,7 @@ pub fn must_pairs(kids: &Nodes, segment: Segment, order: &Orders, rows: &Rows, k
             sign: sign,
             flags: flags,
         };
-        flags = must_pairs_of(kids, segment, order, rows, found, wide(kids[i]));
+        flags = must_pairs_of(kids, segment, order, rows, found, usize::from(kids[i]));
         i += 1;
     }
     flags

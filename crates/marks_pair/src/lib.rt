@@ -8,7 +8,6 @@ ghost use Rattle.marks_between.specs.Passing.{PairWord};
 ghost use Rattle.tables.specs.Sizes.{NODES};
 ghost use Rattle.marks_pair.specs.Pairs.{Pair, PairWords, NextPartner};
 
-use base::wide;
 use marks_between::{OfSign, Partners, ToPass, passing};
 use marks_row::columns::{ASSERTS, MAY_POST, MAY_PRE, POSTS, REQUIRES};
 use marks_row::{Rows, word_at};
@@ -38,7 +37,7 @@ fn pair_word(
 {
     let c = partners.child;
     let j = partners.at;
-    let d = wide(kids[j]);
+    let d = usize::from(kids[j]);
     let sign = wanted.sign;
     if order[d * NODES + c] == BEFORE {
         let passed = word_at(rows, d, MAY_POST + (1 - sign)) & word_at(rows, c, MAY_PRE + sign);

@@ -7,7 +7,7 @@ ghost use Rattle.tables.specs.Segments.{AtSegment};
 ghost use Rattle.tables.specs.Sizes.{NODES};
 ghost use Rattle.marks_siblings.specs.Siblings.{Apart, Narrows, Narrowed, SiblingsOf};
 
-use base::{ALL, wide};
+use base::ALL;
 use marks_row::columns::{ASSERTS, AVOID, QUIET};
 use marks_row::{Rows, neither, word_at};
 use tables::codes::{AFTER, BEFORE};
@@ -104,7 +104,7 @@ pub fn all_siblings(
     };
     let mut i = segment.start;
     while i < segment.end {
-        s = with_sibling(order, rows, child, wide(kids[i]), s);
+        s = with_sibling(order, rows, child, usize::from(kids[i]), s);
         i += 1;
     }
     s

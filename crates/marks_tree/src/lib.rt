@@ -13,7 +13,6 @@ ghost use Rattle.marks_tree.specs.Clobbers.{AllOfRow, OpenLiterals, clobber_of, 
 ghost use Rattle.marks_tree.specs.Filled.{OfAny, ChildrenTo, Filled, TasksFilled, AllFilled, BelowFilled};
 
 use base::kinds::{ALL_OF, TASK};
-use base::wide;
 use marks_between::OfSign;
 use marks_group::{all_words, any_words};
 use marks_may_pairs::clobbering_pairs;
@@ -126,7 +125,7 @@ fn groups_under(
     let segment = children(from, node);
     let mut i = segment.start;
     while i < segment.end {
-        let child = wide(kids[i]);
+        let child = usize::from(kids[i]);
         group(kind, from, kids, order, rows, n, child);
         i += 1;
     }

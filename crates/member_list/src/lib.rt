@@ -12,7 +12,6 @@ ghost use Rattle.members.specs.Model.{outsider};
 ghost use Rattle.member_list.specs.Members.{member_in};
 ghost use Rattle.member_list.specs.Model.{bad_member, members_refusal};
 
-use base::wide;
 use plan_check::check;
 use plan_format::fields::{nodes, parent};
 use tables::{Nodes, no_nodes};
@@ -80,7 +79,7 @@ pub fn mark_members(plan: &[u8], members: &[u8]) -> Nodes
     standing[0] = 1;
     let mut c = 1;
     while c < n {
-        let g = wide(parent(plan, c));
+        let g = usize::from(parent(plan, c));
         if g == 0 {
             standing[c] = members[c];
         } else {

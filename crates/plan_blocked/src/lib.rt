@@ -12,7 +12,6 @@ ghost use Rattle.plan_blocked.specs.Inner.{Standing, ListChecked};
 ghost use Rattle.plan_blocked.specs.Branches.{WithBranch, emptied_at};
 
 use base::kinds::{ANY_OF, OPTIONAL};
-use base::wide;
 use node_sets::{mark_all, rises};
 use plan_check::check;
 use plan_format::fields::{is_kind, nodes, parent};
@@ -29,7 +28,7 @@ fn unblockable(plan: &[u8], s: usize) -> bool
     if nodes(plan) <= s {
         return true;
     }
-    let g = wide(parent(plan, s));
+    let g = usize::from(parent(plan, s));
     !(is_kind(plan, g, ANY_OF) | is_kind(plan, g, OPTIONAL))
 }
 
@@ -71,7 +70,7 @@ fn mark_standing(plan: &[u8], blocked: &Nodes, standing: &mut Nodes) -> Nodes
     let mut marks = no_nodes();
     let mut c = 1;
     while c < n {
-        let g = wide(parent(plan, c));
+        let g = usize::from(parent(plan, c));
         if (blocked[c] == 1) | (standing[g] != 1) {
             standing[c] = 0;
         } else {
@@ -87,7 +86,7 @@ fn emptied(plan: &[u8], standing: &Nodes, marks: &Nodes, s: usize) -> bool
     requires { (refusal plan.now ≡ 0) × ((0 < s) × (s < node_count plan.now)) }
     ensures { result ≡ emptied_at plan.now standing.now marks.now s }
 {
-    let g = wide(parent(plan, s));
+    let g = usize::from(parent(plan, s));
     (standing[g] == 1) & is_kind(plan, g, ANY_OF) & (marks[g] != 1)
 }
 

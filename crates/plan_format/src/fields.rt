@@ -7,19 +7,11 @@ ghost use Rattle.plan_format.specs.Whole.{Whole};
 
 use base::kinds::{ALL_OF, ANY_OF, OPTIONAL};
 
-fn wide(x: u8) -> u16
-    ensures { (result ≡ x) × (result < 256) }
-{
-    x as u16
-}
-
 pub fn u16_at(plan: &[u8], at: usize) -> u16
     requires { at + 1 < length plan.now }
     ensures { result ≡ u16_at plan.now at }
 {
-    let low = wide(plan[at]);
-    let high = wide(plan[at + 1]);
-    low + 256 * high
+    u16::from(plan[at]) + 256 * u16::from(plan[at + 1])
 }
 
 pub fn nodes(plan: &[u8]) -> usize

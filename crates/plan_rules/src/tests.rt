@@ -7,7 +7,6 @@ ghost use Rattle.plan_rules.specs.Rules.{bad_start, bad_char, bad_entry, bad_par
 ghost use Rattle.plan_rules.specs.Rules.{not_rising, is_child, bad_pair, bad_order};
 
 use base::kinds::{ALL_OF, OPTIONAL, TASK};
-use base::wide;
 use plan_codes::names::allowed;
 use plan_codes::value::value_bad;
 use plan_format::fields::{
@@ -42,7 +41,7 @@ pub fn bad_parent(plan: &[u8], n: usize) -> bool
     requires { (n < node_count plan.now) × Whole plan.now }
     ensures { result ≡ bad_parent plan.now n }
 {
-    let p = wide(parent(plan, n));
+    let p = usize::from(parent(plan, n));
     if n == 0 {
         return p != 255;
     }
@@ -53,7 +52,7 @@ pub fn bad_condition(plan: &[u8], i: usize) -> bool
     requires { (i < cond_count plan.now) × Whole plan.now }
     ensures { result ≡ bad_condition plan.now i }
 {
-    let task = is_kind(plan, wide(condition_node(plan, i)), TASK);
+    let task = is_kind(plan, usize::from(condition_node(plan, i)), TASK);
     !task | value_bad(condition_value(plan, i), flags(plan))
 }
 
@@ -97,7 +96,7 @@ fn is_child(plan: &[u8], g: usize, n: usize) -> bool
         return false;
     }
     if n < nodes(plan) {
-        return wide(parent(plan, n)) == g;
+        return usize::from(parent(plan, n)) == g;
     }
     false
 }
@@ -109,7 +108,7 @@ fn bad_pair(plan: &[u8], x: usize, y: usize) -> bool
     if nodes(plan) <= x {
         return true;
     }
-    let g = wide(parent(plan, x));
+    let g = usize::from(parent(plan, x));
     let siblings = is_kind(plan, g, ALL_OF) & is_child(plan, g, x) & is_child(plan, g, y);
     !siblings | !(x < y)
 }
@@ -118,5 +117,5 @@ pub fn bad_order(plan: &[u8], j: usize) -> bool
     requires { (j < order_count plan.now) × Whole plan.now }
     ensures { result ≡ bad_order plan.now j }
 {
-    bad_pair(plan, wide(earlier(plan, j)), wide(later(plan, j)))
+    bad_pair(plan, usize::from(earlier(plan, j)), usize::from(later(plan, j)))
 }

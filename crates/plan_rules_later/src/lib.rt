@@ -10,7 +10,6 @@ ghost use Rattle.plan_rules_later.specs.Passes.{child_step, sign_step, post_step
 ghost use Rattle.plan_rules_later.specs.Passes.{pass_cause};
 
 use base::places::{INC, POST};
-use base::wide;
 use plan_codes::value::{flag_of, place_of, sign_of};
 use plan_format::fields::{condition_node, condition_value, conditions, is_group, nodes, parent};
 
@@ -125,12 +124,12 @@ pub fn refuses(plan: &[u8], pass: Pass) -> bool
     let mut m = 0;
     while m < n {
         let s = step_at(plan, pass, n - 1 - m);
-        let found = table[wide(s.ask)] == s.mark;
+        let found = table[usize::from(s.ask)] == s.mark;
         if (s.needs & !found) | (s.bars & found) {
             return true;
         }
         if s.writes {
-            table[wide(s.at)] = s.mark;
+            table[usize::from(s.at)] = s.mark;
         }
         m += 1;
     }

@@ -16,7 +16,6 @@ ghost use Rattle.run_conditions.specs.Conditions.{unmet_at, broken_at};
 
 use base::places::INC;
 use base::statuses::RUNNING;
-use base::wide;
 use plan_codes::value::{flag_of, place_of, sign_of};
 use plan_format::fields::{condition_node, condition_value, conditions};
 use run_flags::Flags;
@@ -35,7 +34,7 @@ fn is_of(plan: &[u8], place: u16, tasks: &Nodes, i: usize) -> bool
     requires { (i < cond_count plan.now) × (refusal plan.now ≡ 0) }
     ensures { result ≡ is_of plan.now place (marked tasks.now) i }
 {
-    let node = wide(condition_node(plan, i));
+    let node = usize::from(condition_node(plan, i));
     if tasks[node] != 1 {
         return false;
     }
@@ -123,7 +122,7 @@ fn broken_at(plan: &[u8], state: &[u8], after: Images, tasks: &Nodes, i: usize) 
     ensures { result ≡ broken_at plan.now state.now after.clear.bytes after.set.bytes
         (marked tasks.now) i }
 {
-    let node = wide(condition_node(plan, i));
+    let node = usize::from(condition_node(plan, i));
     let f = flag_at(plan, i);
     let sign = set_at(plan, i);
     let kept = if sign {

@@ -19,7 +19,6 @@ ghost use Rattle.tables.specs.Sizes.{NODES};
 
 use base::kinds::ALL_OF;
 use base::statuses::DONE;
-use base::wide;
 use plan_format::fields::{earlier, is_kind, later, orders, parent};
 use run_progress::{is_begun, is_complete};
 use tables::{Nodes, no_nodes};
@@ -53,7 +52,7 @@ pub fn branch_begun(plan: &[u8], state: &[u8], begun: &Nodes, node: usize) -> bo
 {
     let mut n = node;
     while 0 < n {
-        let g = wide(parent(plan, n));
+        let g = usize::from(parent(plan, n));
         if rival_begun(plan, state, begun, g, n) {
             return true;
         }
@@ -72,7 +71,7 @@ pub fn path(plan: &[u8], node: usize) -> Nodes
     let mut n = node;
     marks[n] = 1;
     while 0 < n {
-        n = wide(parent(plan, n));
+        n = usize::from(parent(plan, n));
         marks[n] = 1;
     }
     marks
@@ -84,8 +83,8 @@ fn open_at(plan: &[u8], state: &[u8], ends: &Nodes, marks: &Nodes, j: usize) -> 
     requires counted { Counted Ends plan.now state.now ends.now }
     ensures { result ≡ open_at plan.now state.now marks.now j }
 {
-    let a = wide(earlier(plan, j));
-    let z = wide(later(plan, j));
+    let a = usize::from(earlier(plan, j));
+    let z = usize::from(later(plan, j));
     (marks[z] == 1) & !is_complete(plan, state, ends, a)
 }
 

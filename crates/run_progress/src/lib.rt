@@ -13,7 +13,6 @@ ghost use Rattle.tables.specs.Sizes.{NODES};
 
 use base::kinds::ALL_OF;
 use base::statuses::{DONE, WAITING};
-use base::wide;
 use plan_format::fields::{is_kind, nodes, parent};
 use tables::{Nodes, no_nodes};
 
@@ -85,7 +84,7 @@ pub fn children(plan: &[u8], state: &[u8], tally: Tally) -> Nodes
     let mut m = 0;
     while m + 1 < n {
         let c = n - 1 - m;
-        let g = wide(parent(plan, c));
+        let g = usize::from(parent(plan, c));
         let link = Link { parent: g, node: c };
         if is_counted(plan, state, tally, &table, link) {
             table[g] += 1;

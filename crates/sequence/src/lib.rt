@@ -9,7 +9,7 @@ ghost use Rattle.sequence.specs.Sequence.{Sequenced};
 ghost use Rattle.sequence.specs.Inner.{MaskOf, MasksOf, CalmIn, AnswersFrom, AnswersOf};
 
 use base::kinds::ALL_OF;
-use base::{ALL, wide};
+use base::ALL;
 use marks_row::columns::MAY_CLOBBER;
 use marks_row::{Rows, word_at};
 use marks_tree::rows_below;
@@ -37,12 +37,12 @@ fn before_mask(order: &Orders, kids: &Nodes, segment: Segment, i: usize) -> u64
     requires { InRange kids.now segment × (i < count segment) }
     ensures { MaskOf order.now kids.now segment i result }
 {
-    let later = wide(kids[segment.start + i]);
+    let later = usize::from(kids[segment.start + i]);
     let count = segment.end - segment.start;
     let mut mask = 0u64;
     let mut j = 0;
     while j < count {
-        let earlier = wide(kids[segment.start + j]);
+        let earlier = usize::from(kids[segment.start + j]);
         if order[earlier * NODES + later] == BEFORE {
             mask = mask | (1u64 << j);
         }
@@ -73,7 +73,7 @@ fn calm(rows: &Rows, kids: &Nodes, segment: Segment) -> bool
 {
     let mut i = segment.start;
     while i < segment.end {
-        let child = wide(kids[i]);
+        let child = usize::from(kids[i]);
         if word_at(rows, child, MAY_CLOBBER) | word_at(rows, child, MAY_CLOBBER + 1) != 0 {
             return false;
         }

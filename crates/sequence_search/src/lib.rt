@@ -5,7 +5,6 @@ ghost use Rattle.std.specs.Prelude.{◌≡◌, ◌<◌};
 ghost use Rattle.tables.specs.Sizes.{NODES};
 ghost use Rattle.sequence_search.specs.Search.{InRange, follows_b, after, Finds};
 
-use base::wide;
 use marks_row::columns::{AVOID, MAY_POST, MAY_PRE};
 use marks_row::{Rows, word_at};
 use tables::{Nodes, Segment};
@@ -83,7 +82,7 @@ pub fn search(rows: &Rows, kids: &Nodes, segment: Segment, before: &Masks, reach
     let mut i = 0;
     while i < count {
         let byte = kids[segment.start + i];
-        let child = wide(byte);
+        let child = usize::from(byte);
         let own = 1u64 << i;
         if may_follow(rows, child, before[i], own, reach) {
             let next = moved_on(rows, child, own, reach);

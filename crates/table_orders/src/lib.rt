@@ -8,7 +8,6 @@ ghost use Rattle.plan_rules.specs.Rules.{refusal};
 ghost use Rattle.table_orders.specs.Links.{Unlinked, Linked, Leading};
 ghost use Rattle.table_orders.specs.Among.{OrdersAmong};
 
-use base::wide;
 use plan_format::fields::{earlier, later, orders};
 use tables::codes::{AFTER, BEFORE};
 use tables::{NODES, Nodes, Orders};
@@ -55,8 +54,8 @@ pub fn fill_orders(plan: &[u8], standing: &Nodes, order: &mut Orders)
     let n = orders(plan);
     let mut i = 0;
     while i < n {
-        let a = wide(earlier(plan, i));
-        let b = wide(later(plan, i));
+        let a = usize::from(earlier(plan, i));
+        let b = usize::from(later(plan, i));
         if both_stand(standing, a, b) {
             link_all(order, a, b);
         }

@@ -8,7 +8,6 @@ ghost use Rattle.wait_lengths.specs.Waits.{length_of};
 ghost use Rattle.tables.specs.Sizes.{NODES};
 ghost use Rattle.wait_group.specs.Spread.{FirstOrder, Raised, GroupOf, Tables, ChildLengths, Spread};
 
-use base::wide;
 use plan_format::fields::{earlier, later, orders};
 use tables::{Nodes, Starts, Times, children};
 
@@ -28,7 +27,7 @@ fn first_order(plan: &[u8], c: usize) -> usize
     let mut high = orders(plan);
     while low < high {
         let middle = low + (high - low) / 2;
-        if wide(earlier(plan, middle)) < c {
+        if usize::from(earlier(plan, middle)) < c {
             low = middle + 1;
         } else {
             high = middle;
@@ -45,10 +44,10 @@ fn raise(plan: &[u8], waits: &mut Times, c: usize, end: u32)
     let k = orders(plan);
     let mut j = first_order(plan, c);
     while j < k {
-        if wide(earlier(plan, j)) != c {
+        if usize::from(earlier(plan, j)) != c {
             return;
         }
-        let l = wide(later(plan, j));
+        let l = usize::from(later(plan, j));
         let w = waits[l];
         waits[l] = greater(w, end);
         j += 1;
@@ -74,7 +73,7 @@ pub fn spread(
     let segment = children(from, node);
     let mut i = segment.start;
     while i < segment.end {
-        let child = wide(kids[i]);
+        let child = usize::from(kids[i]);
         let child_end = waits[child] + lengths[child];
         raise(plan, waits, child, child_end);
         longest = greater(longest, child_end);
@@ -93,7 +92,7 @@ pub fn longest_child(plan: &[u8], from: &Starts, kids: &Nodes, lengths: &Times, 
     let segment = children(from, node);
     let mut i = segment.start;
     while i < segment.end {
-        longest = greater(longest, lengths[wide(kids[i])]);
+        longest = greater(longest, lengths[usize::from(kids[i])]);
         i += 1;
     }
     longest

@@ -14,7 +14,6 @@ ghost use Rattle.tables.specs.Segments.{segment_of};
 ghost use Rattle.wait_tree.specs.Filled.{LengthsTo, LengthsUnder, AllWorked, WaitsWithin, Longest};
 
 use base::kinds::{ALL_OF, TASK};
-use base::wide;
 use plan_format::fields::{kind, minutes, nodes, parent};
 use tables::{Nodes, Starts, Times, children, no_times};
 use wait_group::{longest_child, spread};
@@ -37,7 +36,7 @@ fn groups_under(
     let segment = children(from, node);
     let mut i = segment.start;
     while i < segment.end {
-        let child = wide(kids[i]);
+        let child = usize::from(kids[i]);
         let k = kind(plan, child);
         if k == ALL_OF {
             all_length(plan, from, kids, lengths, waits, child);
@@ -127,7 +126,7 @@ fn add_waits(plan: &[u8], waits: &mut Times)
     let n = nodes(plan);
     let mut c = 1;
     while c < n {
-        let p = wide(parent(plan, c));
+        let p = usize::from(parent(plan, c));
         let above = waits[p];
         let own = waits[c];
         waits[c] = above + own;

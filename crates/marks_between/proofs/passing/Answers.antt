@@ -8,19 +8,19 @@ pub passing_part-left-requires : goal.passing_part-left-requires
 passing_part-left-requires c =
     let j = c.requires.other in (
       part_of c.requires.segment (omega (arith, j.low)) (omega (arith, j.high)) (omega arith),
-      pair_small c.requires c.wide.ensures.0,
+      pair_small c.requires c.from.ensures,
     )
 
 pub passing_part-requires : goal.passing_part-requires
 passing_part-requires c =
     let j = c.requires.other in (
       part_of c.requires.segment (omega arith) (omega (arith, j.low)) (omega (arith, j.high)),
-      pair_small c.requires c.wide.ensures.0,
+      pair_small c.requires c.from.ensures,
     )
 
 pub returns : goal.returns
 returns c =
     let j = c.requires.other in
-    let e = c.wide.ensures.0 in
+    let e = c.from.ensures in
     passing_says c.args.given.always (parts (omega (arith, j.low)) (omega (arith, j.high))
     (rw e at c.passing_part-left.ensures) (rw e at c.passing_part.ensures))

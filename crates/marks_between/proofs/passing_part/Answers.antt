@@ -17,19 +17,19 @@ bounds-kids-i c =
 pub in_the_way-requires : goal.in_the_way-requires
 in_the_way-requires c = (
   kid_small c.requires.0 (position c.loop-i.invariant.0 c.loop-i-test.true)
-      c.wide-b.ensures.0,
+      c.from-b.ensures,
   c.requires.1,
 )
 
 pub lets_pass-requires : goal.lets_pass-requires
 lets_pass-requires c =
     kid_small c.requires.0 (position c.loop-i.invariant.0 c.loop-i-test.true)
-    c.wide-b.ensures.0
+    c.from-b.ensures
 
 pub loop-i-preserved : goal.loop-i-preserved
 loop-i-preserved c =
     let turn = c.loop-i.invariant.0 in
-    let e = c.wide-b.ensures.0 in (
+    let e = c.from-b.ensures in (
       next_turn turn c.loop-i-test.true,
       part_more turn.low c.narrowed-left.ensures
           (λ f k. implied (rw e at c.in_the_way.ensures)

@@ -15,18 +15,18 @@ bounds-kids-i c =
 
 pub all_siblings-requires : goal.all_siblings-requires
 all_siblings-requires c =
-    (c.requires, kid_small c.requires (position c.loop-i.invariant.0 c.loop-i-test.true) c.wide-child.ensures.0)
+    (c.requires, kid_small c.requires (position c.loop-i.invariant.0 c.loop-i-test.true) c.from-child.ensures)
 
 pub merged-next-requires : goal.merged-next-requires
 merged-next-requires c =
     kid_small c.requires (position c.loop-i.invariant.0 c.loop-i-test.true)
-    c.wide-child.ensures.0
+    c.from-child.ensures
 
 pub loop-i-preserved : goal.loop-i-preserved
 loop-i-preserved c =
     let turn = c.loop-i.invariant.0 in
     let test = c.loop-i-test.true in
-    let e = c.wide-child.ensures.0 in (
+    let e = c.from-child.ensures in (
       next_turn turn test,
       λ p n g o. joined_more e turn.low c.merged-next.ensures (child_row g e (position turn test)).says
           (λ k f m. says_eq (c.mask_words-mask.ensures.is k)

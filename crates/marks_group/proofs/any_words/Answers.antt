@@ -19,13 +19,13 @@ bounds-kids-i c =
 pub merged-next-requires : goal.merged-next-requires
 merged-next-requires c =
     kid_small c.requires (position c.loop-i.invariant.0 c.loop-i-test.true)
-    c.wide.ensures.0
+    c.from.ensures
 
 pub loop-i-preserved : goal.loop-i-preserved
 loop-i-preserved c =
     let turn = c.loop-i.invariant.0 in
     let test = c.loop-i-test.true in
-    let e = c.wide.ensures.0 in (
+    let e = c.from.ensures in (
       next_turn turn test,
       λ p n g. joined_more e turn.low c.merged-next.ensures (child_row g e (position turn test)).says
           (unmasked c.start_words-mask.ensures) (c.loop-i.invariant.1 p n g),

@@ -14,19 +14,19 @@ bounds-kids-i c =
 pub next_partner-j-requires : goal.next_partner-j-requires
 next_partner-j-requires c =
     kid_small c.requires.0 (position c.search.invariant.1.child c.search-test.true)
-    c.wide-c.ensures.0
+    c.from-c.ensures
 
 pub loop-j-init : goal.loop-j-init
 loop-j-init c =
     let at = position c.search.invariant.1.child c.search-test.true in
-    (c.search.invariant.0, goes_on c.search.invariant.1 at c.wide-c.ensures.0 c.next_partner-j.ensures)
+    (c.search.invariant.0, goes_on c.search.invariant.1 at c.from-c.ensures c.next_partner-j.ensures)
 
 pub pair_words-pair-requires : goal.pair_words-pair-requires
 pair_words-pair-requires c =
     let at = position c.loop-j.invariant.1.child c.search-test.true in
     record {
       segment = c.requires.0;
-      child = kid_small c.requires.0 at c.wide-c.ensures.0;
+      child = kid_small c.requires.0 at c.from-c.ensures;
       other = position c.loop-j.invariant.1.partner c.loop-j-test.true;
     }
 
@@ -36,7 +36,7 @@ loop-j-preserved c =
     let at = position stands.child c.search-test.true in
     let to = position stands.partner c.loop-j-test.true in (
       c.loop-j.invariant.0,
-      partner_passed stands at to c.wide-c.ensures.0
+      partner_passed stands at to c.from-c.ensures
           c.pair_words-pair.ensures c.if-pair-ne0.false,
     )
 
@@ -55,5 +55,5 @@ returns-then-pair-ne0 c =
     let stands = c.loop-j.invariant.1 in
     let at = position stands.child c.search-test.true in
     let to = position stands.partner c.loop-j-test.true in
-    pair_found stands at to c.wide-c.ensures.0 c.pair_words-pair.ensures
+    pair_found stands at to c.from-c.ensures c.pair_words-pair.ensures
     c.if-pair-ne0.true

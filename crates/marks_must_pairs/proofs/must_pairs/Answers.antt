@@ -18,7 +18,7 @@ must_pairs_of-flags-requires c = (
   (
     c.requires.1,
     kid_small c.requires.0 (position c.loop-i.invariant.0 c.loop-i-test.true)
-        c.wide.ensures.0,
+        c.from.ensures,
   ),
 )
 
@@ -26,7 +26,7 @@ pub loop-i-preserved : goal.loop-i-preserved
 loop-i-preserved c =
     let turn = c.loop-i.invariant.0 in
     let test = c.loop-i-test.true in
-    let e = c.wide.ensures.0 in (
+    let e = c.from.ensures in (
       next_turn turn test,
       λ p n g v q f m. child_more turn.low (c.loop-i.invariant.1 p n g v q f m)
           (rw e at (c.must_pairs_of-flags.ensures p n g (kid g e (position turn test)) v q f m)),

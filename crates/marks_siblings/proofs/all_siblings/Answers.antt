@@ -16,14 +16,14 @@ pub with_sibling-s-requires : goal.with_sibling-s-requires
 with_sibling-s-requires c = (
   c.requires.1,
   kid_small c.requires.0 (position c.loop-i.invariant.0 c.loop-i-test.true)
-      c.wide.ensures.0,
+      c.from.ensures,
 )
 
 pub loop-i-preserved : goal.loop-i-preserved
 loop-i-preserved c =
     let turn = c.loop-i.invariant.0 in
     let test = c.loop-i-test.true in
-    let e = c.wide.ensures.0 in (
+    let e = c.from.ensures in (
       next_turn turn test,
       λ p n g o hc. with_sibling g o hc turn.low e (listed g.listed e (position turn test))
           c.with_sibling-s.ensures (c.loop-i.invariant.1 p n g o hc),

@@ -35,7 +35,7 @@ groups_under-loop-i-preserved t c =
     let turn = c.loop-i.invariant.0 in
     let test = c.loop-i-test.true in (
       next_turn turn test,
-      child_more _ _ _ _ _ _ _ c.children-segment.ensures c.wide-child.ensures.0 (position turn test)
+      child_more _ _ _ _ _ _ _ c.children-segment.ensures c.from-child.ensures (position turn test)
           c.loop-i.invariant.1 c.group.ensures,
     )
 

@@ -7,7 +7,7 @@ use Rattle.plan_check.proofs.Accepted.{clean}
 use Rattle.plan_blocked.proofs.Standing.{parent_lower}
 use Rattle.member_list.proofs.Standing.{placed_first, placed_member, placed_below, placed_all}
 use Rattle.member_list.proofs.mark_members.Goals as goal
-use Rattle.member_list.proofs.mark_members.Goals.{After-wide-g, then-g-eq0, else-g-eq0}
+use Rattle.member_list.proofs.mark_members.Goals.{After-from-g, then-g-eq0, else-g-eq0}
 
 pub nodes-n-requires : goal.nodes-n-requires
 nodes-n-requires c = (clean _ c.requires.0).fits.limits.long
@@ -29,23 +29,23 @@ bounds-standing-c c = omega (arith, (clean _ c.requires.0).fits.limits.nodes)
 pub bounds-standing-c-else-g-eq0 : goal.bounds-standing-c-else-g-eq0
 bounds-standing-c-else-g-eq0 c = omega (arith, (clean _ c.requires.0).fits.limits.nodes)
 
-parent_is : (c : After-wide-g) → c.wide-g.result ≡ parent_of c.args.plan.now c.loop-c.c
-parent_is c = c.wide-g.ensures.0 ∙ c.parent.ensures
+parent_is : (c : After-from-g) → c.from-g.result ≡ parent_of c.args.plan.now c.loop-c.c
+parent_is c = c.from-g.ensures ∙ c.parent.ensures
 
-small : (c : After-wide-g) → c.wide-g.result < 128
+small : (c : After-from-g) → c.from-g.result < 128
 small c =
     let l = c.loop-c in
-    let lower = parent_lower _ c.requires.0 l.c c.wide-g.result l.invariant.0 (omega arith) (parent_is c) in
+    let lower = parent_lower _ c.requires.0 l.c c.from-g.result l.invariant.0 (omega arith) (parent_is c) in
     omega (arith, lower, (clean _ c.requires.0).fits.limits.nodes)
 
 pub bounds-standing-g : goal.bounds-standing-g
-bounds-standing-g c = small (goal.at.bounds-standing-g c).After-wide-g
+bounds-standing-g c = small (goal.at.bounds-standing-g c).After-from-g
 
 pub loop-c-preserved : goal.loop-c-preserved
 loop-c-preserved c =
     let i = c.loop-c.invariant in
     let ok = c.requires.0 in
-    let up = parent_is (goal.at.loop-c-preserved c).After-wide-g in (
+    let up = parent_is (goal.at.loop-c-preserved c).After-from-g in (
       omega arith,
       omega arith,
       elim c.if-g-eq0.branch [

@@ -9,7 +9,7 @@ use Rattle.plan_blocked.proofs.Standing.{stood_out, stood_in, stood_all}
 use Rattle.plan_blocked.proofs.Branches.{partly_first, partly_more, partly_same, partly_all}
 use native.Mathlib.Omega.{arith}
 use Rattle.plan_blocked.proofs.mark_standing.Goals as goal
-use Rattle.plan_blocked.proofs.mark_standing.Goals.{After-wide-g, In-loop-c, then-blocked-c, else-blocked-c}
+use Rattle.plan_blocked.proofs.mark_standing.Goals.{After-from-g, In-loop-c, then-blocked-c, else-blocked-c}
 
 pub loop-c-init : goal.loop-c-init
 loop-c-init c = (
@@ -23,13 +23,13 @@ loop-c-init c = (
 node_small : (c : In-loop-c) → c.loop-c.c < 128
 node_small c = omega (arith, (clean _ c.requires.0).fits.limits.nodes)
 
-parent_is : (c : After-wide-g) → c.wide-g.result ≡ parent_of c.args.plan.now c.loop-c.c
-parent_is c = c.wide-g.ensures.0 ∙ c.parent.ensures
+parent_is : (c : After-from-g) → c.from-g.result ≡ parent_of c.args.plan.now c.loop-c.c
+parent_is c = c.from-g.ensures ∙ c.parent.ensures
 
-small : (c : After-wide-g) → c.wide-g.result < 128
+small : (c : After-from-g) → c.from-g.result < 128
 small c =
     let i = c.loop-c.invariant in
-    let m = parent_lower _ c.requires.0 c.loop-c.c c.wide-g.result i.0 (omega arith) (parent_is c) in
+    let m = parent_lower _ c.requires.0 c.loop-c.c c.from-g.result i.0 (omega arith) (parent_is c) in
     omega (arith, m, (clean _ c.requires.0).fits.limits.nodes)
 
 pub loop-c-preserved : goal.loop-c-preserved
@@ -37,7 +37,7 @@ unfolding marked
 loop-c-preserved c =
     let i = c.loop-c.invariant in
     let ok = c.requires.0 in
-    let w = (goal.at.loop-c-preserved c).After-wide-g in (
+    let w = (goal.at.loop-c-preserved c).After-from-g in (
       omega arith,
       (
         omega arith,
@@ -49,7 +49,7 @@ loop-c-preserved c =
           )
           | else-blocked-c z ↦ rw (z.standing-is, z.marks-is) (
             stood_in _ ok _ i.1.1.0 i.0 (omega arith) (parent_is w) z.if-blocked-c.false,
-            partly_more _ _ i.1.1.1 i.0 (omega arith) w.wide-g.result (parent_is w) (small w)
+            partly_more _ _ i.1.1.1 i.0 (omega arith) w.from-g.result (parent_is w) (small w)
                 (stands_here _ ok _ i.1.1.0 i.0 (omega arith) (parent_is w) z.if-blocked-c.false),
           )
         ],
@@ -74,4 +74,4 @@ pub bounds-standing-c : goal.bounds-standing-c
 bounds-standing-c c = node_small (goal.at.bounds-standing-c c).In-loop-c
 
 pub bounds-standing-g : goal.bounds-standing-g
-bounds-standing-g c = small (goal.at.bounds-standing-g c).After-wide-g
+bounds-standing-g c = small (goal.at.bounds-standing-g c).After-from-g

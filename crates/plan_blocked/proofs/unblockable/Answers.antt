@@ -7,9 +7,9 @@ use Rattle.plan_blocked.proofs.unblockable.Goals as goal
 
 pub returns : goal.returns
 returns c =
-    let e = c.wide-g.ensures.0 ∙ c.parent.ensures in
+    let e = c.from-g.ensures ∙ c.parent.ensures in
     rw (c.is_kind.ensures, c.is_kind-2.ensures)
-    (inside _ _ c.requires (omega arith) (omega arith) c.wide-g.result e)
+    (inside _ _ c.requires (omega arith) (omega arith) c.from-g.result e)
 
 pub returns-then-s-eq0 : goal.returns-then-s-eq0
 returns-then-s-eq0 c = root _ _ c.if-s-eq0.true

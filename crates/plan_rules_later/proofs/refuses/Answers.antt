@@ -11,7 +11,7 @@ use mathlib.Core.List.{List}
 use mathlib.Core.Path.{◌≡◌, ap, ◌∙◌}
 use Rattle.plan_rules_later.specs.Passes.{step_of, steps_of}
 use Rattle.plan_rules_later.proofs.refuses.Goals as goal
-use Rattle.plan_rules_later.proofs.refuses.Goals.{After-step_at-s, After-wide, then-s, else-s}
+use Rattle.plan_rules_later.proofs.refuses.Goals.{After-step_at-s, After-from, then-s, else-s}
 
 -- the steps in the order of the turns
 abbrev steps_back : List ℕ → Pass → ℕ → Step
@@ -24,11 +24,11 @@ is_step c = c.step_at-s.ensures
     ∙ ap (λ (n : ℕ). step_of c.args.pass c.args.plan.now (n - 1 - c.loop-m.m)) c.steps-n.ensures
 
 -- what it asks of the table
-asks : (c : After-wide) → c.step_at-s.result ≡ steps_back c.args.plan.now c.args.pass c.loop-m.m
-    → refuses_at c.step_at-s.result (get_or c.loop-m.table c.wide.result 0)
+asks : (c : After-from) → c.step_at-s.result ≡ steps_back c.args.plan.now c.args.pass c.loop-m.m
+    → refuses_at c.step_at-s.result (get_or c.loop-m.table c.from.result 0)
     ≡ refuses (steps_back c.args.plan.now c.args.pass) c.loop-m.m
-asks c s = asked _ c.loop-m.m c.loop-m.table c.step_at-s.result c.wide.result s
-    c.loop-m.invariant.1.1 c.wide.ensures.0 c.wide.ensures.1
+asks c s = asked _ c.loop-m.m c.loop-m.table c.step_at-s.result c.from.result s
+    c.loop-m.invariant.1.1 c.from.ensures c.from.ensures.1
 
 pub loop-m-init : goal.loop-m-init
 loop-m-init c = (search_starts, (c.blank-table.ensures.long, holds_none _ c.blank-table.ensures))
@@ -37,7 +37,7 @@ pub returns-then-s-found : goal.returns-then-s-found
 unfolding pass_refuses
 returns-then-s-found c =
     let a = goal.at.returns-then-s-found c in
-    search_finds c.loop-m.invariant.0 (omega arith) (asks a.After-wide (is_step a.After-step_at-s)) c.if-s-found.true
+    search_finds c.loop-m.invariant.0 (omega arith) (asks a.After-from (is_step a.After-step_at-s)) c.if-s-found.true
     ∙ pass_is c.args.pass c.args.plan.now c.requires.0 c.requires.1
 
 pub loop-m-preserved : goal.loop-m-preserved
@@ -45,10 +45,10 @@ loop-m-preserved c =
     let l = c.loop-m in
     let a = goal.at.loop-m-preserved c in
     let s = is_step a.After-step_at-s in (
-      search_goes_on l.invariant.0 (omega arith) (asks a.After-wide s) c.if-s-found.false,
+      search_goes_on l.invariant.0 (omega arith) (asks a.After-from s) c.if-s-found.false,
       elim c.if-s.branch [
         | then-s w ↦ written _ l.m l.table c.if-s.table c.step_at-s.result s l.invariant.1.0 l.invariant.1.1
-            w.wide-then-s.result w.if-s.true w.wide-then-s.ensures.0 w.wide-then-s.ensures.1 w.table-is
+            w.from-then-s.result w.if-s.true w.from-then-s.ensures w.from-then-s.ensures.1 w.table-is
         | else-s w ↦ kept _ l.m l.table c.if-s.table c.step_at-s.result s l.invariant.1.0 l.invariant.1.1
             w.if-s.false w.table-is
       ],

@@ -11,16 +11,16 @@ use Rattle.run_conditions.proofs.Conditions.{on_task, broken_turn, kept_set, kep
 use native.Mathlib.Omega.{arith}
 use Rattle.run_conditions.proofs.broken_at.Goals as goal
 use Rattle.run_conditions.proofs.broken_at.Goals.{else-sign, then-sign}
-use Rattle.run_conditions.proofs.broken_at.Goals.{After-wide-node, Joined-sign, Start}
+use Rattle.run_conditions.proofs.broken_at.Goals.{After-from-node, Joined-sign, Start}
 
 room : (c : Start) → Roomy c.args.plan.now c.args.state.now
 room c = has_room _ _ c.requires.1
 
-node_below : (c : After-wide-node) → c.wide-node.result < node_count c.args.plan.now
+node_below : (c : After-from-node) → c.from-node.result < node_count c.args.plan.now
 node_below c =
     omega (
       arith,
-      c.wide-node.ensures.0,
+      c.from-node.ensures,
       c.condition_node.ensures,
       (on_task _ (has_room _ _ c.requires.1).accepted c.args.i c.requires.0).0,
     )
@@ -47,20 +47,20 @@ pub is_at-requires : goal.is_at-requires
 is_at-requires c = (c.requires.0, (room (goal.at.is_at-requires c).Start).accepted)
 
 pub overflow_add-result : goal.overflow_add-result
-overflow_add-result c = omega (arith, c.wide-node.ensures.1)
+overflow_add-result c = omega (arith, c.from-node.ensures.1)
 
 pub bounds-tasks-node : goal.bounds-tasks-node
 bounds-tasks-node c =
     let p = goal.at.bounds-tasks-node c in
-    omega (arith, node_below p.After-wide-node, (room p.Start).plan.fits.limits.nodes)
+    omega (arith, node_below p.After-from-node, (room p.Start).plan.fits.limits.nodes)
 
 pub bounds-state-node : goal.bounds-state-node
 bounds-state-node c =
-    let p = goal.at.bounds-state-node c in omega (arith, node_below p.After-wide-node, (room p.Start).room)
+    let p = goal.at.bounds-state-node c in omega (arith, node_below p.After-from-node, (room p.Start).room)
 
 pub returns : goal.returns
 unfolding marked
 returns c =
-    broken_turn _ _ _ _ _ _ _ _ _ _ _ _ _ (c.wide-node.ensures.0 ∙ c.condition_node.ensures)
+    broken_turn _ _ _ _ _ _ _ _ _ _ _ _ _ (c.from-node.ensures ∙ c.condition_node.ensures)
     c.is_at.ensures refl c.flag_at-f.ensures.0
     c.set_at-sign.ensures (kept (goal.at.returns c).Joined-sign) c.differs.ensures

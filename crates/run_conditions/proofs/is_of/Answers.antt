@@ -8,20 +8,20 @@ use Rattle.node_sets.specs.Sets.{marked}
 use Rattle.run_conditions.proofs.Conditions.{on_task}
 use native.Mathlib.Omega.{arith}
 use Rattle.run_conditions.proofs.is_of.Goals as goal
-use Rattle.run_conditions.proofs.is_of.Goals.{After-wide-node}
+use Rattle.run_conditions.proofs.is_of.Goals.{After-from-node}
 
 pub condition_node-requires : goal.condition_node-requires
 condition_node-requires c = (c.requires.0, (clean _ c.requires.1).fits)
 
 -- the node of the condition
-node_is : (c : After-wide-node) → c.wide-node.result ≡ cond_node c.args.plan.now c.args.i
-node_is c = c.wide-node.ensures.0 ∙ c.condition_node.ensures
+node_is : (c : After-from-node) → c.from-node.result ≡ cond_node c.args.plan.now c.args.i
+node_is c = c.from-node.ensures ∙ c.condition_node.ensures
 
 pub bounds-tasks-node : goal.bounds-tasks-node
 bounds-tasks-node c =
     omega (
       arith,
-      node_is (goal.at.bounds-tasks-node c).After-wide-node,
+      node_is (goal.at.bounds-tasks-node c).After-from-node,
       (on_task _ c.requires.1 c.args.i c.requires.0).0,
       (clean _ c.requires.1).fits.limits.nodes,
     )
@@ -29,8 +29,8 @@ bounds-tasks-node c =
 pub returns-then-tasks-node-ne1 : goal.returns-then-tasks-node-ne1
 unfolding is_of marked
 returns-then-tasks-node-ne1 c =
-    rw (← node_is (goal.at.returns-then-tasks-node-ne1 c).After-wide-node, ne_eqb _ 1 c.if-tasks-node-ne1.true)
+    rw (← node_is (goal.at.returns-then-tasks-node-ne1 c).After-from-node, ne_eqb _ 1 c.if-tasks-node-ne1.true)
 
 pub returns : goal.returns
 unfolding is_of marked
-returns c = c.is_at.ensures ∙ rw (← node_is (goal.at.returns c).After-wide-node, c.if-tasks-node-ne1.false)
+returns c = c.is_at.ensures ∙ rw (← node_is (goal.at.returns c).After-from-node, c.if-tasks-node-ne1.false)

@@ -17,7 +17,7 @@ pub rival_begun-requires : goal.rival_begun-requires
 rival_begun-requires c = record {
   n_nonzero = (
     omega arith,
-    (c.loop-n.invariant.1.0, (c.wide-g.ensures.0 ∙ c.parent.ensures, c.requires.at_event.passed)),
+    (c.loop-n.invariant.1.0, (c.from-g.ensures ∙ c.parent.ensures, c.requires.at_event.passed)),
   );
   counted = c.requires.counted;
 }
@@ -26,26 +26,26 @@ pub returns-then-rival_begun : goal.returns-then-rival_begun
 returns-then-rival_begun c =
     let ok = c.requires.at_event.passed in
     begun_yes _ _ ok c.args.node
-    (rival_here _ _ ok c.loop-n.n c.wide-g.result (omega arith) c.loop-n.invariant.1.0
-    (c.wide-g.ensures.0 ∙ c.parent.ensures) c.loop-n.invariant.0 (sym c.rival_begun.ensures ∙ c.if-rival_begun.true))
+    (rival_here _ _ ok c.loop-n.n c.from-g.result (omega arith) c.loop-n.invariant.1.0
+    (c.from-g.ensures ∙ c.parent.ensures) c.loop-n.invariant.0 (sym c.rival_begun.ensures ∙ c.if-rival_begun.true))
 
 pub loop-n-smaller : goal.loop-n-smaller
 loop-n-smaller c =
-    parent_lower _ (has_room _ _ c.requires.at_event.passed).accepted c.loop-n.n c.wide-g.result (omega arith)
-    c.loop-n.invariant.1.0 (c.wide-g.ensures.0 ∙ c.parent.ensures)
+    parent_lower _ (has_room _ _ c.requires.at_event.passed).accepted c.loop-n.n c.from-g.result (omega arith)
+    c.loop-n.invariant.1.0 (c.from-g.ensures ∙ c.parent.ensures)
 
 pub loop-n-preserved : goal.loop-n-preserved
 loop-n-preserved c =
     let ok = c.requires.at_event.passed in
     let fine = (has_room _ _ ok).accepted in
-    let up = c.wide-g.ensures.0 ∙ c.parent.ensures in
+    let up = c.from-g.ensures ∙ c.parent.ensures in
     let l = c.loop-n.invariant in
-    let lower = parent_lower _ fine c.loop-n.n c.wide-g.result (omega arith) l.1.0 up in (
-      parent_above _ fine c.loop-n.n c.wide-g.result (omega arith) l.1.0 up l.0,
+    let lower = parent_lower _ fine c.loop-n.n c.from-g.result (omega arith) l.1.0 up in (
+      parent_above _ fine c.loop-n.n c.from-g.result (omega arith) l.1.0 up l.0,
       (
         omega (arith, lower, l.1.0),
         λ x.
-            rival_up _ _ ok c.loop-n.n c.wide-g.result (omega arith) l.1.0 up
+            rival_up _ _ ok c.loop-n.n c.from-g.result (omega arith) l.1.0 up
             (sym c.rival_begun.ensures ∙ c.if-rival_begun.false) (l.1.1 x),
       ),
     )

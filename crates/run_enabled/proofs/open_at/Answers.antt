@@ -7,7 +7,7 @@ use Rattle.run_enabled.specs.Enabling.{open_at}
 use Rattle.run_enabled.proofs.Orders.{order_nodes}
 use native.Mathlib.Omega.{arith}
 use Rattle.run_enabled.proofs.open_at.Goals as goal
-use Rattle.run_enabled.proofs.open_at.Goals.{After-wide-a, Start}
+use Rattle.run_enabled.proofs.open_at.Goals.{After-from-a, Start}
 
 room : (c : Start) → Roomy c.args.plan.now c.args.state.now
 room c = has_room _ _ c.requires.j_bound.1
@@ -16,10 +16,10 @@ nodes : (c : Start) → (earlier_of c.args.plan.now c.args.j < node_count c.args
     × (later_of c.args.plan.now c.args.j < node_count c.args.plan.now)
 nodes c = order_nodes _ (room c).accepted c.args.j c.requires.j_bound.0
 
-node_below : (c : After-wide-a) → c.wide-a.result < node_count c.args.plan.now
+node_below : (c : After-from-a) → c.from-a.result < node_count c.args.plan.now
 node_below c = omega (
   arith,
-  c.wide-a.ensures.0,
+  c.from-a.ensures,
   c.earlier.ensures,
   (order_nodes _ (has_room _ _ c.requires.j_bound.1).accepted c.args.j c.requires.j_bound.0).0,
 )
@@ -33,7 +33,7 @@ later-requires c = (c.requires.j_bound.0, (room (goal.at.later-requires c).Start
 pub bounds-marks-z : goal.bounds-marks-z
 bounds-marks-z c = omega (
   arith,
-  c.wide-z.ensures.0,
+  c.from-z.ensures,
   c.later.ensures,
   (nodes (goal.at.bounds-marks-z c).Start).1,
   (room (goal.at.bounds-marks-z c).Start).plan.fits.limits.nodes,
@@ -41,11 +41,11 @@ bounds-marks-z c = omega (
 
 pub is_complete-requires : goal.is_complete-requires
 is_complete-requires c =
-    let l = node_below (goal.at.is_complete-requires c).After-wide-a in (
+    let l = node_below (goal.at.is_complete-requires c).After-from-a in (
       l,
       (
         c.requires.j_bound.1,
-        c.requires.counted c.wide-a.result
+        c.requires.counted c.from-a.result
             (omega (arith, l, (room (goal.at.is_complete-requires c).Start).plan.fits.limits.nodes)),
       ),
     )
@@ -54,8 +54,8 @@ pub returns : goal.returns
 unfolding open_at
 returns c = rw (
   c.is_complete.ensures,
-  c.wide-z.ensures.0,
+  c.from-z.ensures,
   c.later.ensures,
-  c.wide-a.ensures.0,
+  c.from-a.ensures,
   c.earlier.ensures,
 )

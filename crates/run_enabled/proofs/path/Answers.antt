@@ -25,29 +25,29 @@ parent-requires c = (c.loop-n.invariant.1.0, (clean _ c.requires.1).fits)
 
 pub bounds-marks-n-in-loop-n : goal.bounds-marks-n-in-loop-n
 bounds-marks-n-in-loop-n c =
-    let up = c.wide-n.ensures.0 ∙ c.parent.ensures in
+    let up = c.from-n.ensures ∙ c.parent.ensures in
     omega (
       arith,
-      parent_lower _ c.requires.1 c.loop-n.n c.wide-n.result (omega arith) c.loop-n.invariant.1.0 up,
+      parent_lower _ c.requires.1 c.loop-n.n c.from-n.result (omega arith) c.loop-n.invariant.1.0 up,
       c.loop-n.invariant.1.0,
       (clean _ c.requires.1).fits.limits.nodes,
     )
 
 pub loop-n-smaller : goal.loop-n-smaller
 loop-n-smaller c =
-    parent_lower _ c.requires.1 c.loop-n.n c.wide-n.result (omega arith) c.loop-n.invariant.1.0
-    (c.wide-n.ensures.0 ∙ c.parent.ensures)
+    parent_lower _ c.requires.1 c.loop-n.n c.from-n.result (omega arith) c.loop-n.invariant.1.0
+    (c.from-n.ensures ∙ c.parent.ensures)
 
 pub loop-n-preserved : goal.loop-n-preserved
 loop-n-preserved c =
     let l = c.loop-n.invariant in
-    let up = c.wide-n.ensures.0 ∙ c.parent.ensures in
-    let lower = parent_lower _ c.requires.1 c.loop-n.n c.wide-n.result (omega arith) l.1.0 up in
-    let u = parent_above _ c.requires.1 c.loop-n.n c.wide-n.result (omega arith) l.1.0 up l.0 in (
+    let up = c.from-n.ensures ∙ c.parent.ensures in
+    let lower = parent_lower _ c.requires.1 c.loop-n.n c.from-n.result (omega arith) l.1.0 up in
+    let u = parent_above _ c.requires.1 c.loop-n.n c.from-n.result (omega arith) l.1.0 up l.0 in (
       u,
       (
         omega (arith, lower, l.1.0),
-        next_mark _ _ c.loop-n.n c.wide-n.result c.loop-n.marks up
+        next_mark _ _ c.loop-n.n c.from-n.result c.loop-n.marks up
             (omega (arith, lower, l.1.0, (clean _ c.requires.1).fits.limits.nodes)) u l.1.1,
       ),
     )

@@ -29,19 +29,19 @@ bounds-kids-segment-in-loop-j c =
     (place_small c.requires.0 c.loop-j-test.true).1
 
 pub overflow_mul-earlier : goal.overflow_mul-earlier
-overflow_mul-earlier c = omega (arith, c.wide-earlier.ensures.1)
+overflow_mul-earlier c = omega (arith, c.from-earlier.ensures.1)
 
 pub overflow_add-earlier : goal.overflow_add-earlier
 overflow_add-earlier c =
-    omega (arith, c.wide-earlier.ensures.1, c.wide-later.ensures.1)
+    omega (arith, c.from-earlier.ensures.1, c.from-later.ensures.1)
 
 pub bounds-order-earlier : goal.bounds-order-earlier
 bounds-order-earlier c =
     omega (
       arith,
-      c.wide-earlier.ensures.0,
+      c.from-earlier.ensures,
       child_small c.requires.0 c.loop-j-test.true,
-      c.wide-later.ensures.0,
+      c.from-later.ensures,
       child_small c.requires.0 c.requires.1,
     )
 
@@ -57,8 +57,8 @@ pub loop-j-preserved : goal.loop-j-preserved
 loop-j-preserved c =
     let own = one_shl c.loop-j.j (omega (arith, (place_small c.requires.0 c.loop-j-test.true).0)) in
     let to = c.loop-j.invariant.1 in
-    let e = c.wide-earlier.ensures.0 in
-    let l = c.wide-later.ensures.0 in (
+    let e = c.from-earlier.ensures in
+    let l = c.from-later.ensures in (
       omega (arith, c.loop-j-test.true),
       elim c.if-order-earlier-eq-BEFORE.branch [
         | then-order-earlier-eq-BEFORE w ↦

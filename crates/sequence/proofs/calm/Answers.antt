@@ -14,19 +14,19 @@ bounds-kids-i c =
 
 pub word_at-requires : goal.word_at-requires
 word_at-requires c = (
-  kid_small c.requires.at (position c.loop-i.invariant.0 c.loop-i-test.true) c.wide-child.ensures.0,
+  kid_small c.requires.at (position c.loop-i.invariant.0 c.loop-i-test.true) c.from-child.ensures,
   omega arith,
 )
 
 pub word_at-requires-in-loop-i : goal.word_at-requires-in-loop-i
 word_at-requires-in-loop-i c = (
-  kid_small c.requires.at (position c.loop-i.invariant.0 c.loop-i-test.true) c.wide-child.ensures.0,
+  kid_small c.requires.at (position c.loop-i.invariant.0 c.loop-i-test.true) c.from-child.ensures,
   omega arith,
 )
 
 pub returns-then-word_at-ne0 : goal.returns-then-word_at-ne0
 returns-then-word_at-ne0 c =
-    calm_not c.wide-child.ensures.0 c.word_at.ensures c.word_at-in-loop-i.ensures
+    calm_not c.from-child.ensures c.word_at.ensures c.word_at-in-loop-i.ensures
     (search rules) (search rules) (position c.loop-i.invariant.0 c.loop-i-test.true) c.if-word_at-ne0.true
 
 pub overflow_add-i : goal.overflow_add-i
@@ -36,7 +36,7 @@ overflow_add-i c =
 pub loop-i-preserved : goal.loop-i-preserved
 loop-i-preserved c = (
   next_turn c.loop-i.invariant.0 c.loop-i-test.true,
-  calm_more c.wide-child.ensures.0 c.word_at.ensures c.word_at-in-loop-i.ensures
+  calm_more c.from-child.ensures c.word_at.ensures c.word_at-in-loop-i.ensures
       c.loop-i.invariant.1 c.if-word_at-ne0.false,
 )
 

@@ -17,7 +17,7 @@ pub returns-then-rest : goal.returns-then-rest
 returns-then-rest t c =
     let words = both_wide c.args.reach (omega arith) (omega arith) in
     let own = one_shl c.loop-i.i (omega (arith, (place_small c.requires c.loop-i-test.true).0)) in
-    finds_more _ _ _ _ _ c.requires c.loop-i-test.true words c.wide-child.ensures.0 own
+    finds_more _ _ _ _ _ c.requires c.loop-i-test.true words c.from-child.ensures own
     c.may_follow.ensures c.if-may_follow.true c.moved_on-next.ensures c.search-rest.ensures
     c.if-reach-eq0.false c.loop-i.invariant.1 c.if-rest.true refl
     (ap (bit_or ((c.search-rest.result.word * 2 ^ 8) % 2 ^ 64)) c.byte_word.ensures)
@@ -30,11 +30,11 @@ loop-i-preserved t c =
       dead_more _ _ _ _ _ c.requires c.loop-i-test.true words c.loop-i.invariant.1
           (elim c.if-may_follow.branch [
             | then-may_follow+else-rest w ↦
-                empty_dead _ _ _ _ _ c.requires c.loop-i-test.true words c.wide-child.ensures.0 own
+                empty_dead _ _ _ _ _ c.requires c.loop-i-test.true words c.from-child.ensures own
                 c.may_follow.ensures w.if-may_follow.true w.moved_on-next.ensures w.search-rest.ensures
                 w.if-rest.false
             | else-may_follow w ↦
-                refused_dead _ _ _ _ _ c.requires c.loop-i-test.true words c.wide-child.ensures.0 own
+                refused_dead _ _ _ _ _ c.requires c.loop-i-test.true words c.from-child.ensures own
                 c.may_follow.ensures w.if-may_follow.false
           ]),
     )

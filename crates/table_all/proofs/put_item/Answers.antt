@@ -9,11 +9,11 @@ returns-in-Node c = stored_node _ _ _ _ c.in-Node.is
 
 pub returns-in-Condition : goal.returns-in-Condition
 returns-in-Condition c = stored_condition _ _ _ _ _ c.in-Condition.is
-    c.wide.ensures.0 c.add_condition.ensures
+    c.from.ensures c.add_condition.ensures
 
 pub returns-in-Order : goal.returns-in-Order
 returns-in-Order c = stored_order _ _ _ _ _ c.in-Order.is
-    c.wide-in-Order.ensures.0 c.wide-in-Order-2.ensures.0 c.link_all.ensures
+    c.from-in-Order.ensures.0 c.from-in-Order-2.ensures.0 c.link_all.ensures
 
 pub bounds-kinds-at : goal.bounds-kinds-at
 bounds-kinds-at c = fits_node _ c.in-Node.is c.requires.0
@@ -21,11 +21,11 @@ bounds-kinds-at c = fits_node _ c.in-Node.is c.requires.0
 pub add_condition-requires : goal.add_condition-requires
 add_condition-requires c =
     let f = fits_condition _ c.in-Condition.is c.requires.0 in
-    (omega (arith, f.0, c.wide.ensures.0), f.1, c.requires.2)
+    (omega (arith, f.0, c.from.ensures), f.1, c.requires.2)
 
 pub link_all-requires : goal.link_all-requires
 link_all-requires c =
     let f = fits_order _ c.in-Order.is c.requires.0 in
-    let d = c.wide-in-Order.ensures.0 in
-    let e = c.wide-in-Order-2.ensures.0 in
+    let d = c.from-in-Order.ensures.0 in
+    let e = c.from-in-Order-2.ensures.0 in
     (omega (arith, f.0, d, e), omega (arith, f.1, e), c.requires.1)

@@ -24,16 +24,16 @@ later-requires c = (omega arith, (clean _ c.requires.0).fits)
 pub both_stand-requires : goal.both_stand-requires
 both_stand-requires c =
     let s = sorted _ (clean _ c.requires.0) in
-    let a = c.wide-a.ensures.0 ∙ c.earlier.ensures in
-    let b = c.wide-b.ensures.0 ∙ c.later.ensures in
+    let a = c.from-a.ensures ∙ c.earlier.ensures in
+    let b = c.from-b.ensures ∙ c.later.ensures in
     let m = s.small c.loop-i.i (omega arith) in
     (omega (arith, a, m, s.lower c.loop-i.i (omega arith)), omega (arith, b, m))
 
 pub link_all-requires : goal.link_all-requires
 link_all-requires c =
     let s = sorted _ (clean _ c.requires.0) in
-    let a = c.wide-a.ensures.0 ∙ c.earlier.ensures in
-    let b = c.wide-b.ensures.0 ∙ c.later.ensures in (
+    let a = c.from-a.ensures ∙ c.earlier.ensures in
+    let b = c.from-b.ensures ∙ c.later.ensures in (
       omega (arith, a, b, s.lower c.loop-i.i (omega arith)),
       omega (arith, b, s.small c.loop-i.i (omega arith)),
       c.loop-i.invariant.1.long,
@@ -42,8 +42,8 @@ link_all-requires c =
 pub loop-i-preserved : goal.loop-i-preserved
 loop-i-preserved c =
     let s = sorted _ (clean _ c.requires.0) in
-    let a = c.wide-a.ensures.0 ∙ c.earlier.ensures in
-    let b = c.wide-b.ensures.0 ∙ c.later.ensures in
+    let a = c.from-a.ensures ∙ c.earlier.ensures in
+    let b = c.from-b.ensures ∙ c.later.ensures in
     let e = c.both_stand.ensures in
     let t = c.loop-i.invariant.1 in (
       omega arith,

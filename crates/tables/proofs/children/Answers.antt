@@ -3,4 +3,4 @@ use mathlib.Core.Path.{refl}
 use Rattle.tables.proofs.children.Goals as goal
 
 pub returns : goal.returns
-returns c = rw (c.wide-start.ensures.0, c.wide-end.ensures.0) refl
+returns c = rw (c.from-start.ensures, c.from-end.ensures) refl

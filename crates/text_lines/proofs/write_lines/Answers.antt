@@ -12,17 +12,17 @@ pub loop-i-init : goal.loop-i-init
 loop-i-init c = lines_none (clean _ c.requires.0)
 
 pub offset_bounds-waits-t : goal.offset_bounds-waits-t
-offset_bounds-waits-t c = omega (arith, c.wide-t.ensures)
+offset_bounds-waits-t c = omega (arith, c.from-t.ensures)
 
 pub bounds-waits-t : goal.bounds-waits-t
 bounds-waits-t c =
     let ok = clean _ c.requires.0 in
-    omega (arith, (line_task ok c.requires.2 (omega arith) c.wide-t.ensures.0).0, ok.fits.limits.nodes)
+    omega (arith, (line_task ok c.requires.2 (omega arith) c.from-t.ensures).0, ok.fits.limits.nodes)
 
 pub write_line-a-requires : goal.write_line-a-requires
 write_line-a-requires c =
     let ok = clean _ c.requires.0 in
-    let t = (line_task ok c.requires.2 (omega arith) c.wide-t.ensures.0).0 in (
+    let t = (line_task ok c.requires.2 (omega arith) c.from-t.ensures).0 in (
       c.requires.0,
       t,
       omega (
@@ -39,7 +39,7 @@ write_line-a-requires c =
 pub loop-i-preserved : goal.loop-i-preserved
 loop-i-preserved c =
     let ok = clean _ c.requires.0 in
-    let t = line_task ok c.requires.2 (omega arith) c.wide-t.ensures.0 in
+    let t = line_task ok c.requires.2 (omega arith) c.from-t.ensures in
     lines_turn ok (omega (arith, ap length c.requires.2)) t.0 t.1 (c.requires.1.is _ t.0)
     c.write_line-a.ensures c.loop-i.invariant
 

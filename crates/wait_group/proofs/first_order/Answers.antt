@@ -19,17 +19,17 @@ earlier-requires c = (
   (clean _ c.requires).fits,
 )
 
-pub loop-low-preserved-then-wide-c : goal.loop-low-preserved-then-wide-c
-loop-low-preserved-then-wide-c c =
+pub loop-low-preserved-then-from-c : goal.loop-low-preserved-then-from-c
+loop-low-preserved-then-from-c c =
     let m : earlier_of c.args.plan.now
     (c.loop-low.low + (c.loop-low.high - c.loop-low.low) / 2) < c.args.c =
-    omega (arith, c.wide.ensures, c.earlier.ensures) in
+    omega (arith, c.from.ensures, c.earlier.ensures) in
     between_low (sorted _ (clean _ c.requires)) (omega arith) (omega arith) m c.loop-low.invariant
 
 pub loop-low-preserved : goal.loop-low-preserved
 loop-low-preserved c =
     between_high (sorted _ (clean _ c.requires)) (omega arith) (omega arith)
-    (λ m. omega (arith, c.wide.ensures, c.earlier.ensures)) c.loop-low.invariant
+    (λ m. omega (arith, c.from.ensures, c.earlier.ensures)) c.loop-low.invariant
 
 pub returns : goal.returns
 returns c = between_found (omega arith) c.loop-low.invariant

@@ -4,7 +4,7 @@ use Rattle.wait_group.proofs.Children.{at_group, child_at_lem, greatest_start, g
 use native.Mathlib.Omega.{arith}
 use mathlib.Core.Path.{refl}
 use Rattle.wait_group.proofs.longest_child.Goals as goal
-use Rattle.wait_group.proofs.longest_child.Goals.{After-wide}
+use Rattle.wait_group.proofs.longest_child.Goals.{After-from}
 
 pub children-segment-requires : goal.children-segment-requires
 children-segment-requires c = let o = at_group c.requires.0 in omega (arith, o.shaped.small, o.below)
@@ -24,7 +24,7 @@ pub loop-i-preserved : goal.loop-i-preserved
 loop-i-preserved c =
     let turn = c.loop-i.invariant.0 in
     let test = c.loop-i-test.true in
-    let e = c.wide.ensures.0 in
+    let e = c.from.ensures in
     let x = c.requires.1.is _ (child_at_lem c.requires.0 c.children-segment.ensures e (position turn test)) in
     (next_turn turn test, greatest_turn turn.low e x c.greater-longest.ensures c.loop-i.invariant.1)
 

@@ -6,7 +6,7 @@ use Rattle.table_orders.proofs.Chains.{sorted}
 use Rattle.wait_group.proofs.Orders.{raised_none, raised_more, raised_all, raised_stop}
 use native.Mathlib.Omega.{arith}
 use Rattle.wait_group.proofs.raise.Goals as goal
-use Rattle.wait_group.proofs.raise.Goals.{After-wide-l}
+use Rattle.wait_group.proofs.raise.Goals.{After-from-l}
 
 pub orders-k-requires : goal.orders-k-requires
 orders-k-requires c = (clean _ c.requires.0).fits.limits.long
@@ -17,10 +17,10 @@ loop-j-init c = (c.orders-k.ensures, raised_none c.requires.1 c.first_order-j.en
 pub earlier-requires : goal.earlier-requires
 earlier-requires c = (omega arith, (clean _ c.requires.0).fits)
 
-pub returns-then-wide-c : goal.returns-then-wide-c
-returns-then-wide-c c =
+pub returns-then-from-c : goal.returns-then-from-c
+returns-then-from-c c =
     raised_stop (sorted _ (clean _ c.requires.0)) (omega arith)
-    (λ z. c.if-wide-c.true (c.wide.ensures.0 ∙ c.earlier.ensures ∙ z)) c.loop-j.invariant.1
+    (λ z. c.if-from-c.true (c.from.ensures ∙ c.earlier.ensures ∙ z)) c.loop-j.invariant.1
 
 pub later-requires : goal.later-requires
 later-requires c = (
@@ -29,26 +29,26 @@ later-requires c = (
 )
 
 -- the later task is a node's number
-later_small : (c : After-wide-l) → c.wide-l.result < 128
+later_small : (c : After-from-l) → c.from-l.result < 128
 later_small c = omega (
   arith,
   (sorted _ (clean _ c.requires.0)).small c.loop-j.j (omega arith),
-  c.wide-l.ensures,
+  c.from-l.ensures,
   c.later.ensures,
 )
 
 pub bounds-waits-l : goal.bounds-waits-l
-bounds-waits-l c = later_small (goal.at.bounds-waits-l c).After-wide-l
+bounds-waits-l c = later_small (goal.at.bounds-waits-l c).After-from-l
 
 pub bounds-waits-l-in-loop-j : goal.bounds-waits-l-in-loop-j
-bounds-waits-l-in-loop-j c = later_small (goal.at.bounds-waits-l-in-loop-j c).After-wide-l
+bounds-waits-l-in-loop-j c = later_small (goal.at.bounds-waits-l-in-loop-j c).After-from-l
 
 pub loop-j-preserved : goal.loop-j-preserved
 loop-j-preserved c = (
   c.loop-j.invariant.0,
   raised_more (sorted _ (clean _ c.requires.0)) (omega arith)
-      (omega (arith, c.if-wide-c.false, c.wide.ensures, c.earlier.ensures))
-      (c.wide-l.ensures.0 ∙ c.later.ensures) c.greater.ensures
+      (omega (arith, c.if-from-c.false, c.from.ensures, c.earlier.ensures))
+      (c.from-l.ensures ∙ c.later.ensures) c.greater.ensures
       c.loop-j.invariant.1,
 )
 

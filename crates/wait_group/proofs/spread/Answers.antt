@@ -3,7 +3,7 @@ use Rattle.tables.proofs.Turns.{at_segment, first_turn, position_small, position
 use Rattle.wait_group.proofs.Children.{at_group, spread_none, spread_end, spread_more, spread_all}
 use native.Mathlib.Omega.{arith}
 use Rattle.wait_group.proofs.spread.Goals as goal
-use Rattle.wait_group.proofs.spread.Goals.{After-wide-child}
+use Rattle.wait_group.proofs.spread.Goals.{After-from-child}
 
 pub children-segment-requires : goal.children-segment-requires
 children-segment-requires c = let o = at_group c.requires.0 in omega (arith, o.shaped.small, o.below)
@@ -22,7 +22,7 @@ bounds-kids-i c =
 pub overflow_add-child_end : goal.overflow_add-child_end
 overflow_add-child_end c =
     let at = position c.loop-i.invariant.0 c.loop-i-test.true in
-    let e = spread_end c.requires.0 c.children-segment.ensures c.wide-child.ensures.0 at
+    let e = spread_end c.requires.0 c.children-segment.ensures c.from-child.ensures at
     c.loop-i.invariant.1 c.requires.2 in
     omega (arith, e.0, e.1)
 
@@ -35,7 +35,7 @@ loop-i-preserved c =
     let here = c.children-segment.ensures in
     let turn = c.loop-i.invariant.0 in
     let test = c.loop-i-test.true in
-    let e = c.wide-child.ensures.0 in
+    let e = c.from-child.ensures in
     let at = position turn test in
     let x = spread_end c.requires.0 here e at c.loop-i.invariant.1 c.requires.2 in (
       next_turn turn test,

@@ -34,14 +34,14 @@ any_length-returns t c =
 pub groups_under-kind-k-requires : goal.groups_under-kind-k-requires
 groups_under-kind-k-requires t c =
     let at = position c.loop-i.invariant.0 c.loop-i-test.true in (
-      (kid_later (at_group c.requires.0) c.children-segment.ensures at c.wide-child.ensures.0).1,
+      (kid_later (at_group c.requires.0) c.children-segment.ensures at c.from-child.ensures).1,
       (clean _ c.requires.0.accepted).fits,
     )
 
 pub groups_under-all_length-requires : goal.groups_under-all_length-requires
 groups_under-all_length-requires t c =
     let at = position c.loop-i.invariant.0 c.loop-i-test.true in
-    let later = kid_later (at_group c.requires.0) c.children-segment.ensures at c.wide-child.ensures.0 in (
+    let later = kid_later (at_group c.requires.0) c.children-segment.ensures at c.from-child.ensures in (
       omega (arith, c.decreases, nearer refl later),
       (
         all_group c.requires.0.accepted c.requires.0.tree later.1 c.kind-k.ensures c.if-k-eq-ALL_OF.true,
@@ -52,7 +52,7 @@ groups_under-all_length-requires t c =
 pub groups_under-any_length-requires : goal.groups_under-any_length-requires
 groups_under-any_length-requires t c =
     let at = position c.loop-i.invariant.0 c.loop-i-test.true in
-    let later = kid_later (at_group c.requires.0) c.children-segment.ensures at c.wide-child.ensures.0 in (
+    let later = kid_later (at_group c.requires.0) c.children-segment.ensures at c.from-child.ensures in (
       omega (arith, c.decreases, nearer refl later),
       (
         any_group c.requires.0.accepted c.requires.0.tree later.1 c.kind-k.ensures c.if-k-eq-ALL_OF.false
@@ -67,7 +67,7 @@ groups_under-loop-i-preserved t c =
     let s = c.loop-i.invariant.1 in
     let test = c.loop-i-test.true in
     let at = position turn test in
-    let e = c.wide-child.ensures.0 in (
+    let e = c.from-child.ensures in (
       next_turn turn test,
       elim c.if-k-eq-ALL_OF.branch [
         | groups_under-then-k-eq-ALL_OF w ↦ child_more e at s w.lengths-is w.waits-is w.all_length.ensures

@@ -19,20 +19,20 @@ parent-requires c = (omega arith, (clean _ c.requires.0).fits)
 
 pub bounds-waits-p : goal.bounds-waits-p
 bounds-waits-p c =
-    (down_sum (clean _ c.requires.0) (c.wide-p.ensures.0 ∙ c.parent.ensures)
+    (down_sum (clean _ c.requires.0) (c.from-p.ensures ∙ c.parent.ensures)
     (omega arith) c.loop-c.invariant.1).0
 
 pub overflow_add-waits : goal.overflow_add-waits
 overflow_add-waits c =
     let ok = clean _ c.requires.0 in
-    let s = down_sum ok (c.wide-p.ensures.0 ∙ c.parent.ensures) (omega arith)
+    let s = down_sum ok (c.from-p.ensures ∙ c.parent.ensures) (omega arith)
     c.loop-c.invariant.1 in
     omega (arith, s.1, end_limit _ ok c.loop-c.c (omega arith))
 
 pub loop-c-preserved : goal.loop-c-preserved
 loop-c-preserved c =
     let ok = clean _ c.requires.0 in
-    let s = down_sum ok (c.wide-p.ensures.0 ∙ c.parent.ensures) (omega arith)
+    let s = down_sum ok (c.from-p.ensures ∙ c.parent.ensures) (omega arith)
     c.loop-c.invariant.1 in
     (c.loop-c.invariant.0, down_more ok (omega arith) s.1 c.loop-c.invariant.1)
 

@@ -11,7 +11,7 @@ returns c =
       c.flags.ensures,
       c.condition_value.ensures,
       c.is_kind-task.ensures,
-      c.wide.ensures.0,
+      c.from.ensures,
       c.condition_node.ensures,
     )
 

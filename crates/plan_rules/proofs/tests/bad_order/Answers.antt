@@ -7,9 +7,9 @@ unfolding bad_order
 returns c =
     rw (
       c.bad_pair.ensures,
-      c.wide-2.ensures.0,
+      c.from-2.ensures,
       c.later.ensures,
-      c.wide.ensures.0,
+      c.from.ensures,
       c.earlier.ensures,
     )
 

@@ -30,7 +30,7 @@ returns c =
       c.is_child-2.ensures,
       c.is_child.ensures,
       c.is_kind.ensures,
-      c.wide-g.ensures.0,
+      c.from-g.ensures,
       c.parent.ensures,
     )
 

@@ -5,7 +5,7 @@ use Rattle.plan_rules.proofs.tests.bad_parent.Goals as goal
 
 pub returns-then-n-eq0 : goal.returns-then-n-eq0
 unfolding bad_parent
-returns-then-n-eq0 c = rw (eq-eqb _ _ c.if-n-eq0.true, c.wide-p.ensures.0, c.parent.ensures)
+returns-then-n-eq0 c = rw (eq-eqb _ _ c.if-n-eq0.true, c.from-p.ensures, c.parent.ensures)
 
 pub returns : goal.returns
 unfolding bad_parent
@@ -13,7 +13,7 @@ returns c =
     rw (
       ne_eqb _ _ c.if-n-eq0.false,
       c.is_group.ensures,
-      c.wide-p.ensures.0,
+      c.from-p.ensures,
       c.parent.ensures,
     )
 

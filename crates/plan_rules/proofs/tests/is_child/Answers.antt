@@ -21,7 +21,7 @@ unfolding is_child
 returns-then-n-nodes c =
     let a = c.args in
     let l : a.n < node_count a.plan.now = omega arith in
-    simp (lt-ltb 0 a.n (omega arith), lt-ltb _ _ l, c.wide.ensures.0, c.parent.ensures)
+    simp (lt-ltb 0 a.n (omega arith), lt-ltb _ _ l, c.from.ensures, c.parent.ensures)
 
 pub returns : goal.returns
 unfolding is_child

@@ -1,0 +1,68 @@
+-- What `any` answers. Assumes nothing.
+use mathlib.Core.Path.{◌≡◌, refl, sym, ap, ◌∙◌}
+use mathlib.Core.Bool.{Bool, true, false, ◌||◌}
+use mathlib.Core.List.{List, [], ◌∷◌}
+use Prim.Native.Nat.{ℕ, ◌<◌}
+use native.Mathlib.Omega.{arith}
+use denote.Param.Members.{Mut}
+use lib.ListN.{length, get_or}
+use Rattle.std.proofs.Common.{Bor}
+use Rattle.std.specs.Fn.{Called}
+use Rattle.std.specs.Bool.{MatchBool}
+use Rattle.std.proofs.lemmas.List.FromFn.{length-range_with_len, get_or-range_with_len}
+use Rattle.std.specs.Iterator.{YieldsThen}
+use Rattle.std.specs.List.{FoldsTo, list_any, range_with_len, HoldsAt, AllWithin}
+use Rattle.std.specs.Option.{MatchOption}
+use Rattle.std.proofs.iter.Yields.{fronts, nat_range_steps}
+use Rattle.std.specs.declared.ops.Range.{Range}
+use Rattle.std.specs.declared.option.Option.{Option}
+use Rattle.std.proofs.lemmas.Iterator.{YieldsList-from_range, YieldsList-from_slice, cases_from_any}
+use Rattle.std.proofs.lemmas.Iterator.Search.{any_from_yields_List}
+use Rattle.std.specs.Slice.Iter.{iter_rest}
+use Rattle.std.proofs.Common.{Iter}
+use Rattle.runs.specs.Searches.{either, any_below, any_in}
+use Rattle.runs.proofs.Searches.{some_yes, none_all}
+
+-- a yes or a no about each number of a list
+settle : (r : Bool) (n : ℕ) (p : ℕ → Bool)
+    → MatchBool r ((k : ℕ) × (k < length (range_with_len 0 n)) × HoldsAt (λ x. p x ≡ true) (range_with_len 0 n) k)
+    (AllWithin (λ x. p x ≡ false) (range_with_len 0 n) 0 (length (range_with_len 0 n)))
+    → r ≡ any_below n p
+settle true n p w =
+    let e = length-range_with_len 0 n in
+    let l : w.0 < n = rw e at w.1 in
+    let v : get_or (range_with_len 0 n) w.0 0 ≡ w.0 = get_or-range_with_len 0 n w.0 0 l ∙ omega arith in
+    sym (some_yes n p w.0 l (rw v at (w.2 0)))
+settle false n p w = sym (none_all n p (λ k l.
+    let e = length-range_with_len 0 n in
+    let m : k < length (range_with_len 0 n) = rw e l in
+    let v : get_or (range_with_len 0 n) k 0 ≡ k = get_or-range_with_len 0 n k 0 l ∙ omega arith in
+    rw v at (w k 0 (omega arith) m)))
+
+-- over the numbers below n
+pub any_numbers : {F : Type 0} {g : Mut F (ℕ × Unit {0}) Bool} {s u : Range ℕ} {f : F} {r : Bool} (n : ℕ) (p : ℕ → Bool)
+    → s ≡ record { start = 0; end = n }
+    → (xs : List ℕ) × (o : Option ℕ) × (j : F) × YieldsThen nat_range_steps s xs o u × FoldsTo (λ p x q. Called g p (x, tt) false q) f xs j × MatchOption o (r ≡ false) (λ x. (r ≡ true) × ((h : F) × Called g j (x, tt) true h))
+    → ((x : ℕ) (b : Bool) (q : F) → Called g f (x, tt) b q → (q ≡ f) × (b ≡ p x))
+    → r ≡ any_below n p
+any_numbers {r = r} n p e h k = settle r n p (cases_from_any _ _ _ (λ x. p x ≡ true) (λ x. p x ≡ false) h
+    (YieldsList-from_range 0 n n e (omega arith)) (λ x q c. sym (k x true q c).1) (λ x q c. ((k x false q c).0, sym (k x false q c).1)))
+
+-- ---- over a list
+either_or : (a b : Bool) → a || b ≡ either a (λ u. b)
+unfolding either
+either_or true b = refl
+either_or false b = refl
+
+list_any_in : (xs : List ℕ) (p : ℕ → Bool) → list_any p xs ≡ any_in xs p
+unfolding any_in
+list_any_in [] p = refl
+list_any_in (x ∷ xs) p = either_or (p x) (list_any p xs)
+    ∙ ap (λ (b : Bool). either (p x) (λ u. b)) (list_any_in xs p)
+
+pub any_listed : {F : Type 0} {g : Mut F (Bor ℕ × Unit {0}) Bool} {s u : Iter ℕ} {f : F} {r : Bool} (l : List ℕ) (p : ℕ → Bool)
+    → iter_rest s ≡ l
+    → (xs : List (Bor ℕ)) × (o : Option (Bor ℕ)) × (j : F) × YieldsThen fronts s xs o u × FoldsTo (λ p x q. Called g p (x, tt) false q) f xs j × MatchOption o (r ≡ false) (λ x. (r ≡ true) × ((h : F) × Called g j (x, tt) true h))
+    → ((x : Bor ℕ) (b : Bool) (q : F) → Called g f (x, tt) b q → (q ≡ f) × (b ≡ p x.now))
+    → r ≡ any_in l p
+any_listed {r = r} l p e h k = any_from_yields_List p _ _ _ h (YieldsList-from_slice l e) k ∙ list_any_in l p
