@@ -30,17 +30,16 @@ impl Flags {
     pub fn all(sign: bool) -> Flags
         ensures { result.bytes ≡ replicate 8 (all_byte sign) }
     {
-        let x = if sign { 255u8 } else { 0u8 };
-        Flags { bytes: [x; 8] }
+        Flags {
+            bytes: [if sign { 255 } else { 0 }; 8],
+        }
     }
 
     pub fn has(self, f: usize) -> bool
         requires { f < 64 }
         ensures { result ≡ flag_in self.bytes f }
     {
-        let at = f / 8;
-        let x = self.bytes[at];
-        (x >> (f % 8)) % 2 == 1
+        (self.bytes[f / 8] >> (f % 8)) % 2 == 1
     }
 
     // The flags with the literal made true: flag f at the sign.
@@ -60,21 +59,14 @@ pub fn load(state: &[u8]) -> Flags
     requires { 8 ≤ length state.now }
     ensures { result.bytes ≡ take 8 state.now }
 {
-    Flags {
-        bytes: [
-            state[0], state[1], state[2], state[3], state[4], state[5], state[6], state[7],
-        ],
-    }
+    let mut bytes = [0; 8];
+    bytes.copy_from_slice(&state[..8]);
+    Flags { bytes }
 }
 
 pub fn store(state: &mut [u8], flags: Flags)
     requires { 8 ≤ length state.old }
     ensures { state.new ≡ flags.bytes ++ drop 8 state.old }
 {
-    let bytes = flags.bytes;
-    let mut i = 0;
-    while i < 8 {
-        state[i] = bytes[i];
-        i += 1;
-    }
+    state[..8].copy_from_slice(&flags.bytes);
 }
