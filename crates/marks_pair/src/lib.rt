@@ -49,14 +49,14 @@ fn pair_word(
             always: false,
             flags: shared,
         };
-        return passing(kids, segment, order, rows, given, partners);
-    }
-    if apart(order, c, d) {
+        passing(kids, segment, order, rows, given, partners)
+    } else if apart(order, c, d) {
         let required = word_at(rows, c, REQUIRES + sign) & word_at(rows, d, ASSERTS + (1 - sign));
         let left = word_at(rows, c, POSTS + sign) & word_at(rows, d, POSTS + (1 - sign));
-        return wanted.flags & (required | left);
+        wanted.flags & (required | left)
+    } else {
+        0
     }
-    0
 }
 
 // The wanted literals that a child and its partner clobber.
@@ -82,10 +82,7 @@ pub fn pair_words(
     };
     let clear = pair_word(kids, segment, order, rows, wanted_clear, partners);
     let set = pair_word(kids, segment, order, rows, wanted_set, partners);
-    Literals {
-        clear: clear,
-        set: set,
-    }
+    Literals { clear, set }
 }
 
 // The position of the next child to pair with c: the given one, or past them all, if c requires or leaves no wanted
@@ -97,7 +94,8 @@ pub fn next_partner(rows: &Rows, wanted: Literals, c: usize, next: usize, end: u
     let clear = word_at(rows, c, REQUIRES) | word_at(rows, c, POSTS);
     let set = word_at(rows, c, REQUIRES + 1) | word_at(rows, c, POSTS + 1);
     if ((wanted.clear & clear) | (wanted.set & set)) == 0 {
-        return end;
+        end
+    } else {
+        next
     }
-    next
 }

@@ -1,6 +1,6 @@
--- `next_partner` meets its contract. Assumes nothing.
+-- `next_partner` meets its contract, where it passes over all partners. Assumes nothing.
 use mathlib.Core.Path.{refl}
-use mathlib.Core.Logic.{inl, inr}
+use mathlib.Core.Logic.{inr}
 use Rattle.marks_pair.proofs.Pairs.{unconcerned}
 use Rattle.marks_pair.proofs.next_partner.Goals as goal
 
@@ -12,6 +12,3 @@ returns-then-wanted-clear-eq0 c =
           c.word_at-3.ensures c.word_at-4.ensures
           c.if-wanted-clear-eq0.true,
     )
-
-pub returns : goal.returns
-returns c = inl refl

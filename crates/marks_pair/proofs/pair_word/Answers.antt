@@ -1,25 +1,18 @@
 -- `pair_word` meets its contract: a case for each place where it returns. Assumes nothing.
-use Prim.Native.Nat.{◌<◌}
 use Rattle.tables.proofs.Turns.{position_small, pair_small}
 use Rattle.marks_between.proofs.Passed.{passing_kid}
 use Rattle.marks_between.proofs.Pair.{pair_kid}
 use Rattle.marks_pair.proofs.Pairs.{none_shared, shared_passes, apart_both, neither_rule}
 use native.Mathlib.Omega.{arith}
 use Rattle.marks_pair.proofs.pair_word.Goals as goal
-use Rattle.marks_pair.proofs.pair_word.Goals.{After-from-d}
-
--- both children are nodes, and the sign is one of two
-small : (w : After-from-d) → let a = w.args in
-    ((a.partners.child < 128) × (w.from-d.result < 128)) × (a.wanted.sign < 2)
-small w = let s = w in (pair_small s.requires.0 w.from-d.ensures, s.requires.1)
 
 pub returns-then-shared-eq0 : goal.returns-then-shared-eq0
 returns-then-shared-eq0 c = pair_kid c.from-d.ensures
     (none_shared _ _ _ c.if-order-d-eq-BEFORE.true c.word_at.ensures
     c.word_at-then-order-d-eq-BEFORE.ensures c.if-shared-eq0.true)
 
-pub returns-then-order-d-eq-BEFORE : goal.returns-then-order-d-eq-BEFORE
-returns-then-order-d-eq-BEFORE c = let e = c.from-d.ensures in
+pub returns-else-shared-eq0 : goal.returns-else-shared-eq0
+returns-else-shared-eq0 c = let e = c.from-d.ensures in
     pair_kid e (shared_passes _ _ _ c.if-order-d-eq-BEFORE.true
     c.word_at.ensures c.word_at-then-order-d-eq-BEFORE.ensures
     (passing_kid e c.passing.ensures))
@@ -31,30 +24,30 @@ returns-then-apart c =
     c.word_at-then-apart.ensures c.word_at-then-apart-2.ensures
     c.word_at-then-apart-3.ensures c.word_at-then-apart-4.ensures)
 
-pub returns : goal.returns
-returns c = pair_kid c.from-d.ensures
+pub returns-else-apart : goal.returns-else-apart
+returns-else-apart c = pair_kid c.from-d.ensures
     (neither_rule _ c.if-order-d-eq-BEFORE.false (λ u. rw c.if-apart.false at (c.apart.ensures.1 u)))
 
 pub bounds-kids-j : goal.bounds-kids-j
 bounds-kids-j c = position_small c.requires.0.segment c.requires.0.other
 
 pub overflow_mul-d : goal.overflow_mul-d
-overflow_mul-d c = omega (arith, small (goal.at.overflow_mul-d c).After-from-d)
+overflow_mul-d c = omega (arith, pair_small c.requires.0 c.from-d.ensures)
 
 pub overflow_add-d : goal.overflow_add-d
-overflow_add-d c = omega (arith, small (goal.at.overflow_add-d c).After-from-d)
+overflow_add-d c = omega (arith, pair_small c.requires.0 c.from-d.ensures)
 
 pub bounds-order-d : goal.bounds-order-d
-bounds-order-d c = omega (arith, small (goal.at.bounds-order-d c).After-from-d)
+bounds-order-d c = omega (arith, pair_small c.requires.0 c.from-d.ensures)
 
 pub word_at-requires : goal.word_at-requires
-word_at-requires c = omega (arith, small (goal.at.word_at-requires c).After-from-d)
+word_at-requires c = omega (arith, pair_small c.requires.0 c.from-d.ensures)
 
 pub apart-requires : goal.apart-requires
-apart-requires c = omega (arith, small (goal.at.apart-requires c).After-from-d)
+apart-requires c = omega (arith, pair_small c.requires.0 c.from-d.ensures)
 
 pub word_at-requires-then-apart-2 : goal.word_at-requires-then-apart-2
-word_at-requires-then-apart-2 c = omega (arith, small (goal.at.word_at-requires-then-apart-2 c).After-from-d)
+word_at-requires-then-apart-2 c = omega (arith, pair_small c.requires.0 c.from-d.ensures)
 
 pub word_at-requires-then-apart-4 : goal.word_at-requires-then-apart-4
-word_at-requires-then-apart-4 c = omega (arith, small (goal.at.word_at-requires-then-apart-4 c).After-from-d)
+word_at-requires-then-apart-4 c = omega (arith, pair_small c.requires.0 c.from-d.ensures)
