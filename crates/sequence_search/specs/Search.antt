@@ -2,6 +2,8 @@
 -- what it finds. Definitions only.
 use Rattle.std.specs.Prelude.{◌≡◌, Bool, true, false, not, ℕ, ◌+◌, ◌*◌, ◌^◌, ◌<◌, ◌≤◌, ◌-◌, eqb, get_or, length}
 use Rattle.std.proofs.Math.Option.{Option, none, some}
+use Rattle.std.specs.declared.option.Option as answer
+use Rattle.std.specs.declared.option.Option.TheVariants.{Some, None}
 use mathlib.Core.List.{List, Memᴰ as Among}
 use Rattle.std.specs.Int.Bits.{bit_and, bit_or, bit_xor}
 use Rattle.base.specs.Bits.{bit}
@@ -15,7 +17,6 @@ use Rattle.marks_row.specs.Columns.{avoid, may_pre, may_post, word_in, Right}
 use Rattle.sequences.specs.Model.{MayBeTrue, DeadEnd, FirstRest}
 use Rattle.sequences.specs.Word.{packed}
 use Rattle.sequence_search.specs.declared.Reach.{Reach}
-use Rattle.sequence_search.specs.declared.Ending.{Ending}
 
 -- the children of the root, at most
 abbrev pub CHILDREN : ℕ
@@ -73,13 +74,12 @@ pub record ComeTo (p : Plan) (F : ℕ → Bool) (kids : List ℕ) (s : Segment) 
   pub may_be : (v : Bool) (f : ℕ) → f < 64 → Says (flags_for r v) f (MayBeTrue p F f v seen)
 
 -- what is found: nothing, or a list of n nodes
-pub data Carries (n : ℕ) (r : Ending) : Option (List ℕ) → Type 0 where
-  nothing : r.found ≡ false → Carries n r none
-  nodes : {xs : List ℕ} → r.found ≡ true → r.word ≡ packed xs → length xs ≡ n → packed xs < 2 ^ (8 * n)
-      → Carries n r (some xs)
+pub data Carries (n : ℕ) (r : answer.Option ℕ) : Option (List ℕ) → Type 0 where
+  nothing : r ≡ None → Carries n r none
+  nodes : {xs : List ℕ} → r ≡ Some (packed xs) → length xs ≡ n → packed xs < 2 ^ (8 * n) → Carries n r (some xs)
 
 -- of every plan that the tables fit, and wherever the search has come to: the first rest after it
-abbrev pub Finds : List ℕ → List ℕ → Segment → List ℕ → Reach → Ending → Type 0
+abbrev pub Finds : List ℕ → List ℕ → Segment → List ℕ → Reach → answer.Option ℕ → Type 0
 Finds rows kids s before r z = (p : Plan) (F : ℕ → Bool) (seen : List ℕ) → Tabled p rows kids s before
     → ComeTo p F kids s seen r → (o : Option (List ℕ)) × FirstRest p F seen o × Carries r.left z o
 

@@ -25,19 +25,6 @@ pub struct Reach {
     pub clear: u64,
 }
 
-// What a search comes to: the rest of a sequence, its first node in the lowest byte.
-#[derive(Clone, Copy)]
-pub struct Ending {
-    pub found: bool,
-    pub word: u64,
-}
-
-fn byte_word(x: u8) -> u64
-    ensures { result ≡ x }
-{
-    x as u64
-}
-
 // Whether a child may come next: it is not yet seen, all that stand before it are, and it may need no literal whose
 // opposite may be true. Its own place is a bit, and a mask has the places of those before it.
 fn may_follow(rows: &Rows, child: usize, mask: u64, own: u64, reach: Reach) -> bool
@@ -66,38 +53,31 @@ fn moved_on(rows: &Rows, child: usize, own: u64, reach: Reach) -> Reach
     }
 }
 
-// The first rest of a sequence after the children seen, if there is one: the children are tried in rising order, and
-// one that may not come next is left at once.
-pub fn search(rows: &Rows, kids: &Nodes, segment: Segment, before: &Masks, reach: Reach) -> Ending
+// The first rest of a sequence after the children seen, if there is one, as a word with its first node in the lowest
+// byte: the children are tried in rising order, and one that may not come next is left at once.
+pub fn search(
+    rows: &Rows,
+    kids: &Nodes,
+    segment: Segment,
+    before: &Masks,
+    reach: Reach,
+) -> Option<u64>
     requires { InRange kids.now segment }
     ensures { Finds rows.now kids.now segment before.now reach result }
 {
     if reach.left == 0 {
-        return Ending {
-            found: true,
-            word: 0,
-        };
+        return Some(0);
     }
-    let count = segment.end - segment.start;
-    let mut i = 0;
-    while i < count {
+    for i in 0..segment.end - segment.start {
         let byte = kids[segment.start + i];
         let child = usize::from(byte);
         let own = 1u64 << i;
         if may_follow(rows, child, before[i], own, reach) {
             let next = moved_on(rows, child, own, reach);
-            let rest = search(rows, kids, segment, before, next);
-            if rest.found {
-                return Ending {
-                    found: true,
-                    word: (rest.word << 8) | byte_word(byte),
-                };
+            if let Some(rest) = search(rows, kids, segment, before, next) {
+                return Some((rest << 8) | u64::from(byte));
             }
         }
-        i += 1;
     }
-    Ending {
-        found: false,
-        word: 0,
-    }
+    None
 }

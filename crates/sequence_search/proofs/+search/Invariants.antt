@@ -1,5 +1,4 @@
 -- The number of children left falls; those before place i are dead ends.
-use Rattle.std.proofs.Common.{◌-◌, ◌≤◌}
 use Rattle.sequence_search.specs.Search.{DeadTo}
 use Rattle.sequence_search.proofs.+search.Given as goal
 
@@ -7,7 +6,4 @@ abbrev pub decreases-search : goal.decreases-search
 decreases-search l = l.reach.left
 
 abbrev pub invariant-loop-i : goal.invariant-loop-i
-invariant-loop-i l = (l.i ≤ l.count) × DeadTo l.rows l.kids l.segment l.before l.reach l.i
-
-abbrev pub decreases-loop-i : goal.decreases-loop-i
-decreases-loop-i l = l.count - l.i
+invariant-loop-i l = DeadTo l.rows l.kids l.segment l.before l.reach l.i
