@@ -1,13 +1,11 @@
 -- Inner contracts: the value of a condition by the cases of the enums that it is parsed into. Definitions only.
-use Rattle.std.specs.Prelude.{ℕ, true, false, cond, eqb, leb}
+use Rattle.std.specs.Prelude.{ℕ, true, false, cond, eqb, leb, Option, Some, None}
 use Rattle.runs.specs.Plan.{pre, inc, post, place_number, sign_number}
 use Rattle.plan_codes.specs.declared.value.Place.{Place}
 use Rattle.plan_codes.specs.declared.value.Place.TheVariants.{Pre, Inc, Post}
 use Rattle.plan_codes.specs.declared.value.Sign.{Sign}
 use Rattle.plan_codes.specs.declared.value.Sign.TheVariants.{Clear, Set}
 use Rattle.plan_codes.specs.declared.value.Condition.{Condition}
-use Rattle.plan_codes.specs.declared.value.Parsed.{Parsed}
-use Rattle.plan_codes.specs.declared.value.Parsed.TheVariants as parsed
 use Rattle.plan_codes.specs.Values.{flag_of, sign_of, place_of, value_of}
 
 -- 01's numbers of the enums' cases
@@ -31,7 +29,6 @@ abbrev pub sign_at : ℕ → Sign
 sign_at s = cond (eqb s 0) Clear Set
 
 -- what a value says; over 383 it is refused
-unfoldable pub parsed_of : ℕ → Parsed
+unfoldable pub parsed_of : ℕ → Option Condition
 parsed_of v =
-    cond (leb v 383) (parsed.Accepted
-    (record { place = place_at (place_of v); sign = sign_at (sign_of v); flag = flag_of v })) parsed.Refused
+    cond (leb v 383) (Some (record { place = place_at (place_of v); sign = sign_at (sign_of v); flag = flag_of v })) None

@@ -6,70 +6,63 @@ ghost use Rattle.plan_codes.specs.Cases.{parsed_of, place_num, sign_num};
 use base::places::{INC, POST, PRE};
 
 // 01: need, hold, leaving
-#[derive(Drop)]
+#[derive(Clone, Copy)]
 pub enum Place {
     Pre,
     Inc,
     Post,
 }
 
-#[derive(Drop)]
+#[derive(Clone, Copy)]
 pub enum Sign {
     Clear,
     Set,
 }
 
-#[derive(Drop)]
+#[derive(Clone, Copy)]
 pub struct Condition {
     pub place: Place,
     pub sign: Sign,
     pub flag: u16,
 }
 
-#[derive(Drop)]
-pub enum Parsed {
-    Accepted(Condition),
-    Refused,
+// 01's numbers of the cases.
+impl From<Place> for u16 {
+    ghost from_gives = { λ p n. n ≡ place_num p };
+
+    fn from(place: Place) -> u16 {
+        match place {
+            Place::Pre => PRE,
+            Place::Inc => INC,
+            Place::Post => POST,
+        }
+    }
 }
 
-fn accepted(place: Place, sign: Sign, flag: u16) -> Parsed
-    ensures { result ≡ Parsed.Accepted (record { place = place; sign = sign; flag = flag }) }
-{
-    Parsed::Accepted(Condition { place, sign, flag })
+impl From<Sign> for u16 {
+    ghost from_gives = { λ s n. n ≡ sign_num s };
+
+    fn from(sign: Sign) -> u16 {
+        match sign {
+            Sign::Clear => 0,
+            Sign::Set => 1,
+        }
+    }
 }
 
-pub fn parse(v: u16) -> Parsed
+pub fn parse(v: u16) -> Option<Condition>
     ensures { result ≡ parsed_of v }
 {
-    match v {
-        0..=63 => accepted(Place::Pre, Sign::Clear, v),
-        64..=127 => accepted(Place::Pre, Sign::Set, v - 64),
-        128..=191 => accepted(Place::Inc, Sign::Clear, v - 128),
-        192..=255 => accepted(Place::Inc, Sign::Set, v - 192),
-        256..=319 => accepted(Place::Post, Sign::Clear, v - 256),
-        320..=383 => accepted(Place::Post, Sign::Set, v - 320),
-        _ => Parsed::Refused,
-    }
-}
-
-// 01's numbers of the cases.
-pub fn place_number(place: Place) -> u16
-    ensures { result ≡ place_num place }
-{
-    match place {
-        Place::Pre => PRE,
-        Place::Inc => INC,
-        Place::Post => POST,
-    }
-}
-
-pub fn sign_number(sign: Sign) -> u16
-    ensures { result ≡ sign_num sign }
-{
-    match sign {
-        Sign::Clear => 0,
-        Sign::Set => 1,
-    }
+    let (place, sign, flag) = match v {
+        0..=63 => (Place::Pre, Sign::Clear, v),
+        64..=127 => (Place::Pre, Sign::Set, v - 64),
+        128..=191 => (Place::Inc, Sign::Clear, v - 128),
+        192..=255 => (Place::Inc, Sign::Set, v - 192),
+        256..=319 => (Place::Post, Sign::Clear, v - 256),
+        320..=383 => (Place::Post, Sign::Set, v - 320),
+        _ => return None,
+    };
+    Some(Condition { place, sign, flag })
 }
 
 // The parts of a value that is not refused.
@@ -77,44 +70,26 @@ pub fn place_of(v: u16) -> u16
     requires { v ≤ 383 }
     ensures { result ≡ place_of v }
 {
-    match parse(v) {
-        Parsed::Accepted(c) => {
-            let place = c.place;
-            place_number(place)
-        }
-        Parsed::Refused => 0,
-    }
+    parse(v).map_or(0, |c| u16::from(c.place))
 }
 
 pub fn sign_of(v: u16) -> u16
     requires { v ≤ 383 }
     ensures { result ≡ sign_of v }
 {
-    match parse(v) {
-        Parsed::Accepted(c) => {
-            let sign = c.sign;
-            sign_number(sign)
-        }
-        Parsed::Refused => 0,
-    }
+    parse(v).map_or(0, |c| u16::from(c.sign))
 }
 
 pub fn flag_of(v: u16) -> u16
     requires { v ≤ 383 }
     ensures { result ≡ flag_of v }
 {
-    match parse(v) {
-        Parsed::Accepted(c) => c.flag,
-        Parsed::Refused => 0,
-    }
+    parse(v).map_or(0, |c| c.flag)
 }
 
 // The value is over 383, or its flag is none of the plan's.
 pub fn value_bad(v: u16, flags: usize) -> bool
     ensures { result ≡ value_bad v flags }
 {
-    match parse(v) {
-        Parsed::Accepted(c) => flags <= c.flag as usize,
-        Parsed::Refused => true,
-    }
+    parse(v).is_none_or(|c| flags <= usize::from(c.flag))
 }

@@ -1,14 +1,8 @@
 -- `plan_codes::value::place_of` meets its contract. Assumes nothing.
-use native.Mathlib.Omega.{arith}
-use mathlib.Core.Path.{sym, ◌∙◌}
-use Rattle.plan_codes.proofs.Values.{says, refused}
+use Rattle.std.proofs.Common.{rules}
+use Rattle.plan_codes.proofs.Values.{within, place_in}
 use Rattle.plan_codes.proofs.value.place_of.Goals as goal
 
-pub returns-in-Accepted : goal.returns-in-Accepted
-returns-in-Accepted c =
-    let k = c in
-    let s = says _ _ (sym k.parse.ensures ∙ k.in-Accepted.is) in
-    c.place_number.ensures ∙ s.place
-
-pub returns-in-Refused : goal.returns-in-Refused
-returns-in-Refused c = absurd (omega (arith, refused _ (sym c.parse.ensures ∙ c.in-Refused.is)))
+pub returns : goal.returns
+returns c = let m = rw (c.parse.ensures, within c.args.v c.requires) at c.map_or.ensures in
+    let e = place_in c.args.v c.requires in search rules

@@ -1,19 +1,18 @@
 -- `plan_codes::value::value_bad` meets its contract. Assumes nothing.
-use mathlib.Core.Path.{sym, ◌∙◌}
-use borrow.Author.Tests.{lt-ltb, le-ltb}
+use Rattle.std.proofs.Common.{rules, arith}
+use native.Mathlib.Decide.{dec_le}
+use Prim.Native.Nat.{◌≤◌}
+use mathlib.Core.Logic.{by_cases}
+use borrow.Author.Tests.{le-ltb, lt-ltb}
 use Rattle.plan_codes.specs.Values.{value_bad}
-use Rattle.plan_codes.proofs.Values.{says, refused}
+use Rattle.plan_codes.proofs.Values.{within, over}
 use Rattle.plan_codes.proofs.value.value_bad.Goals as goal
 
-pub returns-in-Accepted : goal.returns-in-Accepted
+pub returns : goal.returns
 unfolding value_bad
-returns-in-Accepted c =
-    let k = c in
-    let s = says _ _ (sym k.parse.ensures ∙ k.in-Accepted.is) in
-    simp (le-ltb 383 k.args.v s.limit, s.flag)
-
-pub returns-in-Refused : goal.returns-in-Refused
-unfolding value_bad
-returns-in-Refused c =
-    let v = c.args.v in
-    simp (lt-ltb 383 v (refused v (sym c.parse.ensures ∙ c.in-Refused.is)))
+returns c =
+    by_cases (dec_le c.args.v 383)
+    (λ (l : c.args.v ≤ 383). let m = rw (c.parse.ensures, within c.args.v l) at c.is_none_or.ensures in
+    rw (le-ltb 383 c.args.v l) (search rules))
+    (λ l. let m = rw (c.parse.ensures, over c.args.v (omega arith)) at c.is_none_or.ensures in
+    rw (lt-ltb 383 c.args.v (omega arith)) (search rules))
