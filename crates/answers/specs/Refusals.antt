@@ -47,7 +47,7 @@ number MergedSizes = 33
 number StartsApart = 34
 
 -- 0, or the number of the cause
-abbrev pub returned : Result (Unit {0}) Refusal → ℕ
+abbrev pub returned : {A : Type 0} → Result A Refusal → ℕ
 returned (Ok x) = 0
 returned (Err e) = number e
 

@@ -2,13 +2,18 @@
 #![tactic(auto)]
 
 ghost use Rattle.std.specs.Prelude.{◌≡◌, ◌≤◌, length};
+ghost use Rattle.answers.specs.Refusals.{returned};
 ghost use Rattle.plan_format.specs.Format.{whole_length};
 ghost use Rattle.plan_format.specs.Whole.{Limits, Whole};
 ghost use Rattle.plan_rules.specs.Rules.{refusal, cause2};
 ghost use Rattle.plan_check.specs.Parts.{from_nodes, from_conditions, from_orders};
 
+use answers::Refusal;
 use plan_format::fields::{conditions, flags, nodes, orders};
-use plan_rules_each::{Rule, broken};
+use plan_rules_each::{
+    some_bad_char, some_bad_condition, some_bad_entry, some_bad_order, some_bad_parent,
+    some_bad_start, some_conditions_fall, some_orders_fall,
+};
 use plan_rules_later::{Pass, refuses};
 
 fn sizes_bad(plan: &[u8]) -> bool
@@ -29,72 +34,72 @@ fn whole_length(plan: &[u8]) -> usize
     16 + 8 * nodes(plan) + 3 * conditions(plan) + 2 * orders(plan)
 }
 
-fn check_orders(plan: &[u8]) -> u32
+fn check_orders(plan: &[u8]) -> Result<(), Refusal>
     requires { Whole plan.now }
-    ensures { result ≡ from_orders plan.now }
+    ensures { returned result ≡ from_orders plan.now }
 {
-    if broken(plan, Rule::Orders) {
-        return 13;
+    if some_bad_order(plan) {
+        return Err(Refusal::BadOrder);
     }
-    if broken(plan, Rule::RisingOrders) {
-        return 14;
+    if some_orders_fall(plan) {
+        return Err(Refusal::OrdersFall);
     }
-    0
+    Ok(())
 }
 
-fn check_conditions(plan: &[u8]) -> u32
+fn check_conditions(plan: &[u8]) -> Result<(), Refusal>
     requires { Whole plan.now }
-    ensures { result ≡ from_conditions plan.now }
+    ensures { returned result ≡ from_conditions plan.now }
 {
-    if broken(plan, Rule::Conditions) {
-        return 9;
+    if some_bad_condition(plan) {
+        return Err(Refusal::BadCondition);
     }
-    if broken(plan, Rule::RisingConditions) {
-        return 10;
+    if some_conditions_fall(plan) {
+        return Err(Refusal::ConditionsFall);
     }
     if refuses(plan, Pass::Signs) {
-        return 11;
+        return Err(Refusal::BothSigns);
     }
     if refuses(plan, Pass::Posts) {
-        return 12;
+        return Err(Refusal::NoPostcondition);
     }
     check_orders(plan)
 }
 
-fn check_nodes(plan: &[u8]) -> u32
+fn check_nodes(plan: &[u8]) -> Result<(), Refusal>
     requires { Whole plan.now }
-    ensures { result ≡ from_nodes plan.now }
+    ensures { returned result ≡ from_nodes plan.now }
 {
-    if broken(plan, Rule::Starts) {
-        return 4;
+    if some_bad_start(plan) {
+        return Err(Refusal::BadStart);
     }
-    if broken(plan, Rule::Names) {
-        return 5;
+    if some_bad_char(plan) {
+        return Err(Refusal::BadName);
     }
-    if broken(plan, Rule::Entries) {
-        return 6;
+    if some_bad_entry(plan) {
+        return Err(Refusal::BadEntry);
     }
-    if broken(plan, Rule::Parents) {
-        return 7;
+    if some_bad_parent(plan) {
+        return Err(Refusal::BadParent);
     }
     if refuses(plan, Pass::Children) {
-        return 8;
+        return Err(Refusal::Childless);
     }
     check_conditions(plan)
 }
 
-// The first cause for which the plan is refused, or 0.
-pub fn check(plan: &[u8]) -> u32
-    ensures { result ≡ refusal plan.now }
+// Refuses a plan for the first cause that applies.
+pub fn check(plan: &[u8]) -> Result<(), Refusal>
+    ensures { returned result ≡ refusal plan.now }
 {
     if plan.len() < 16 {
-        return 1;
+        return Err(Refusal::TooShort);
     }
     if sizes_bad(plan) {
-        return 2;
+        return Err(Refusal::BadSizes);
     }
     if plan.len() != whole_length(plan) {
-        return 3;
+        return Err(Refusal::WrongLength);
     }
     check_nodes(plan)
 }

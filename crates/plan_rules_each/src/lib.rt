@@ -1,10 +1,10 @@
-// The rules that test each flag, character, node, condition or order by itself: one search for an index that breaks the
+// The rules that test each flag, character, node, condition or order by itself: a search for an index that breaks the
 // rule.
 #![tactic(auto)]
 
-ghost use Rattle.std.specs.Prelude.{◌≡◌, ◌-◌, ◌<◌};
+ghost use Rattle.std.specs.Prelude.{◌≡◌};
 ghost use Rattle.plan_format.specs.Whole.{Whole};
-ghost use Rattle.plan_rules_each.specs.Indexed.{count_of, test_of, cause_of};
+ghost use Rattle.plan_rules.specs.Rules.{cause4, cause5, cause6, cause7, cause9, cause10, cause13, cause14};
 
 use plan_format::fields::{conditions, nodes, orders};
 use plan_rules::tests::{
@@ -12,70 +12,66 @@ use plan_rules::tests::{
     orders_fall,
 };
 
-#[derive(Clone, Copy)]
-pub enum Rule {
-    Starts,
-    Names,
-    Entries,
-    Parents,
-    Conditions,
-    RisingConditions,
-    Orders,
-    RisingOrders,
-}
-
-fn less_one(n: usize) -> usize
-    ensures { result ≡ n - 1 }
-{
-    if n == 0 { 0 } else { n - 1 }
-}
-
-// How many indices the rule has.
-fn count(plan: &[u8], rule: Rule) -> usize
+// 4: some start flag is none of the plan's.
+pub fn some_bad_start(plan: &[u8]) -> bool
     requires { Whole plan.now }
-    ensures { result ≡ count_of rule plan.now }
+    ensures { result ≡ cause4 plan.now }
 {
-    match rule {
-        Rule::Starts => 64,
-        Rule::Names => 4 * nodes(plan),
-        Rule::Entries => nodes(plan),
-        Rule::Parents => nodes(plan),
-        Rule::Conditions => conditions(plan),
-        Rule::RisingConditions => less_one(conditions(plan)),
-        Rule::Orders => orders(plan),
-        Rule::RisingOrders => less_one(orders(plan)),
-    }
+    (0..64).any(|f| bad_start(plan, f))
 }
 
-// The test of the rule at i.
-fn broken_at(plan: &[u8], rule: Rule, i: usize) -> bool
-    requires { (i < count_of rule plan.now) × Whole plan.now }
-    ensures { result ≡ test_of rule plan.now i }
-{
-    match rule {
-        Rule::Starts => bad_start(plan, i),
-        Rule::Names => bad_char(plan, i),
-        Rule::Entries => bad_entry(plan, i),
-        Rule::Parents => bad_parent(plan, i),
-        Rule::Conditions => bad_condition(plan, i),
-        Rule::RisingConditions => conditions_fall(plan, i),
-        Rule::Orders => bad_order(plan, i),
-        Rule::RisingOrders => orders_fall(plan, i),
-    }
-}
-
-// The cause of the rule applies.
-pub fn broken(plan: &[u8], rule: Rule) -> bool
+// 5: some character of the names is not allowed.
+pub fn some_bad_char(plan: &[u8]) -> bool
     requires { Whole plan.now }
-    ensures { result ≡ cause_of rule plan.now }
+    ensures { result ≡ cause5 plan.now }
 {
-    let n = count(plan, rule);
-    let mut i = 0;
-    while i < n {
-        if broken_at(plan, rule, i) {
-            return true;
-        }
-        i += 1;
-    }
-    false
+    (0..4 * nodes(plan)).any(|k| bad_char(plan, k))
+}
+
+// 6.
+pub fn some_bad_entry(plan: &[u8]) -> bool
+    requires { Whole plan.now }
+    ensures { result ≡ cause6 plan.now }
+{
+    (0..nodes(plan)).any(|n| bad_entry(plan, n))
+}
+
+// 7.
+pub fn some_bad_parent(plan: &[u8]) -> bool
+    requires { Whole plan.now }
+    ensures { result ≡ cause7 plan.now }
+{
+    (0..nodes(plan)).any(|n| bad_parent(plan, n))
+}
+
+// 9.
+pub fn some_bad_condition(plan: &[u8]) -> bool
+    requires { Whole plan.now }
+    ensures { result ≡ cause9 plan.now }
+{
+    (0..conditions(plan)).any(|i| bad_condition(plan, i))
+}
+
+// 10: some condition is not above the one before it.
+pub fn some_conditions_fall(plan: &[u8]) -> bool
+    requires { Whole plan.now }
+    ensures { result ≡ cause10 plan.now }
+{
+    (0..conditions(plan).saturating_sub(1)).any(|i| conditions_fall(plan, i))
+}
+
+// 13.
+pub fn some_bad_order(plan: &[u8]) -> bool
+    requires { Whole plan.now }
+    ensures { result ≡ cause13 plan.now }
+{
+    (0..orders(plan)).any(|j| bad_order(plan, j))
+}
+
+// 14: some order is not above the one before it.
+pub fn some_orders_fall(plan: &[u8]) -> bool
+    requires { Whole plan.now }
+    ensures { result ≡ cause14 plan.now }
+{
+    (0..orders(plan).saturating_sub(1)).any(|j| orders_fall(plan, j))
 }

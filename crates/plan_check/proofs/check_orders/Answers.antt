@@ -3,22 +3,16 @@ use mathlib.Core.Path.{sym, ◌∙◌}
 use Rattle.plan_check.specs.Parts.{from_orders}
 use Rattle.plan_check.proofs.check_orders.Goals as goal
 
-pub returns-then-broken : goal.returns-then-broken
+pub returns-then-some_bad_order : goal.returns-then-some_bad_order
 unfolding from_orders
-returns-then-broken c = rw (sym c.broken.ensures ∙ c.if-broken.true)
+returns-then-some_bad_order c = rw (sym c.some_bad_order.ensures ∙ c.if-some_bad_order.true)
 
-pub returns-then-broken-2 : goal.returns-then-broken-2
+pub returns-then-some_orders_fall : goal.returns-then-some_orders_fall
 unfolding from_orders
-returns-then-broken-2 c =
-    rw (sym c.broken.ensures ∙ c.if-broken.false, sym c.broken-2.ensures ∙ c.if-broken-2.true)
+returns-then-some_orders_fall c =
+    rw (sym c.some_bad_order.ensures ∙ c.if-some_bad_order.false, sym c.some_orders_fall.ensures ∙ c.if-some_orders_fall.true)
 
 pub returns : goal.returns
 unfolding from_orders
 returns c =
-    rw (sym c.broken.ensures ∙ c.if-broken.false, sym c.broken-2.ensures ∙ c.if-broken-2.false)
-
-pub broken-requires : goal.broken-requires
-broken-requires c = c.requires
-
-pub broken-requires-2 : goal.broken-requires-2
-broken-requires-2 c = c.requires
+    rw (sym c.some_bad_order.ensures ∙ c.if-some_bad_order.false, sym c.some_orders_fall.ensures ∙ c.if-some_orders_fall.false)

@@ -28,7 +28,7 @@ asks : (c : After-from) → c.step_at-s.result ≡ steps_back c.args.plan.now c.
     → refuses_at c.step_at-s.result (get_or c.loop-m.table c.from.result 0)
     ≡ refuses (steps_back c.args.plan.now c.args.pass) c.loop-m.m
 asks c s = asked _ c.loop-m.m c.loop-m.table c.step_at-s.result c.from.result s
-    c.loop-m.invariant.1.1 c.from.ensures c.from.ensures.1
+    c.loop-m.invariant.1.1 c.from.ensures (omega arith)
 
 pub loop-m-init : goal.loop-m-init
 loop-m-init c = (search_starts, (c.blank-table.ensures.long, holds_none _ c.blank-table.ensures))
@@ -48,7 +48,7 @@ loop-m-preserved c =
       search_goes_on l.invariant.0 (omega arith) (asks a.After-from s) c.if-s-found.false,
       elim c.if-s.branch [
         | then-s w ↦ written _ l.m l.table c.if-s.table c.step_at-s.result s l.invariant.1.0 l.invariant.1.1
-            w.from-then-s.result w.if-s.true w.from-then-s.ensures w.from-then-s.ensures.1 w.table-is
+            w.from-then-s.result w.if-s.true w.from-then-s.ensures (omega arith) w.table-is
         | else-s w ↦ kept _ l.m l.table c.if-s.table c.step_at-s.result s l.invariant.1.0 l.invariant.1.1
             w.if-s.false w.table-is
       ],
