@@ -13,7 +13,6 @@ ghost use Rattle.marks_row.specs.Columns.{COLUMNS, ROWS, word_at, Row, RowWritte
 ghost use Rattle.marks_row.specs.Tasks.{AtTask, WordsOfSign};
 ghost use Rattle.marks_row.specs.Musts.{MustPreWord, MustPostWord};
 
-use base::ALL;
 use columns::{AVOID, COVERED, MAY_POST, QUIET};
 use tables::{Conditions, NODES, WORDS};
 
@@ -56,13 +55,13 @@ fn words_of_sign(conds: &Conditions, node: usize, sign: usize) -> SignWords
     let inc = condition_word(conds, node, 2 + sign);
     let post = condition_word(conds, node, 4 + sign);
     let asserted = condition_word(conds, node, 4) | condition_word(conds, node, 5);
-    let silent = asserted ^ ALL;
+    let silent = !asserted;
     SignWords {
-        quiet: silent ^ (silent & pre),
-        covered: asserted ^ (asserted & pre),
-        pre: pre,
-        post: post,
-        inc: inc,
+        quiet: silent & !pre,
+        covered: asserted & !pre,
+        pre,
+        post,
+        inc,
         pre_or_inc: pre | inc,
         inc_or_post: inc | post,
     }
@@ -77,7 +76,7 @@ pub fn task_words(conds: &Conditions, node: usize) -> Words
     let clear = words_of_sign(conds, node, 0);
     let set = words_of_sign(conds, node, 1);
     [
-        asserted ^ ALL,
+        !asserted,
         clear.quiet,
         set.quiet,
         clear.covered,
@@ -107,11 +106,8 @@ pub fn write_row(rows: &mut Rows, node: usize, words: Words)
     requires { (node < NODES) × (length rows.old ≡ ROWS) }
     ensures { RowWritten rows.old rows.new node words }
 {
-    let mut k = 0;
-    while k < COLUMNS {
-        rows[node * COLUMNS + k] = words[k];
-        k += 1;
-    }
+    let from = node * COLUMNS;
+    rows[from..from + COLUMNS].copy_from_slice(&words);
 }
 
 // The word of a node in a column.
@@ -129,7 +125,7 @@ pub fn neither(rows: &Rows, node: usize, j: usize, k: usize) -> u64
 {
     let x = word_at(rows, node, j);
     let y = word_at(rows, node, k);
-    (x | y) ^ ALL
+    !(x | y)
 }
 
 // The literals of one sign that are external preconditions in every completed execution: the node is neither quiet nor
