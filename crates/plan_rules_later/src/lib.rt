@@ -5,7 +5,7 @@ ghost use Rattle.std.specs.Prelude.{◌≡◌, false, ◌<◌};
 ghost use Rattle.base.specs.Zeros.{Zeros};
 ghost use Rattle.plan_format.specs.Format.{node_count, cond_count};
 ghost use Rattle.plan_format.specs.Whole.{Whole};
-ghost use Rattle.plan_rules.specs.Rules.{cause9};
+ghost use Rattle.plan_rules.specs.Rules.{cause7, cause8, cause9, cause10, cause11, cause12};
 ghost use Rattle.plan_rules_later.specs.Passes.{child_step, sign_step, post_step, step_of, steps_of, NoneBefore};
 ghost use Rattle.plan_rules_later.specs.Passes.{pass_cause};
 
@@ -134,4 +134,28 @@ pub fn refuses(plan: &[u8], pass: Pass) -> bool
         m += 1;
     }
     false
+}
+
+// A group has no child.
+pub fn childless(plan: &[u8]) -> bool
+    requires { Whole plan.now × (cause7 plan.now ≡ false) }
+    ensures { result ≡ cause8 plan.now }
+{
+    refuses(plan, Pass::Children)
+}
+
+// A task has conditions of both signs on one flag, at one place.
+pub fn both_signs(plan: &[u8]) -> bool
+    requires { Whole plan.now × ((cause9 plan.now ≡ false) × (cause10 plan.now ≡ false)) }
+    ensures { result ≡ cause11 plan.now }
+{
+    refuses(plan, Pass::Signs)
+}
+
+// An incondition's task has no postcondition on its flag.
+pub fn no_postcondition(plan: &[u8]) -> bool
+    requires { Whole plan.now × ((cause9 plan.now ≡ false) × (cause10 plan.now ≡ false)) }
+    ensures { result ≡ cause12 plan.now }
+{
+    refuses(plan, Pass::Posts)
 }
