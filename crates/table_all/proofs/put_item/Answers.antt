@@ -13,7 +13,7 @@ returns-in-Condition c = stored_condition _ _ _ _ _ c.in-Condition.is
 
 pub returns-in-Order : goal.returns-in-Order
 returns-in-Order c = stored_order _ _ _ _ _ c.in-Order.is
-    c.from-in-Order.ensures.0 c.from-in-Order-2.ensures.0 c.link_all.ensures
+    c.from-in-Order.ensures c.from-in-Order-2.ensures c.link_all.ensures
 
 pub bounds-kinds-at : goal.bounds-kinds-at
 bounds-kinds-at c = fits_node _ c.in-Node.is c.requires.0
@@ -26,6 +26,6 @@ add_condition-requires c =
 pub link_all-requires : goal.link_all-requires
 link_all-requires c =
     let f = fits_order _ c.in-Order.is c.requires.0 in
-    let d = c.from-in-Order.ensures.0 in
-    let e = c.from-in-Order-2.ensures.0 in
+    let d = c.from-in-Order.ensures in
+    let e = c.from-in-Order-2.ensures in
     (omega (arith, f.0, d, e), omega (arith, f.1, e), c.requires.1)
