@@ -15,7 +15,7 @@ pub fn mark_one(node: usize) -> Nodes
     requires { node < NODES }
     ensures { marked result ≡ only node }
 {
-    let mut marks = no_nodes();
+    let mut marks = [0; NODES];
     marks[node] = 1;
     marks
 }
