@@ -11,7 +11,7 @@ ghost use Rattle.table_marks.specs.Marks.{LeftWords, WordsAndTree, AmongWords};
 use marks_words::{Marks, node_words};
 use plan_format::fields::nodes;
 use table_all::{fill_among, fill_tables};
-use tables::{Nodes, Starts, no_conditions, no_nodes, no_orders, no_starts};
+use tables::{CONDITIONS, NODES, Nodes, PAIRS, STARTS, Starts};
 
 // The marks of a node as words, of the plan of which the marked nodes stand: blank tables, filled and asked. With
 // `among` the orders between these are put in and no others, and any nodes may be absent; without it all orders are,
@@ -29,9 +29,9 @@ pub fn marks_and_children(
     ensures { WordsAndTree plan.now standing.now among from.new
         kids.new node result }
 {
-    let mut kind = no_nodes();
-    let mut order = no_orders();
-    let mut conds = no_conditions();
+    let mut kind = [0; NODES];
+    let mut order = [0; PAIRS];
+    let mut conds = [0; CONDITIONS];
     if among {
         fill_among(
             plan, standing, &mut kind, from, kids, &mut order, &mut conds,
@@ -50,8 +50,8 @@ pub fn node_marks(plan: &[u8], standing: &Nodes, node: usize) -> Marks
     requires { (refusal plan.now ≡ 0) × (node < node_count plan.now) }
     ensures { LeftWords plan.now standing.now node result }
 {
-    let mut from = no_starts();
-    let mut kids = no_nodes();
+    let mut from = [0; STARTS];
+    let mut kids = [0; NODES];
     marks_and_children(plan, standing, false, &mut from, &mut kids, node)
 }
 
@@ -60,7 +60,7 @@ pub fn marks_among(plan: &[u8], standing: &Nodes, node: usize) -> Marks
     requires { (refusal plan.now ≡ 0) × (node < node_count plan.now) }
     ensures { AmongWords plan.now standing.now node result }
 {
-    let mut from = no_starts();
-    let mut kids = no_nodes();
+    let mut from = [0; STARTS];
+    let mut kids = [0; NODES];
     marks_and_children(plan, standing, true, &mut from, &mut kids, node)
 }

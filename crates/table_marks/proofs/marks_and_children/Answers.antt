@@ -1,5 +1,7 @@
 -- `marks_and_children` meets its contract. Assumes nothing.
 use native.Mathlib.Omega.{arith}
+use Rattle.base.proofs.Zeros.{zeros}
+use Rattle.tables.specs.Sizes.{NODES, PAIRS, CONDITIONS}
 use Rattle.plan_check.proofs.Accepted.{clean}
 use Rattle.plan_check.proofs.Meaning.{means_well_formed}
 use Rattle.runs.proofs.Blocked.Branches.{blocked_well_formed}
@@ -40,3 +42,27 @@ returns c =
       among_orders = λ e S w h l. c.node_words.ensures _ w (rw n (t.among_orders e S h)) l;
       children = t.children;
     }
+
+pub fill_among-requires : goal.fill_among-requires
+fill_among-requires c = (
+  c.requires.0,
+  record {
+    no_kinds = zeros NODES;
+    no_starts = c.requires.2;
+    no_kids = c.requires.3;
+    no_order = zeros PAIRS;
+    no_conditions = zeros CONDITIONS;
+  },
+)
+
+pub fill_tables-requires : goal.fill_tables-requires
+fill_tables-requires c = (
+  c.requires.0,
+  record {
+    no_kinds = zeros NODES;
+    no_starts = c.requires.2;
+    no_kids = c.requires.3;
+    no_order = zeros PAIRS;
+    no_conditions = zeros CONDITIONS;
+  },
+)
