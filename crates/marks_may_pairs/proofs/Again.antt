@@ -19,7 +19,7 @@ use Rattle.marks_between.specs.Passing.{SomePair, Pairing}
 use Rattle.marks_may_pairs.specs.declared.Found.{Found}
 use Rattle.marks_pair.specs.declared.Literals.{Literals}
 use Rattle.marks_pair.specs.Pairs.{Pair, sign_word}
-use Rattle.marks_may_pairs.specs.Search.{Unclobbered, SearchedTo, Search, AllPairs}
+use Rattle.marks_may_pairs.specs.Search.{Unclobbered, SearchedTo, Stopped, NoneClobbers, AllPairs}
 
 -- one literal word more, one less
 abbrev pub gained : Literals → Literals → Literals
@@ -79,13 +79,10 @@ module _ (kids : List ℕ) (segment : Segment) (order rows : List ℕ) (wanted :
     };
   }
 
-  module _ {left found : Literals} {i j : ℕ} (next : Found) (h : Progress left found i j)
-      (s : Search kids segment order rows left next) where
-    abbrev pair : Literals
-    pair = next.literals
-
-    pub found_more : Progress (lost left next.literals) (gained found next.literals) next.child next.partner
-    found_more = record {
+  module _ {left found : Literals} {i j : ℕ} (h : Progress left found i j) where
+    pub found_more : {next : Found} → Stopped kids segment order rows left next
+        → Progress (lost left next.literals) (gained found next.literals) next.at.child next.at.partner
+    found_more {next} s = let pair = next.literals in record {
       still = λ v f. (
         λ t. let x = (lost_says left pair v f).to t in let y = (h.still v f).0 x.0 in
             (y.0, λ u. both v f y.1 x.1 ((gained_says found pair v f).to u)),
@@ -98,36 +95,35 @@ module _ (kids : List ℕ) (segment : Segment) (order rows : List ℕ) (wanted :
       stands = fewer_wanted left (lost left pair) (λ v f t. ((lost_says left pair v f).to t).0) s.stands;
     }
       where
-        both : (v : Bool) (f : ℕ) → ¬ T (bit (sign_word found v) f) → ¬ T (bit (sign_word pair v) f)
-            → ¬ (T (bit (sign_word found v) f) ⊎ T (bit (sign_word pair v) f))
+        both : (v : Bool) (f : ℕ) → ¬ T (bit (sign_word found v) f) → ¬ T (bit (sign_word next.literals v) f)
+            → ¬ (T (bit (sign_word found v) f) ⊎ T (bit (sign_word next.literals v) f))
         both v f k l (inl t) = k t
         both v f k l (inr t) = l t
 
         at : (p : Plan) (n : ℕ) → Pairing kids segment order rows p n → (v : Bool) (f : ℕ) → f < 64
-            → T (bit (sign_word found v) f) ⊎ T (bit (sign_word pair v) f)
+            → T (bit (sign_word found v) f) ⊎ T (bit (sign_word next.literals v) f)
             → T (bit (sign_word wanted v) f) × SomePair p n (Pair p n f v)
         at p n g v f l (inl t) = h.sound p n g v f l t
         at p n g v f l (inr t) = (((h.still v f).0 (s.among v f l t)).0, s.sound p n g v f l t)
 
-    pub all_found : bit_or next.literals.clear next.literals.set ≡ 0
-        → AllPairs kids segment order rows wanted found
-    all_found e = record {
+    pub all_found : NoneClobbers kids segment order rows left → AllPairs kids segment order rows wanted found
+    all_found none = record {
       says = λ p n g v f l. record {
         to = h.sound p n g v f l;
         from = λ x. at p n g v f l x (says_dec (says_self (sign_word found v) f));
       };
     }
       where
-        none : (p : Plan) (n : ℕ) → Pairing kids segment order rows p n → (c : ℕ) → Child p n c → Unclobbered p n left c
-        none p n g = (every_child g.group.listed (λ c hc. (λ x. x, λ x. x))).0
-            (rw (s.ended e) at (s.stands.before p n g))
+        unclobbered : (p : Plan) (n : ℕ) → Pairing kids segment order rows p n → (c : ℕ) → Child p n c
+            → Unclobbered p n left c
+        unclobbered p n g = (every_child g.group.listed (λ c hc. (λ x. x, λ x. x))).0 (none p n g)
 
         at : (p : Plan) (n : ℕ) → Pairing kids segment order rows p n → (v : Bool) (f : ℕ) → f < 64
             → T (bit (sign_word wanted v) f) × SomePair p n (Pair p n f v)
             → Dec (T (bit (sign_word found v) f)) → T (bit (sign_word found v) f)
         at p n g v f l x (yes t) = t
         at p n g v f l x (no k) = absurd
-            (none p n g x.1.0 x.1.1 x.1.2.0 x.1.2.1 v f l ((h.still v f).1 (x.0, k)) x.1.2.2)
+            (unclobbered p n g x.1.0 x.1.1 x.1.2.0 x.1.2.1 v f l ((h.still v f).1 (x.0, k)) x.1.2.2)
 
 -- what is found is taken away: one word less, the other not more
 common : (x y : ℕ) → y < 2 ^ 64 → ((f : ℕ) → f < 64 → T (bit y f) → T (bit x f)) → bit_and x y ≡ 0 → y ≡ 0

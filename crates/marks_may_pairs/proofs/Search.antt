@@ -22,7 +22,7 @@ use Rattle.marks_between.proofs.Passed.{kid}
 use Rattle.marks_pair.specs.declared.Literals.{Literals}
 use Rattle.marks_pair.specs.Pairs.{Opposite, sign_word, PairWords, NextPartner}
 use Rattle.marks_pair.proofs.Pairs.{pair_opposite}
-use Rattle.marks_may_pairs.specs.Search.{NoClobber, SearchedTo, Search}
+use Rattle.marks_may_pairs.specs.Search.{NoClobber, SearchedTo, Stopped, NoneClobbers}
 
 word_zero : (r : Literals) → bit_or r.clear r.set ≡ 0 → (v : Bool) → sign_word r v ≡ 0
 word_zero r e false = (or_zero r.clear r.set e).0
@@ -71,7 +71,7 @@ module _ {kids : List ℕ} {segment : Segment} {order rows : List ℕ} {wanted :
     }
 
     pub pair_found : bit_or r.clear r.set ≢ 0
-        → Search kids segment order rows wanted (record { literals = r; child = i; partner = j })
+        → Stopped kids segment order rows wanted (record { literals = r; at = record { child = i; partner = j } })
     pair_found ne = record {
       among = w.among;
       sound = λ p n g v f l t. (
@@ -80,7 +80,7 @@ module _ {kids : List ℕ} {segment : Segment} {order rows : List ℕ} {wanted :
         (_, kid g refl to, ((w.says p n g (kid g e at) (kid g refl to) v f l).to t).1),
       );
       stands = s;
-      ended = λ z. absurd (ne z);
+      some = ne;
     }
 
   -- all partners of the child at i are passed: on to the next child, and the first partner
@@ -96,15 +96,5 @@ module _ {kids : List ℕ} {segment : Segment} {order rows : List ℕ} {wanted :
     here = λ p n g. record { each = λ k x y. absurd (omega arith) };
   }
 
-  pub nothing_found : {r : Literals} → (r.clear ≡ 0) × (r.set ≡ 0) → i ≡ segment.end
-      → Search kids segment order rows wanted (record { literals = r; child = i; partner = j })
-  nothing_found {r = r} z e = record {
-    among = λ v f k t. absurd (no_flag _ f (zero v) t);
-    sound = λ p n g v f k t. absurd (no_flag _ f (zero v) t);
-    stands = s;
-    ended = λ y. e;
-  }
-    where
-      zero : (v : Bool) → sign_word r v ≡ 0
-      zero false = z.0
-      zero true = z.1
+  pub nothing_found : i ≡ segment.end → NoneClobbers kids segment order rows wanted
+  nothing_found e p n g = rw e at (s.before p n g)

@@ -1,6 +1,8 @@
 -- The search for a pair of children of an all-of group that may clobber a wanted literal. Definitions only.
-use Rattle.std.specs.Prelude.{◌≡◌, Bool, List, ℕ, ◌<◌, T, get_or}
+use Rattle.std.specs.Prelude.{◌≢◌, Bool, List, ℕ, ◌<◌, T, get_or}
 use Rattle.std.specs.Int.Bits.{bit_or}
+use Rattle.std.specs.Option.{MatchOption}
+use Rattle.std.specs.declared.option.Option.{Option}
 use Rattle.base.specs.Bits.{bit}
 use Rattle.base.specs.Words.{Says}
 use Rattle.runs.specs.Plan.{Plan, Child}
@@ -28,15 +30,25 @@ pub record SearchedTo (kids : List ℕ) (segment : Segment) (order rows : List �
   pub here : OfGroups kids segment order rows
       (λ p n. Every kids segment.start j (NoClobber p n wanted (get_or kids i 0)))
 
--- What a search answers: wanted literals that some pair clobbers, and where it stands; with no literal it has passed
--- all.
-pub record Search (kids : List ℕ) (segment : Segment) (order rows : List ℕ) (wanted : Literals)
+-- What a search answers that stops at a pair: wanted literals that the pair clobbers, at least one, and where it
+-- stands.
+pub record Stopped (kids : List ℕ) (segment : Segment) (order rows : List ℕ) (wanted : Literals)
     (r : Found) : Type 0 where
   pub among : (v : Bool) (f : ℕ) → f < 64 → T (bit (sign_word r.literals v) f) → T (bit (sign_word wanted v) f)
   pub sound : OfGroups kids segment order rows
       (λ p n. (v : Bool) (f : ℕ) → f < 64 → T (bit (sign_word r.literals v) f) → SomePair p n (Pair p n f v))
-  pub stands : SearchedTo kids segment order rows wanted r.child r.partner
-  pub ended : bit_or r.literals.clear r.literals.set ≡ 0 → r.child ≡ segment.end
+  pub stands : SearchedTo kids segment order rows wanted r.at.child r.at.partner
+  pub some : bit_or r.literals.clear r.literals.set ≢ 0
+
+-- no pair of children clobbers a wanted literal
+abbrev pub NoneClobbers : List ℕ → Segment → List ℕ → List ℕ → Literals → Type 0
+NoneClobbers kids segment order rows wanted =
+    OfGroups kids segment order rows (λ p n. Every kids segment.start segment.end (Unclobbered p n wanted))
+
+-- What a search answers: where it stopped, or that it has passed all pairs.
+abbrev pub Search : List ℕ → Segment → List ℕ → List ℕ → Literals → Option Found → Type 0
+Search kids segment order rows wanted r =
+    MatchOption r (NoneClobbers kids segment order rows wanted) (Stopped kids segment order rows wanted)
 
 -- the wanted literals that some pair clobbers
 pub record AllPairs (kids : List ℕ) (segment : Segment) (order rows : List ℕ) (wanted r : Literals) : Type 0 where

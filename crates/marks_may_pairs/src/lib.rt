@@ -17,17 +17,15 @@ pub struct Cursor {
     pub partner: usize,
 }
 
-// The literals of the pair at which a search stopped, and the positions of its two children; with no literal, the child
-// is past them all.
+// The literals of the pair at which a search stopped, and where it stands.
 #[derive(Clone, Copy)]
 pub struct Found {
     pub literals: Literals,
-    pub child: usize,
-    pub partner: usize,
+    pub at: Cursor,
 }
 
 // Looks for a pair of children that clobbers a wanted literal, from where the search stands; it ends as soon as one is
-// found.
+// found. None: no pair is left.
 pub fn clobbering_pair(
     kids: &Nodes,
     segment: Segment,
@@ -35,34 +33,30 @@ pub fn clobbering_pair(
     rows: &Rows,
     wanted: Literals,
     cursor: Cursor,
-) -> Found
+) -> Option<Found>
     requires { AtSegment kids.now segment
         × SearchedTo kids.now segment order.now rows.now wanted cursor.child cursor.partner }
     ensures { Search kids.now segment order.now rows.now wanted result }
 {
-    let mut found = Literals { clear: 0, set: 0 };
-    let mut i = cursor.child;
-    let mut j = cursor.partner;
-    'search: while i < segment.end {
+    let mut found = None;
+    let mut first = cursor.partner;
+    'search: for i in cursor.child..segment.end {
         let c = usize::from(kids[i]);
-        j = next_partner(rows, wanted, c, j, segment.end);
-        while j < segment.end {
+        for j in next_partner(rows, wanted, c, first, segment.end)..segment.end {
             let partners = Partners { child: c, at: j };
             let pair = pair_words(kids, segment, order, rows, wanted, partners);
             if (pair.clear | pair.set) != 0 {
-                found = pair;
+                let at = Cursor {
+                    child: i,
+                    partner: j,
+                };
+                found = Some(Found { literals: pair, at });
                 break 'search;
             }
-            j += 1;
         }
-        i += 1;
-        j = segment.start;
+        first = segment.start;
     }
-    Found {
-        literals: found,
-        child: i,
-        partner: j,
-    }
+    found
 }
 
 // The wanted literals that some pair of children clobbers: the search is asked again for those still wanted, and goes
@@ -79,23 +73,17 @@ pub fn clobbering_pairs(
 {
     let mut left = wanted;
     let mut found = Literals { clear: 0, set: 0 };
-    let mut child = segment.start;
-    let mut partner = child;
-    loop {
-        let cursor = Cursor {
-            child: child,
-            partner: partner,
-        };
-        let next = clobbering_pair(kids, segment, order, rows, left, cursor);
+    let mut cursor = Cursor {
+        child: segment.start,
+        partner: segment.start,
+    };
+    while let Some(next) = clobbering_pair(kids, segment, order, rows, left, cursor) {
         let pair = next.literals;
-        if (pair.clear | pair.set) == 0 {
-            return found;
-        }
-        child = next.child;
-        partner = next.partner;
-        found.clear = found.clear | pair.clear;
-        found.set = found.set | pair.set;
-        left.clear = left.clear ^ (left.clear & pair.clear);
-        left.set = left.set ^ (left.set & pair.set);
+        cursor = next.at;
+        found.clear |= pair.clear;
+        found.set |= pair.set;
+        left.clear ^= left.clear & pair.clear;
+        left.set ^= left.set & pair.set;
     }
+    found
 }
