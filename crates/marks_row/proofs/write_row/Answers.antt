@@ -1,5 +1,4 @@
--- `write_row` meets its contract: the rows are written over from one place on, and those of other nodes lie before it or
--- after it. Assumes nothing.
+-- `write_row` meets its contract: the rows of other nodes lie before or after what is written. Assumes nothing.
 use mathlib.Core.Logic.{by_cases}
 use native.Mathlib.Decide.{dec_lt}
 use Rattle.std.proofs.Common.{rules, ◌+◌, ◌*◌, ◌≤◌, ◌<◌, arith}
