@@ -1,17 +1,16 @@
 -- One sibling more, and what the words come to over all siblings. Assumes nothing.
 use mathlib.Core.Path.{◌≡◌, refl}
-use mathlib.Core.Logic.{◌≢◌, ◌⊎◌, inl, inr, ◌↔◌}
-use mathlib.Core.Bool.{Bool, true, false, not}
+use mathlib.Core.Logic.{◌⊎◌, inl, inr, ◌↔◌}
+use mathlib.Core.Bool.{Bool, true, false}
 use mathlib.Core.Option.{Option, none, some}
 use mathlib.Core.List.{List}
 use Prim.Native.Nat.{ℕ, ◌+◌, ◌≤◌, ◌<◌}
 use native.Mathlib.Omega.{arith}
 use lib.Bits.{bit_and, bit_or, bit_xor}
-use lib.Dec.{T, eqb}
+use lib.Dec.{T}
 use lib.ListN.{get_or}
 use Rattle.base.specs.Bits.{bit}
 use Rattle.base.specs.Words.{ones, Says}
-use Rattle.base.proofs.Tests.{unequal}
 use Rattle.base.proofs.Says.{says_map, says_eq, says_self, says_and, says_neither}
 use Rattle.runs.specs.Plan.{task, inc, post, Plan, Child, Before, Under, Unordered}
 use Rattle.runs.specs.Execution.{Event, start, finish, skip, node_of, asserts as sign_of}
@@ -52,13 +51,6 @@ narrows_taken {w} {r} {x} {y} c q e =
 -- the flags of neither word
 pub neither : (x y f : ℕ) → f < 64 → T (bit (bit_xor (bit_or x y) ones) f) ↔ (¬ (T (bit x f) ⊎ T (bit y f)))
 neither x y f l = let s = says_neither {x = x} {y = y} l refl (says_self x f) (says_self y f) in (s.to, s.from)
-
-pub apart_test : {order : List ℕ} (a b : ℕ) → code order a b ≢ 1 → code order a b ≢ 2
-    → T (not (eqb a b)) ↔ Apart order a b
-apart_test {order} a b k l = (
-  λ t. record { not_before = k; not_after = l; distinct = (unequal a b).0 t },
-  λ x. (unequal a b).1 x.distinct,
-)
 
 module _ {order : List ℕ} {p : Plan} (o : RepresentsOrder order p) {n a b : ℕ} (ha : Child p n a)
     (hb : Child p n b) where

@@ -30,23 +30,14 @@ pub fn apart(order: &Orders, a: usize, b: usize) -> bool
     ensures { T result ↔ Apart order.now a b }
 {
     let code = order[a * NODES + b];
-    if code == BEFORE {
-        return false;
-    }
-    if code == AFTER {
-        return false;
-    }
-    a != b
+    code != BEFORE && code != AFTER && a != b
 }
 
 // Where it applies, the word with only the flags of the other.
 pub fn narrowed(word: u64, applies: bool, by: u64) -> u64
     ensures { Narrows word result (T applies) (λ f. T (bit by f)) }
 {
-    if applies {
-        return word & by;
-    }
-    word
+    if applies { word & by } else { word }
 }
 
 fn with_sibling(order: &Orders, rows: &Rows, child: usize, sibling: usize, s: Siblings) -> Siblings
@@ -55,32 +46,24 @@ fn with_sibling(order: &Orders, rows: &Rows, child: usize, sibling: usize, s: Si
 {
     let stands = order[sibling * NODES + child];
     if stands == BEFORE {
-        return Siblings {
+        Siblings {
             avoid_before: s.avoid_before & word_at(rows, sibling, AVOID),
             clear_before: s.clear_before & word_at(rows, sibling, QUIET),
             set_before: s.set_before & word_at(rows, sibling, QUIET + 1),
-            avoid_after: s.avoid_after,
-            silent_apart: s.silent_apart,
-        };
-    }
-    if stands == AFTER {
-        return Siblings {
-            avoid_before: s.avoid_before,
-            clear_before: s.clear_before,
-            set_before: s.set_before,
+            ..s
+        }
+    } else if stands == AFTER {
+        Siblings {
             avoid_after: s.avoid_after & word_at(rows, sibling, AVOID),
-            silent_apart: s.silent_apart,
-        };
-    }
-    if sibling == child {
-        return s;
-    }
-    Siblings {
-        avoid_before: s.avoid_before,
-        clear_before: s.clear_before,
-        set_before: s.set_before,
-        avoid_after: s.avoid_after,
-        silent_apart: s.silent_apart & neither(rows, sibling, ASSERTS, ASSERTS + 1),
+            ..s
+        }
+    } else if sibling == child {
+        s
+    } else {
+        Siblings {
+            silent_apart: s.silent_apart & neither(rows, sibling, ASSERTS, ASSERTS + 1),
+            ..s
+        }
     }
 }
 
@@ -102,10 +85,8 @@ pub fn all_siblings(
         avoid_after: ALL,
         silent_apart: ALL,
     };
-    let mut i = segment.start;
-    while i < segment.end {
+    for i in segment.start..segment.end {
         s = with_sibling(order, rows, child, usize::from(kids[i]), s);
-        i += 1;
     }
     s
 }

@@ -27,19 +27,8 @@ returns-then-stands-eq-AFTER c =
       silent_apart = narrows_kept (λ a. a.not_after e) refl;
     }
 
-pub returns-then-sibling-child : goal.returns-then-sibling-child
-returns-then-sibling-child c =
-    let not_before = c.if-stands-eq-BEFORE.false in
-    record {
-      avoid_before = narrows_kept not_before refl;
-      clear_before = narrows_kept not_before refl;
-      set_before = narrows_kept not_before refl;
-      avoid_after = narrows_kept c.if-stands-eq-AFTER.false refl;
-      silent_apart = narrows_kept (λ a. a.distinct c.if-sibling-child.true) refl;
-    }
-
-pub returns : goal.returns
-returns c =
+pub returns-else-sibling-child : goal.returns-else-sibling-child
+returns-else-sibling-child c =
     let not_before = c.if-stands-eq-BEFORE.false in
     let not_after = c.if-stands-eq-AFTER.false in
     record {
