@@ -41,6 +41,11 @@ module _ {kids : List ℕ} {low : ℕ} {f : ℕ → ℕ} where
         least = λ u w. let p = (every_next l).1 w in omega (arith, h.least u p.0, p.1, k, z);
       }
 
+-- ---- a turn of the loop over the children, from start to end
+pub turn : (from : List ℕ) (g : ℕ) {segment : Segment} {i : ℕ} → segment ≡ segment_of from g → segment.start ≤ i
+    → i < segment.end → Position (segment_of from g) i
+turn from g {segment} {i} e l m = let p : Position segment i = record { low = l; high = m } in rw e at p
+
 module _ {b from kids : List ℕ} {test : Bool} {g : ℕ} (o : GroupOf b from kids test g) where
   ok : Clean b
   ok = clean b o.accepted

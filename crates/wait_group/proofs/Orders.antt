@@ -8,52 +8,33 @@ use native.Mathlib.Omega.{arith}
 use lib.ListN.{length, get_or, set, length-set}
 use lib.Seq.{get_or-set_same, get_or-set_other}
 use Rattle.plan_format.specs.Format.{order_count, earlier_of, later_of}
+use Rattle.std.specs.List.Sorted.{IsNonDecreasingBy, IsPartitionPoint}
+use Rattle.std.proofs.lemmas.List.Sorted.{IsNonDecreasingBy-from_default}
+use borrow.Author.Tests.{ltb-true, ltb-false}
+use mathlib.Core.Bool.{true, false}
+use lib.Dec.{ltb}
 use Rattle.table_orders.proofs.Chains.{Sorted}
 use Rattle.wait_group.specs.Spread.{FirstOrder, Raised}
 
--- ---- the first order of a node: below low none, from high on all
-pub record Between (b : List ℕ) (c low high : ℕ) : Type 0 where
-  pub in_order : low ≤ high
-  pub inside : high ≤ order_count b
-  pub below : (j : ℕ) → j < low → earlier_of b j < c
-  pub from : (j : ℕ) → high ≤ j → j < order_count b → c ≤ earlier_of b j
+-- ---- the first order of a node, among the earlier nodes of all orders
+module _ {b : List ℕ} (earlier : List ℕ) (long : length earlier ≡ order_count b)
+    (each : (j : ℕ) → j < order_count b → get_or earlier j 0 ≡ earlier_of b j) where
+  pub earlier_rise : Sorted b → IsNonDecreasingBy (λ x. x) earlier
+  earlier_rise s = IsNonDecreasingBy-from_default (λ x. x) earlier 0
+      (λ i j l m. omega (
+        arith,
+        long,
+        each i (omega (arith, long)),
+        each j (omega (arith, long)),
+        s.rises i j l (omega (arith, long)),
+      ))
 
-module _ {b : List ℕ} {c : ℕ} where
-  pub between_all : Between b c 0 (order_count b)
-  between_all = record {
-    in_order = omega arith;
-    inside = omega arith;
-    below = λ j l. absurd (omega arith);
-    from = λ j l m. absurd (omega arith);
-  }
-
-  pub between_low : {low high m : ℕ} → Sorted b → low ≤ m → m < high → earlier_of b m < c → Between b c low high
-      → Between b c (m + 1) high
-  between_low {m = m} s l k e h =
-      record {
-        in_order = omega arith;
-        inside = h.inside;
-        below = λ j q. omega (arith, s.rises j m (omega arith) (omega (arith, h.inside)));
-        from = h.from;
-      }
-
-  pub between_high : {low high m : ℕ} → Sorted b → low ≤ m → m < high → (earlier_of b m < c → ⊥) → Between b c low high
-      → Between b c low m
-  between_high {m = m} s l k e h =
-      let g : c ≤ earlier_of b m = by_cases (dec_lt (earlier_of b m) c) (λ (q : earlier_of b m < c). absurd (e q))
-      (λ q. omega arith) in
-      record {
-        in_order = l;
-        inside = omega (arith, h.inside);
-        below = h.below;
-        from = λ j q o. omega (arith, s.rises m j q o);
-      }
-
-  pub between_found : {low high : ℕ} → high ≤ low → Between b c low high → FirstOrder b c low
-  between_found l h = record {
-    inside = omega (arith, h.in_order, h.inside);
-    below = h.below;
-    from = λ j q o. h.from j (omega arith) o;
+  pub first_found : {c r : ℕ} → r ≤ length earlier
+      → IsPartitionPoint (λ x. ltb x c ≡ true) (λ x. ltb x c ≡ false) earlier r → FirstOrder b c r
+  first_found {c} {r} l p = record {
+    inside = omega (arith, long);
+    below = λ j k. let e = each j (omega (arith, long)) in rw e at (ltb-true _ c (p.0 j 0 (omega arith) k));
+    from = λ j k m. let e = each j m in rw e at (ltb-false _ c (p.1 j 0 k (omega (arith, long))));
   }
 
 -- ---- the waits of the later nodes of c, by its orders below j

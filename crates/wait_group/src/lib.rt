@@ -1,21 +1,25 @@
 // One group of an accepted plan: its length and the waits of its children, from the lengths of the children.
 #![tactic(auto)]
 
-ghost use Rattle.std.specs.Prelude.{◌≡◌, max, length};
-ghost use Rattle.plan_format.specs.Format.{is_kind, is_choice};
+ghost use Rattle.std.specs.Prelude.{◌≡◌, ◌<◌, ℕ, length, get_or};
+ghost use Rattle.plan_format.specs.Format.{order_count, earlier_of, is_kind, is_choice};
+ghost use Rattle.plan_format.specs.Whole.{Whole};
 ghost use Rattle.plan_rules.specs.Rules.{refusal};
 ghost use Rattle.wait_lengths.specs.Waits.{length_of};
 ghost use Rattle.tables.specs.Sizes.{NODES};
 ghost use Rattle.wait_group.specs.Spread.{FirstOrder, Raised, GroupOf, Tables, ChildLengths, Spread};
 
-use plan_format::fields::{earlier, later, orders};
+use plan_format::fields::{conditions, earlier, later, nodes, orders};
 use tables::{Nodes, Starts, Times, children};
 
-// The greater of two.
-fn greater(a: u32, b: u32) -> u32
-    ensures { result ≡ max a b }
+// The earlier nodes of all orders.
+fn earlier_nodes(plan: &[u8]) -> &[u8]
+    requires { Whole plan.now }
+    ensures long { length result.now ≡ order_count plan.now }
+    ensures each { (j : ℕ) → j < order_count plan.now → get_or result.now j 0 ≡ earlier_of plan.now j }
 {
-    if a < b { b } else { a }
+    let at = 16 + 8 * nodes(plan) + 3 * conditions(plan);
+    &plan[at..at + orders(plan)]
 }
 
 // The first order whose earlier node is c or higher: orders rise by their earlier nodes.
@@ -23,17 +27,7 @@ fn first_order(plan: &[u8], c: usize) -> usize
     requires { refusal plan.now ≡ 0 }
     ensures { FirstOrder plan.now c result }
 {
-    let mut low = 0;
-    let mut high = orders(plan);
-    while low < high {
-        let middle = low + (high - low) / 2;
-        if usize::from(earlier(plan, middle)) < c {
-            low = middle + 1;
-        } else {
-            high = middle;
-        }
-    }
-    low
+    earlier_nodes(plan).partition_point(|e| usize::from(*e) < c)
 }
 
 // Raises the waits of all that c stands before by an order to the end of c.
@@ -41,16 +35,12 @@ fn raise(plan: &[u8], waits: &mut Times, c: usize, end: u32)
     requires { (refusal plan.now ≡ 0) × (length waits.old ≡ NODES) }
     ensures { Raised plan.now waits.old waits.new c end }
 {
-    let k = orders(plan);
-    let mut j = first_order(plan, c);
-    while j < k {
+    for j in first_order(plan, c)..orders(plan) {
         if usize::from(earlier(plan, j)) != c {
             return;
         }
         let l = usize::from(later(plan, j));
-        let w = waits[l];
-        waits[l] = greater(w, end);
-        j += 1;
+        waits[l] = waits[l].max(end);
     }
 }
 
@@ -71,13 +61,11 @@ pub fn spread(
 {
     let mut longest = 0u32;
     let segment = children(from, node);
-    let mut i = segment.start;
-    while i < segment.end {
+    for i in segment.start..segment.end {
         let child = usize::from(kids[i]);
         let child_end = waits[child] + lengths[child];
         raise(plan, waits, child, child_end);
-        longest = greater(longest, child_end);
-        i += 1;
+        longest = longest.max(child_end);
     }
     longest
 }
@@ -90,10 +78,8 @@ pub fn longest_child(plan: &[u8], from: &Starts, kids: &Nodes, lengths: &Times, 
 {
     let mut longest = 0u32;
     let segment = children(from, node);
-    let mut i = segment.start;
-    while i < segment.end {
-        longest = greater(longest, lengths[usize::from(kids[i])]);
-        i += 1;
+    for i in segment.start..segment.end {
+        longest = longest.max(lengths[usize::from(kids[i])]);
     }
     longest
 }

@@ -1,34 +1,26 @@
 -- `longest_child` meets its contract: the greatest length of the children before i. Assumes nothing.
-use Rattle.tables.proofs.Turns.{at_segment, first_turn, position_small, position, next_turn, last_turn}
-use Rattle.wait_group.proofs.Children.{at_group, child_at_lem, greatest_start, greatest_turn, any_all}
+use Rattle.tables.proofs.Turns.{at_segment}
+use Rattle.wait_group.proofs.Children.{at_group, child_at_lem, turn, greatest_turn, any_all}
 use native.Mathlib.Omega.{arith}
-use mathlib.Core.Path.{refl}
+use mathlib.Core.Path.{◌≡◌, refl, ap}
+use Prim.Native.Nat.{◌+◌}
+use lib.ListN.{get_or}
+use Rattle.tables.specs.declared.Segment.{Segment}
 use Rattle.wait_group.proofs.longest_child.Goals as goal
-use Rattle.wait_group.proofs.longest_child.Goals.{After-from}
 
 pub children-segment-requires : goal.children-segment-requires
 children-segment-requires c = let o = at_group c.requires.0 in omega (arith, o.shaped.small, o.below)
 
-pub loop-i-init : goal.loop-i-init
-loop-i-init c = (
-  first_turn (at_segment (at_group c.requires.0) c.children-segment.ensures),
-  greatest_start refl,
-)
-
-pub bounds-kids-i : goal.bounds-kids-i
-bounds-kids-i c =
-    let a = at_segment (at_group c.requires.0) c.children-segment.ensures in
-    position_small a (position c.loop-i.invariant.0 c.loop-i-test.true)
-
 pub loop-i-preserved : goal.loop-i-preserved
 loop-i-preserved c =
-    let turn = c.loop-i.invariant.0 in
-    let test = c.loop-i-test.true in
-    let e = c.from.ensures in
-    let x = c.requires.1.is _ (child_at_lem c.requires.0 c.children-segment.ensures e (position turn test)) in
-    (next_turn turn test, greatest_turn turn.low e x c.greater-longest.ensures c.loop-i.invariant.1)
+    let at = turn c.args.from.now c.args.node c.children-segment.ensures (omega arith) (omega arith) in
+    let x = c.requires.1.is _ (child_at_lem c.requires.0 refl c.from.ensures at) in
+    greatest_turn at.low c.from.ensures x c.max-longest.ensures c.loop-i.invariant
 
 pub returns : goal.returns
 returns c =
-    let e = last_turn c.loop-i.invariant.0 c.loop-i-test.false in
-    any_all c.requires.0 c.children-segment.ensures (rw e at c.loop-i.invariant.1)
+    let here = c.children-segment.ensures in
+    let a = at_segment (at_group c.requires.0) here in
+    let e : c.loop-i.i ≡ get_or c.args.from.now (c.args.node + 1) 0 =
+    omega (arith, a.rises, ap (λ (s : Segment). s.end) here) in
+    any_all c.requires.0 refl (rw e at c.loop-i.invariant)

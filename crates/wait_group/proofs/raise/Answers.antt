@@ -8,11 +8,11 @@ use native.Mathlib.Omega.{arith}
 use Rattle.wait_group.proofs.raise.Goals as goal
 use Rattle.wait_group.proofs.raise.Goals.{After-from-l}
 
-pub orders-k-requires : goal.orders-k-requires
-orders-k-requires c = (clean _ c.requires.0).fits.limits.long
+pub orders-j-end-requires : goal.orders-j-end-requires
+orders-j-end-requires c = (clean _ c.requires.0).fits.limits.long
 
 pub loop-j-init : goal.loop-j-init
-loop-j-init c = (c.orders-k.ensures, raised_none c.requires.1 c.first_order-j.ensures)
+loop-j-init c = raised_none c.requires.1 c.first_order-j.ensures
 
 pub earlier-requires : goal.earlier-requires
 earlier-requires c = (omega arith, (clean _ c.requires.0).fits)
@@ -20,7 +20,7 @@ earlier-requires c = (omega arith, (clean _ c.requires.0).fits)
 pub returns-then-from-c : goal.returns-then-from-c
 returns-then-from-c c =
     raised_stop (sorted _ (clean _ c.requires.0)) (omega arith)
-    (λ z. c.if-from-c.true (c.from.ensures ∙ c.earlier.ensures ∙ z)) c.loop-j.invariant.1
+    (λ z. c.if-from-c.true (c.from.ensures ∙ c.earlier.ensures ∙ z)) c.loop-j.invariant
 
 pub later-requires : goal.later-requires
 later-requires c = (
@@ -44,13 +44,10 @@ pub bounds-waits-l-in-loop-j : goal.bounds-waits-l-in-loop-j
 bounds-waits-l-in-loop-j c = later_small (goal.at.bounds-waits-l-in-loop-j c).After-from-l
 
 pub loop-j-preserved : goal.loop-j-preserved
-loop-j-preserved c = (
-  c.loop-j.invariant.0,
-  raised_more (sorted _ (clean _ c.requires.0)) (omega arith)
-      (omega (arith, c.if-from-c.false, c.from.ensures, c.earlier.ensures))
-      (c.from-l.ensures ∙ c.later.ensures) c.greater.ensures
-      c.loop-j.invariant.1,
-)
+loop-j-preserved c =
+    raised_more (sorted _ (clean _ c.requires.0)) (omega arith)
+    (omega (arith, c.if-from-c.false, c.from.ensures, c.earlier.ensures))
+    (c.from-l.ensures ∙ c.later.ensures) c.max.ensures c.loop-j.invariant
 
 pub returns : goal.returns
-returns c = raised_all (λ i a z e. omega arith) c.loop-j.invariant.1
+returns c = raised_all (λ i a z e. omega arith) c.loop-j.invariant
