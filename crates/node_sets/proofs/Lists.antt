@@ -1,19 +1,18 @@
 -- Lists read from the front: what is still to be read. Assumes nothing.
-use mathlib.Core.Path.{◌≡◌, refl, sym, ap, ◌∙◌}
+use mathlib.Core.Path.{◌≡◌, refl, sym, ◌∙◌}
 use mathlib.Core.Bool.{Bool, true, false}
 use mathlib.Core.List.Memᴰ.{head as here}
 use mathlib.Core.List.Memᴰ.{tail as there}
 use mathlib.Core.List.{List, [], ◌∷◌, Memᴰ as Among}
-use Prim.Native.Nat.{ℕ, zero, suc, ◌+◌, ◌-◌, ◌<◌, ◌≤◌}
-use mathlib.Core.Logic.{by_cases}
-use native.Mathlib.Decide.{ℕ_discrete}
+use Prim.Native.Nat.{ℕ, zero, suc, ◌+◌, ◌<◌, ◌≤◌}
 use native.Mathlib.Omega.{arith}
 use native.Mathlib.Numerals.{add-one}
 use lib.ListN.{length, get_or, drop}
 use lib.Seq.{drop-cons}
-use borrow.Author.Tests.{lt-ltb, le-ltb}
 use Rattle.runs.specs.Tests.{both}
 use Rattle.runs.specs.Searches.{either, any_in}
+use Rattle.std.specs.List.{IsAllAdjacentAnswer}
+use lib.Dec.{ltb}
 use Rattle.runs.specs.Model.Monitor.{rising_b}
 
 pub drop_none : (l : List ℕ) → drop (length l) l ≡ []
@@ -50,29 +49,26 @@ pub read_ends : {ts : List ℕ} {g : ℕ → Bool} {i : ℕ} → UnfoundIn ts g 
 unfolding any_in
 read_ends {ts} {i = i} u l = let e : i ≡ length ts = omega arith in sym (u.rest ∙ rw (e, drop_none ts))
 
-module _ (ts : List ℕ) where
-  -- ---- it strictly rises: from the number before position i on
-  drop_two : (i : ℕ) → 1 ≤ i → i < length ts → drop (i - 1) ts ≡ get_or ts (i - 1) 0 ∷ get_or ts i 0 ∷ drop (i + 1) ts
-  drop_two i l m = let e : suc (i - 1) ≡ i = omega arith in drop-cons ts (i - 1) 0 (omega arith) ∙ rw (e, add-one i)
-      (ap (λ (z : List ℕ). get_or ts (i - 1) 0 ∷ z) (drop-cons ts i 0 m))
+-- ---- it strictly rises: each number and the next
+rising_all : (ts : List ℕ) → ((k : ℕ) → suc k < length ts → ltb (get_or ts k 0) (get_or ts (suc k) 0) ≡ true)
+    → rising_b ts ≡ true
+unfolding rising_b both
+rising_all [] h = refl
+rising_all (t ∷ []) h = refl
+rising_all (t ∷ u ∷ ts) h = rw (h 0 (omega arith)) (rising_all (u ∷ ts) (λ k l. h (suc k) (omega arith)))
 
-  pub falls_here : (i : ℕ) → 1 ≤ i → i < length ts → rising_b ts ≡ rising_b (drop (i - 1) ts)
-      → get_or ts i 0 ≤ get_or ts (i - 1) 0 → rising_b ts ≡ false
-  unfolding rising_b both
-  falls_here i l m h q = h ∙ rw (drop_two i l m, le-ltb _ _ q)
+falling_here : (ts : List ℕ) (k : ℕ) → suc k < length ts → ltb (get_or ts k 0) (get_or ts (suc k) 0) ≡ false
+    → rising_b ts ≡ false
+unfolding rising_b both
+falling_here [] k l h = absurd (omega arith)
+falling_here (t ∷ []) k l h = absurd (omega arith)
+falling_here (t ∷ u ∷ ts) zero l h = rw h
+falling_here (t ∷ u ∷ ts) (suc k) l h = rw (falling_here (u ∷ ts) k (omega arith) h) (neither (ltb t u))
+  where
+    neither : (v : Bool) → both v (λ x. false) ≡ false
+    neither true = refl
+    neither false = refl
 
-  pub rises_on : (i : ℕ) → 1 ≤ i → i < length ts → rising_b ts ≡ rising_b (drop (i - 1) ts)
-      → get_or ts (i - 1) 0 < get_or ts i 0 → rising_b ts ≡ rising_b (drop i ts)
-  unfolding rising_b both
-  rises_on i l m h q = h ∙ rw (drop_two i l m, lt-ltb _ _ q, drop-cons ts i 0 m, add-one i)
-
-  pub rises_all : (i : ℕ) → 1 ≤ i → length ts ≤ i → i ≤ length ts + (1 - length ts)
-      → rising_b ts ≡ rising_b (drop (i - 1) ts) → rising_b ts ≡ true
-  unfolding rising_b
-  rises_all i l m n h = by_cases (ℕ_discrete (length ts) 0) (λ (z : length ts ≡ 0). nil ts z) (λ k.
-      let z : suc (i - 1) ≡ length ts = omega arith in
-      h ∙ rw (drop-cons ts (i - 1) 0 (omega arith), z, drop_none ts))
-    where
-      nil : (l : List ℕ) → length l ≡ 0 → rising_b l ≡ true
-      nil [] e = refl
-      nil (x ∷ l) e = absurd (omega arith)
+pub rising_answer : (ts : List ℕ) (r : Bool) → IsAllAdjacentAnswer (λ x y b. b ≡ ltb x y) ts r → r ≡ rising_b ts
+rising_answer ts true h = sym (rising_all ts (λ k l. sym (rw (add-one k) at (h k 0 (omega arith)))))
+rising_answer ts false h = sym (falling_here ts h.0 (omega (arith, h.1)) (sym (rw (add-one h.0) at (h.2 0))))

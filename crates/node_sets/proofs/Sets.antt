@@ -1,9 +1,9 @@
 -- Sets of nodes: those of a list, those marked in a table. Assumes nothing.
-use mathlib.Core.Path.{◌≡◌, refl, ◌∙◌, fun_ext}
+use mathlib.Core.Path.{◌≡◌, refl, sym, ap, ◌∙◌, fun_ext}
 use mathlib.Core.Logic.{by_cases}
 use mathlib.Core.Bool.{Bool, true, false}
 use mathlib.Core.List.Memᴰ.{not-nil as among_none}
-use mathlib.Core.List.{List, [], ◌∷◌, Memᴰ as Among}
+use mathlib.Core.List.{List, [], ◌∷◌, ◌++◌, Memᴰ as Among}
 use Prim.Native.Nat.{ℕ, ◌<◌}
 use native.Mathlib.Decide.{ℕ_discrete, dec_lt}
 use native.Mathlib.Omega.{arith}
@@ -41,14 +41,25 @@ marked_more table t l x = by_cases (ℕ_discrete x t)
     (λ (e : x ≡ t). rw (eq-eqb x t e, e, get_or-set_same table t 1 0 l))
     (λ e. rw (ne_eqb x t e, get_or-set_other table t x 1 0 e))
 
-pub marked_cons : (table : List ℕ) (t : ℕ) (ts : List ℕ) → t < length table → marked table ≡ listed ts
-    → marked (set table t 1) ≡ listed (t ∷ ts)
-unfolding listed any_in
-marked_cons table t ts l h = fun_ext (λ x. rw h at (marked_more table t l x))
+-- one number more at the end of a list
+listed_more : (ts : List ℕ) (t x : ℕ) → listed (ts ++ (t ∷ [])) x ≡ either (eqb x t) (λ u. listed ts x)
+unfolding listed any_in either
+listed_more [] t x = refl
+listed_more (y ∷ ts) t x = ap (λ (b : Bool). either (eqb x y) (λ u. b)) (listed_more ts t x)
+    ∙ in_turn (eqb x y) (eqb x t) (any_in ts (eqb x))
+  where
+    in_turn : (v w z : Bool) → either v (λ u. either w (λ u. z)) ≡ either w (λ u. either v (λ u. z))
+    in_turn true true z = refl
+    in_turn true false z = refl
+    in_turn false w z = refl
+
+pub marked_next : (table : List ℕ) (t : ℕ) (ts : List ℕ) → t < length table → marked table ≡ listed ts
+    → marked (set table t 1) ≡ listed (ts ++ (t ∷ []))
+marked_next table t ts l h = fun_ext (λ x. rw h at (marked_more table t l x) ∙ sym (listed_more ts t x))
 
 pub marked_only : (table : List ℕ) (t : ℕ) → Zeros 128 table → t < 128 → marked (set table t 1) ≡ only t
 unfolding listed any_in either
-marked_only table t z l = marked_cons table t [] (omega (arith, z.long)) (marked_none table z)
+marked_only table t z l = marked_next table t [] (omega (arith, z.long)) (marked_none table z)
     ∙ fun_ext (λ x. alone (eqb x t))
   where
     alone : (v : Bool) → either v (λ u. false) ≡ v

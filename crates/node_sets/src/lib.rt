@@ -8,7 +8,7 @@ ghost use Rattle.node_sets.specs.Sets.{marked, AllMarked, Each};
 ghost use Rattle.node_sets.specs.One.{only};
 ghost use Rattle.tables.specs.Sizes.{NODES};
 
-use tables::{NODES, Nodes, no_nodes};
+use tables::{NODES, Nodes};
 
 // A table with one node marked.
 pub fn mark_one(node: usize) -> Nodes
@@ -25,11 +25,9 @@ pub fn mark_all(list: &[usize]) -> Nodes
     requires { Each list.now (λ t. t < NODES) }
     ensures { marked result ≡ listed list.now }
 {
-    let mut marks = no_nodes();
-    let mut i = list.len();
-    while 0 < i {
-        i -= 1;
-        marks[list[i]] = 1;
+    let mut marks = [0; NODES];
+    for t in list {
+        marks[*t] = 1;
     }
     marks
 }
@@ -45,13 +43,5 @@ pub fn all_nodes() -> Nodes
 pub fn rises(list: &[usize]) -> bool
     ensures { result ≡ rising_b list.now }
 {
-    let n = list.len();
-    let mut i = 1;
-    while i < n {
-        if list[i] <= list[i - 1] {
-            return false;
-        }
-        i += 1;
-    }
-    true
+    list.is_sorted_by(|a, b| a < b)
 }

@@ -1,49 +1,30 @@
 -- `node_sets::mark_all` meets its contract. Assumes nothing.
-use mathlib.Core.Path.{◌≡◌, sym, ap, ◌∙◌}
-use Prim.Native.Nat.{ℕ, suc, ◌<◌, ◌-◌}
-use lib.ListN.{get_or, drop, length-set}
-use lib.Seq.{drop-cons}
-use Rattle.runs.specs.Searches.{listed}
-use Rattle.node_sets.proofs.Sets.{marked_none, marked_cons}
-use Rattle.node_sets.proofs.Lists.{among_at, drop_none}
+use mathlib.Core.Path.{ap, sym, ◌∙◌}
 use native.Mathlib.Omega.{arith}
+use lib.ListN.{length-set}
+use Rattle.std.proofs.lemmas.List.{take_all, take_more}
+use Rattle.runs.specs.Searches.{listed}
+use Rattle.base.proofs.Zeros.{zeros}
+use Rattle.node_sets.proofs.Sets.{marked_none, marked_next}
+use Rattle.node_sets.proofs.Lists.{among_at}
 use Rattle.node_sets.proofs.mark_all.Goals as goal
-use Rattle.node_sets.proofs.mark_all.Goals.{In-loop-i}
 
-pub loop-i-init : goal.loop-i-init
-loop-i-init c =
+pub loop-t-init : goal.loop-t-init
+loop-t-init c = ((zeros 128).long, marked_none _ (zeros 128))
+
+-- the next one is a node's number
+pub bounds-marks-t : goal.bounds-marks-t
+bounds-marks-t c = c.requires _ (among_at _ c.loop-t.t-index c.loop-t-test.true)
+
+pub loop-t-preserved : goal.loop-t-preserved
+loop-t-preserved c =
+    let l = c.loop-t in
     let ts = c.args.list.now in (
-      omega arith,
-      (
-        c.no_nodes-marks.ensures.long,
-        marked_none _ c.no_nodes-marks.ensures
-            ∙ ap listed (sym (drop_none ts)),
-      ),
+      length-set l.marks _ 1 ∙ l.invariant.0,
+      marked_next l.marks _ _ (omega (arith, c.requires _ (among_at ts l.t-index c.loop-t-test.true), l.invariant.0))
+          l.invariant.1
+          ∙ ap listed (sym (take_more ts l.t-index 0 c.loop-t-test.true)),
     )
-
--- the next task is a node's number
-inside : (c : In-loop-i) → get_or c.args.list.now (c.loop-i.i - 1) 0 < 128
-inside c = c.requires _ (among_at _ (c.loop-i.i - 1) (omega arith))
 
 pub returns : goal.returns
-returns c =
-    let l = c.loop-i in
-    let e : l.i ≡ 0 = omega arith in
-    l.invariant.1.1 ∙ ap (λ (i : ℕ). listed (drop i c.args.list.now)) e
-
-pub bounds-marks-list : goal.bounds-marks-list
-bounds-marks-list c = inside (goal.at.bounds-marks-list c).In-loop-i
-
-pub loop-i-preserved : goal.loop-i-preserved
-loop-i-preserved c =
-    let l = c.loop-i in
-    let ts = c.args.list.now in
-    let k : suc (l.i - 1) ≡ l.i = omega arith in (
-      omega arith,
-      (
-        length-set l.marks _ 1 ∙ l.invariant.1.0,
-        marked_cons l.marks _ (drop l.i ts)
-            (omega (arith, inside (goal.at.loop-i-preserved c).In-loop-i, l.invariant.1.0)) l.invariant.1.1
-            ∙ ap listed (sym (rw k at (drop-cons ts (l.i - 1) 0 (omega arith)))),
-      ),
-    )
+returns c = c.loop-t.invariant.1 ∙ ap listed (take_all c.loop-t.t-index c.args.list.now (omega arith))
