@@ -1,13 +1,23 @@
 -- A state with an ordinal written. Assumes nothing.
-use mathlib.Core.Path.{◌≡◌, ◌∙◌}
-use mathlib.Core.List.{List}
-use Prim.Native.Nat.{ℕ, ◌+◌, ◌*◌, ◌/◌, ◌%◌, ◌<◌, ◌≤◌}
+use mathlib.Core.Path.{◌≡◌, refl, ap, ◌∙◌}
+use mathlib.Core.List.{List, [], ◌∷◌, ◌++◌}
+use Prim.Native.Nat.{ℕ, zero, suc, ◌+◌, ◌*◌, ◌/◌, ◌%◌, ◌<◌, ◌≤◌}
 use native.Mathlib.Omega.{arith}
-use lib.ListN.{length, get_or, set, length-set}
+use lib.ListN.{length, get_or, set, take, drop, length-set}
 use lib.Seq.{get_or-set_same, get_or-set_other}
 use Rattle.plan_format.specs.Format.{u16_at, node_count}
 use Rattle.run_starts.specs.Starts.{ordinal_at, ordinal_in}
 use Rattle.run_starts.specs.Inner.{with_ordinal}
+
+-- two elements written at once
+pub two_written : (s : List ℕ) (i x y : ℕ) → i + 1 < length s
+    → set (set s i x) (i + 1) y ≡ take i s ++ x ∷ y ∷ drop 2 (drop i s)
+two_written [] i x y l = absurd (omega arith)
+two_written (a ∷ []) i x y l = absurd (omega arith)
+two_written (a ∷ b ∷ s) zero x y l = refl
+two_written (a ∷ b ∷ s) (suc i) x y l =
+    let e : suc i + 1 ≡ suc (i + 1) = omega arith in
+    rw e (ap (λ (t : List ℕ). a ∷ t) (two_written (b ∷ s) i x y (omega arith)))
 
 module _ (b s : List ℕ) (n k : ℕ) where
   abbrev z : List ℕ

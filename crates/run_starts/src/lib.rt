@@ -16,6 +16,7 @@ use plan_format::fields::{is_kind, nodes, u16_at};
 use tables::{STARTS, no_starts};
 
 // Where the ordinal of node n stands.
+#[tactic(auto, unfolding(crate::specs::Starts::ordinal_at))]
 fn ordinal_at(plan: &[u8], n: usize) -> usize
     requires { (n < node_count plan.now) × Whole plan.now }
     ensures { result ≡ ordinal_at plan.now n }
@@ -23,27 +24,30 @@ fn ordinal_at(plan: &[u8], n: usize) -> usize
     8 + nodes(plan) + 2 * n
 }
 
+#[tactic(auto, unfolding(crate::specs::Starts::ordinal_at, crate::specs::Starts::ordinal_in))]
 fn ordinal(plan: &[u8], state: &[u8], n: usize) -> usize
     requires { (n < node_count plan.now) × StateFits plan.now state.now }
     ensures { result ≡ ordinal_in plan.now state.now n }
 {
-    u16_at(state, ordinal_at(plan, n)) as usize
+    usize::from(u16_at(state, ordinal_at(plan, n)))
 }
 
 // Node n is a started task.
+#[tactic(auto, unfolding(crate::specs::Starts::started_in, crate::specs::Starts::node_byte))]
 fn is_started(plan: &[u8], state: &[u8], n: usize) -> bool
     requires { (n < node_count plan.now) × StateFits plan.now state.now }
     ensures { result ≡ started_in plan.now state.now n }
 {
-    is_kind(plan, n, TASK) & (state[8 + n] != WAITING)
+    is_kind(plan, n, TASK) && state[8 + n] != WAITING
 }
 
 // Node n has an ordinal and has not been started.
+#[tactic(auto, unfolding(crate::specs::Starts::stray_ordinal))]
 pub fn is_stray(plan: &[u8], state: &[u8], n: usize) -> bool
     requires { (n < node_count plan.now) × StateFits plan.now state.now }
     ensures { result ≡ stray_ordinal plan.now state.now n }
 {
-    !is_started(plan, state, n) & (ordinal(plan, state, n) != 0)
+    !is_started(plan, state, n) && ordinal(plan, state, n) != 0
 }
 
 // How many tasks have been started.
@@ -51,16 +55,9 @@ pub fn started(plan: &[u8], state: &[u8]) -> usize
     requires { StateFits plan.now state.now }
     ensures { result ≡ started_count plan.now state.now }
 {
-    let n = nodes(plan);
-    let mut m = 0;
-    let mut i = 0;
-    while i < n {
-        if is_started(plan, state, i) {
-            m += 1;
-        }
-        i += 1;
-    }
-    m
+    (0..nodes(plan))
+        .filter(|n| is_started(plan, state, *n))
+        .count()
 }
 
 // A count for each ordinal, from 0 to that of the last start.
@@ -72,15 +69,12 @@ fn holders(plan: &[u8], state: &[u8]) -> Counts
     ensures { (length result ≡ STARTS) × ((k : ℕ) → k < STARTS
         → get_or result k 0 ≡ holders plan.now state.now k) }
 {
-    let n = nodes(plan);
     let mut table = no_starts();
-    let mut i = 0;
-    while i < n {
-        let k = ordinal(plan, state, i);
-        if is_started(plan, state, i) & (k < STARTS) {
+    for n in 0..nodes(plan) {
+        let k = ordinal(plan, state, n);
+        if is_started(plan, state, n) && k < STARTS {
             table[k] += 1;
         }
-        i += 1;
     }
     table
 }
@@ -92,22 +86,15 @@ pub fn ordinals_bad(plan: &[u8], state: &[u8]) -> bool
 {
     let m = started(plan, state);
     let table = holders(plan, state);
-    let mut k = 0;
-    while k < m {
-        if table[k + 1] != 1 {
-            return true;
-        }
-        k += 1;
-    }
-    false
+    (0..m).any(|k| table[k + 1] != 1)
 }
 
 // Writes the ordinal k at node n.
+#[tactic(auto, unfolding(crate::specs::Starts::ordinal_at))]
 pub fn write_ordinal(plan: &[u8], state: &mut [u8], n: usize, k: usize)
     requires { (n < node_count plan.now) × ((k < 65536) × StateFits plan.now state.old) }
     ensures { state.new ≡ with_ordinal plan.now n k state.old }
 {
     let at = ordinal_at(plan, n);
-    state[at] = (k % 256) as u8;
-    state[at + 1] = (k / 256) as u8;
+    state[at..at + 2].copy_from_slice(&(k as u16).to_le_bytes());
 }

@@ -1,25 +1,17 @@
 -- `write_ordinal` meets its contract. Assumes nothing.
+use mathlib.Core.Path.{◌≡◌, sym}
+use Prim.Native.Nat.{◌+◌, ◌-◌, ◌/◌, ◌%◌}
 use native.Mathlib.Omega.{arith}
-use lib.ListN.{length-set}
 use Rattle.run_starts.specs.Starts.{ordinal_at}
 use Rattle.run_starts.specs.Inner.{with_ordinal}
+use Rattle.run_starts.proofs.Ordinals.{two_written}
 use Rattle.run_starts.proofs.write_ordinal.Goals as goal
 
-pub bounds-state-at : goal.bounds-state-at
-unfolding ordinal_at
-bounds-state-at c = omega arith
-
-pub overflow_add-state : goal.overflow_add-state
-unfolding ordinal_at
-overflow_add-state c = omega arith
-
-pub bounds-state-at-2 : goal.bounds-state-at-2
-unfolding ordinal_at
-bounds-state-at-2 c = simp length-set (omega arith)
-
 pub returns : goal.returns
-unfolding with_ordinal
-returns c = rw c.ordinal_at-at.ensures
-
-pub ordinal_at-at-requires : goal.ordinal_at-at-requires
-ordinal_at-at-requires c = (c.requires.0, c.requires.1.1.plan)
+unfolding with_ordinal ordinal_at
+returns c =
+    let at = c.ordinal_at-at.result in
+    let g : at + 2 - at ≡ 2 = omega arith in
+    let h : c.args.k / 256 % 256 ≡ c.args.k / 256 = omega arith in
+    rw (c.copy_from_slice.ensures.after, c.to_le_bytes.ensures, g, h, ← c.ordinal_at-at.ensures)
+    (sym (two_written c.args.state.now at _ _ (omega arith)))
