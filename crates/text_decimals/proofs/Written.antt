@@ -1,11 +1,12 @@
 -- The laws of `written`. Assumes nothing.
 use mathlib.Core.Path.{◌≡◌, refl, sym, ap, ◌∙◌}
-use mathlib.Core.List.{List, [], ◌∷◌, ◌++◌}
-use Prim.Native.Nat.{ℕ, suc, ◌+◌, ◌<◌, ◌≤◌}
-use native.Mathlib.Numerals.{add-one}
+use mathlib.Core.List.{List, [], ◌∷◌, ◌++◌, append_assoc}
+use Prim.Native.Nat.{ℕ, suc, ◌+◌, ◌≤◌}
 use native.Mathlib.Omega.{arith}
-use lib.ListN.{length, get_or, set, take, drop, length-set, length-append}
-use lib.Seq.{length-sets, sets-eq, length-take-le, take-suc, take_all}
+use lib.ListN.{length, set, take, drop, length-append}
+use lib.Seq.{length-sets, sets-eq}
+use Rattle.std.proofs.lemmas.List.{drop-drop}
+use borrow.Rule.Slice.PartMut.{put_mid}
 use Rattle.text_decimals.specs.Decimals.{written, Wrote}
 
 pub written_none : (out : List ℕ) (at : ℕ) → written out at [] ≡ out
@@ -55,29 +56,10 @@ wrote_one {out} {at} {x} = record { bytes = written_one out at x; next = refl }
 pub wrote_same : {out out' s t : List ℕ} {at r : ℕ} → s ≡ t → Wrote out at s r out' → Wrote out at t r out'
 wrote_same e h = rw e at h
 
--- the first i of the bytes s are written
-pub record WrittenTo (out out' : List ℕ) (at : ℕ) (s : List ℕ) (i : ℕ) : Type 0 where
-  pub inside : i ≤ length s
-  pub long : length out' ≡ length out
-  pub is : out' ≡ written out at (take i s)
-
-module _ {out : List ℕ} {at : ℕ} {s : List ℕ} where
-  pub to_none : WrittenTo out out at s 0
-  to_none = record { inside = omega arith; long = refl; is = sym (written_none out at) }
-
-  pub to_more : {out' : List ℕ} {i : ℕ} → i < length s → WrittenTo out out' at s i
-      → WrittenTo out (set out' (at + i) (get_or s i 0)) at s (i + 1)
-  to_more {out'} {i} l h = record {
-    inside = omega arith;
-    long = length-set out' (at + i) (get_or s i 0) ∙ h.long;
-    is =
-        let e : at + i ≡ at + length (take i s) = omega (arith, length-take-le i s (omega arith)) in
-        written_one out' (at + i) (get_or s i 0)
-        ∙ ap (λ (x : List ℕ). written x (at + i) (get_or s i 0 ∷ [])) h.is
-        ∙ ap (λ (k : ℕ). written (written out at (take i s)) k (get_or s i 0 ∷ [])) e
-        ∙ written_append (take i s) (get_or s i 0 ∷ []) out at
-        ∙ ap (written out at) (rw add-one (sym (take-suc s i 0 l)));
-  }
-
-  pub to_all : {out' : List ℕ} {i : ℕ} → length s ≤ i → WrittenTo out out' at s i → Wrote out at s (at + i) out'
-  to_all {i = i} l h = record { bytes = h.is ∙ ap (written out at) (take_all i s l); next = omega (arith, h.inside) }
+-- s copied over a part of out
+pub wrote_over : {out s t : List ℕ} {at k : ℕ} → at + length s ≤ length out → k ≡ length s → t ≡ s
+    → Wrote out at s (at + length s) (put_mid at k out t)
+wrote_over {out} {s} {at = at} l e f = record {
+  bytes = rw (e, f, drop-drop, ← append_assoc) (sym (written_is out at s l));
+  next = refl;
+}
