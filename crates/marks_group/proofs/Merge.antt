@@ -1,13 +1,14 @@
 -- Words put together child by child, and what they come to over all children of a group. Assumes nothing.
-use mathlib.Core.Path.{◌≡◌, refl, ◌∙◌}
+use mathlib.Core.Path.{◌≡◌, refl}
 use mathlib.Core.Logic.Iff
-use mathlib.Core.Logic.{by_cases, ◌⊎◌, inl, inr}
-use mathlib.Core.List.{List, [], ◌∷◌}
-use Prim.Native.Nat.{ℕ, zero, suc, ◌+◌, ◌≤◌, ◌<◌}
-use native.Mathlib.Decide.{ℕ_discrete, dec_lt}
+use mathlib.Core.Logic.{by_cases, inl, inr}
+use mathlib.Core.List.{List}
+use Prim.Native.Nat.{ℕ, ◌+◌, ◌≤◌, ◌<◌}
+use native.Mathlib.Decide.{dec_lt}
 use native.Mathlib.Omega.{arith}
-use lib.ListN.{length, get_or, set, length-set}
-use lib.Seq.{get_or-set_same, get_or-set_other}
+use lib.ListN.{get_or}
+use Rattle.std.proofs.Common.{replicate}
+use Rattle.std.proofs.lemmas.List.{get_or-replicate}
 use Rattle.base.specs.Words.{ones, Says}
 use Rattle.base.proofs.Says.{says_map, says_eq, says_and, says_all, says_none}
 use Rattle.runs.specs.Plan.{all_of, any_of, optional, Plan}
@@ -25,45 +26,6 @@ use Rattle.marks_group.proofs.All.{every_part, some_part}
 use Rattle.marks_row.proofs.Rows.{index_small}
 use Rattle.runs.proofs.Plan.Numbers.{sign_small}
 use Rattle.tables.proofs.Segments.{listed, every_more, some_more, every_none, some_none, every_child, some_child}
-
--- an array of zeros
-abbrev zeros : ℕ → List ℕ
-zeros zero = []
-zeros (suc n) = 0 ∷ zeros n
-
-zeros_at : (n j : ℕ) → get_or (zeros n) j 0 ≡ 0
-zeros_at zero j = refl
-zeros_at (suc n) zero = refl
-zeros_at (suc n) (suc j) = zeros_at n j
-
--- the words of `start_words` up to k: ones from first to k, zeros else
-pub record Starting (first k : ℕ) (out : List ℕ) : Type 0 where
-  pub long : length out ≡ 23
-  pub every : (j : ℕ) → first ≤ j → j < k → get_or out j 0 ≡ ones
-  pub some : (j : ℕ) → (j < first) ⊎ (k ≤ j) → get_or out j 0 ≡ 0
-
-pub start_none : (first : ℕ) → Starting first first (zeros 23)
-start_none first = record { long = refl; every = λ j a b. absurd (omega arith); some = λ j x. zeros_at 23 j }
-
-pub start_more : {first k : ℕ} {out : List ℕ} → first ≤ k → k < 23 → Starting first k out
-    → Starting first (k + 1) (set out k ones)
-start_more {first} {k} {out} l m s = record {
-  long = length-set out k ones ∙ s.long;
-  every = λ j a b. by_cases (ℕ_discrete j k) (λ e. rw (e, get_or-set_same out k ones 0 (omega (arith, s.long))))
-      (λ ne. get_or-set_other out k j ones 0 ne ∙ s.every j a (omega arith));
-  some = λ j x. get_or-set_other out k j ones 0 (off j x) ∙ s.some j (less j x);
-}
-  where
-    off : (j : ℕ) → (j < first) ⊎ (k + 1 ≤ j) → j ≡ k → ⊥
-    off j (inl a) e = omega arith
-    off j (inr a) e = omega arith
-
-    less : (j : ℕ) → (j < first) ⊎ (k + 1 ≤ j) → (j < first) ⊎ (k ≤ j)
-    less j (inl a) = inl a
-    less j (inr a) = inr (omega arith)
-
-pub started : {first last : ℕ} {out : List ℕ} → Starting first last out → Unmerged first last out
-started s = record { every = λ j l a b. s.every j a b; some = λ j l x. s.some j x }
 
 module _ {first last : ℕ} {kids : List ℕ} {lo : ℕ} {P M : Column → ℕ → ℕ → Type 0} where
   pub joined_none : {r : List ℕ} → Unmerged first last r → Joined first last kids lo lo P M r
@@ -85,9 +47,8 @@ module _ {first last : ℕ} {kids : List ℕ} {lo : ℕ} {P M : Column → ℕ �
   }
 
 -- a mask of ones
-pub unmasked : {mask : List ℕ} → Unmerged 0 23 mask → (k : Column) (f : ℕ) → f < 64
-    → Says (get_or mask (index_of k) 0) f (Unit {0})
-unmasked u k f l = says_all l (u.every (index_of k) (index_small k) (omega arith) (index_small k)) tt
+pub unmasked : (k : Column) (f : ℕ) → f < 64 → Says (get_or (replicate 23 ones) (index_of k) 0) f (Unit {0})
+unmasked k f l = says_all l (get_or-replicate 23 (index_of k) ones 0 (index_small k)) tt
 
 module _ {kids : List ℕ} {segment : Segment} {rows : List ℕ} {p : Plan} {n : ℕ} (g : Group kids segment rows p n) where
   -- the row of a child at a position of the segment

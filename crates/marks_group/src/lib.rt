@@ -3,19 +3,19 @@
 #![tactic(auto)]
 
 ghost use Rattle.std.specs.Prelude.{◌≤◌, ◌<◌};
-ghost use Rattle.marks_row.specs.Columns.{RowIs};
+ghost use Rattle.marks_row.specs.Columns.{COLUMNS, RowIs};
 ghost use Rattle.tables.specs.Segments.{AtSegment};
-ghost use Rattle.marks_row.specs.Columns.{COLUMNS};
 ghost use Rattle.tables.specs.Sizes.{NODES};
 ghost use Rattle.marks_group.specs.Groups.{AnyRow, AllRow, JoinedWord, Merged, Unmerged};
 ghost use Rattle.marks_group.specs.Masks.{mask_of};
 ghost use Rattle.marks_group.specs.Empty.{with_empty};
 
-use base::kinds::OPTIONAL;
 use base::ALL;
+use base::kinds::OPTIONAL;
 use marks_row::columns::{AVOID, COVERED, END, MUST_INC};
 use marks_row::{COLUMNS, Rows, Words, word_at};
 use marks_siblings::{Siblings, all_siblings};
+use std::array;
 use tables::{Nodes, Orders, Segment};
 
 // What each column of a child is masked by.
@@ -62,11 +62,7 @@ fn start_words(every: Span) -> Words
     ensures { Unmerged every.first every.last result }
 {
     let mut out = [0u64; COLUMNS];
-    let mut k = every.first;
-    while k < every.last {
-        out[k] = ALL;
-        k += 1;
-    }
+    out[every.first..every.last].fill(ALL);
     out
 }
 
@@ -75,13 +71,11 @@ fn start_words(every: Span) -> Words
 fn joined(every: Span, k: usize, word: u64, child: u64, mask: u64) -> u64
     ensures { JoinedWord every.first every.last k word child mask result }
 {
-    if k < every.first {
-        return word | (child & mask);
+    if (every.first..every.last).contains(&k) {
+        word & child
+    } else {
+        word | (child & mask)
     }
-    if every.last <= k {
-        return word | (child & mask);
-    }
-    word & child
 }
 
 // The words of one child more.
@@ -89,13 +83,7 @@ fn merged(every: Span, words: Words, rows: &Rows, child: usize, mask: Words) -> 
     requires { child < NODES }
     ensures { Merged every.first every.last words rows.now child mask result }
 {
-    let mut out = words;
-    let mut k = 0;
-    while k < COLUMNS {
-        out[k] = joined(every, k, words[k], word_at(rows, child, k), mask[k]);
-        k += 1;
-    }
-    out
+    array::from_fn(|k| joined(every, k, words[k], word_at(rows, child, k), mask[k]))
 }
 
 // The words of one branch more, which has no tasks: it asserts nothing and asks for nothing, and has no must.
@@ -114,26 +102,22 @@ pub fn any_words(kind: u8, kids: &Nodes, segment: Segment, rows: &Rows) -> Words
     requires { AtSegment kids.now segment }
     ensures { AnyRow kind kids.now segment rows.now result }
 {
-    let all = Span {
-        first: 0,
-        last: COLUMNS,
-    };
     let every = Span {
         first: MUST_INC,
         last: END,
     };
-    let mask = start_words(all);
+    let mask = [ALL; COLUMNS];
     let mut words = start_words(every);
-    let mut i = segment.start;
-    while i < segment.end {
+    for i in segment.start..segment.end {
+        // By `next`: a call's array cannot go straight to what a loop changes.
         let next = merged(every, words, rows, usize::from(kids[i]), mask);
         words = next;
-        i += 1;
     }
     if kind == OPTIONAL {
-        return with_empty(words);
+        with_empty(words)
+    } else {
+        words
     }
-    words
 }
 
 // What an all-of group shows by its children one by one, from their rows.
@@ -146,13 +130,12 @@ pub fn all_words(kids: &Nodes, segment: Segment, order: &Orders, rows: &Rows) ->
         last: COVERED,
     };
     let mut words = start_words(every);
-    let mut i = segment.start;
-    while i < segment.end {
+    for i in segment.start..segment.end {
         let child = usize::from(kids[i]);
         let mask = mask_words(all_siblings(kids, segment, order, rows, child));
+        // By `next`, as in `any_words`.
         let next = merged(every, words, rows, child, mask);
         words = next;
-        i += 1;
     }
     words
 }

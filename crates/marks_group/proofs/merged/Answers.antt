@@ -1,10 +1,15 @@
--- `merged` meets its contract: the words below k are put together. Assumes nothing.
-use native.Mathlib.Omega.{arith}
+-- `merged` meets its contract: each word is put together. Assumes nothing.
 use borrow.Author.Rules.{rules}
+use lib.ListN.{get_or}
+use Rattle.marks_row.specs.Columns.{word_at}
+use Rattle.marks_group.specs.Groups.{JoinedWord}
+use Rattle.marks_group.proofs.FromFn.{each_from}
 use Rattle.marks_group.proofs.merged.Goals as goal
 
-pub loop-k-init : goal.loop-k-init
-loop-k-init c = (omega arith, (search rules, λ j l. absurd (omega arith)))
-
 pub returns : goal.returns
-returns c = record { words = λ k l. c.loop-k.invariant.1.1 k (omega arith) }
+returns c = record {
+  words = each_from _ _
+      (λ k r. JoinedWord c.args.every.first c.args.every.last k (get_or c.args.words k 0)
+      (word_at c.args.rows.now c.args.child k) (get_or c.args.mask k 0) r)
+      (λ k y q r. search rules) c.from_fn.ensures.items;
+}
