@@ -16,13 +16,11 @@ use node_sets::rises;
 use plan_format::fields::is_kind;
 
 // 25: the list is empty or does not strictly rise.
+#[tactic(auto, using(crate::proofs::Rising::not_rising_is))]
 pub fn not_rising(tasks: &[usize]) -> bool
     ensures { result ≡ not_rising_b tasks.now }
 {
-    if tasks.len() == 0 {
-        return true;
-    }
-    !rises(tasks)
+    tasks.is_empty() || !rises(tasks)
 }
 
 // 17: some number is not that of a task. The list is read up to the first such number, so of a rising one no more than
@@ -31,15 +29,7 @@ pub fn no_task(plan: &[u8], tasks: &[usize]) -> bool
     requires { Whole plan.now }
     ensures { result ≡ any_in tasks.now (λ t. not (is_kind plan.now t 0)) }
 {
-    let n = tasks.len();
-    let mut i = 0;
-    while i < n {
-        if !is_kind(plan, tasks[i], TASK) {
-            return true;
-        }
-        i += 1;
-    }
-    false
+    tasks.iter().any(|t| !is_kind(plan, *t, TASK))
 }
 
 // 18: some task is not running.
@@ -47,13 +37,5 @@ pub fn not_running(state: &[u8], tasks: &[usize]) -> bool
     requires { Each tasks.now (λ t. (t < NODES) × (8 + t < length state.now)) }
     ensures { result ≡ any_in tasks.now (λ t. not (eqb (node_byte state.now t) 1)) }
 {
-    let n = tasks.len();
-    let mut i = 0;
-    while i < n {
-        if state[8 + tasks[i]] != RUNNING {
-            return true;
-        }
-        i += 1;
-    }
-    false
+    tasks.iter().any(|t| state[8 + *t] != RUNNING)
 }
