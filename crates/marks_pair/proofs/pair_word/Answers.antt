@@ -1,9 +1,7 @@
 -- `pair_word` meets its contract: a case for each place where it returns. Assumes nothing.
-use Rattle.tables.proofs.Turns.{position_small, pair_small}
 use Rattle.marks_between.proofs.Passed.{passing_kid}
 use Rattle.marks_between.proofs.Pair.{pair_kid}
 use Rattle.marks_pair.proofs.Pairs.{none_shared, shared_passes, apart_both, neither_rule}
-use native.Mathlib.Omega.{arith}
 use Rattle.marks_pair.proofs.pair_word.Goals as goal
 
 pub returns-then-shared-eq0 : goal.returns-then-shared-eq0
@@ -27,27 +25,3 @@ returns-then-apart c =
 pub returns-else-apart : goal.returns-else-apart
 returns-else-apart c = pair_kid c.from-d.ensures
     (neither_rule _ c.if-order-d-eq-BEFORE.false (λ u. rw c.if-apart.false at (c.apart.ensures.1 u)))
-
-pub bounds-kids-j : goal.bounds-kids-j
-bounds-kids-j c = position_small c.requires.0.segment c.requires.0.other
-
-pub overflow_mul-d : goal.overflow_mul-d
-overflow_mul-d c = omega (arith, pair_small c.requires.0 c.from-d.ensures)
-
-pub overflow_add-d : goal.overflow_add-d
-overflow_add-d c = omega (arith, pair_small c.requires.0 c.from-d.ensures)
-
-pub bounds-order-d : goal.bounds-order-d
-bounds-order-d c = omega (arith, pair_small c.requires.0 c.from-d.ensures)
-
-pub word_at-requires : goal.word_at-requires
-word_at-requires c = omega (arith, pair_small c.requires.0 c.from-d.ensures)
-
-pub apart-requires : goal.apart-requires
-apart-requires c = omega (arith, pair_small c.requires.0 c.from-d.ensures)
-
-pub word_at-requires-then-apart-2 : goal.word_at-requires-then-apart-2
-word_at-requires-then-apart-2 c = omega (arith, pair_small c.requires.0 c.from-d.ensures)
-
-pub word_at-requires-then-apart-4 : goal.word_at-requires-then-apart-4
-word_at-requires-then-apart-4 c = omega (arith, pair_small c.requires.0 c.from-d.ensures)
