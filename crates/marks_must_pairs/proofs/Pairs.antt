@@ -4,7 +4,6 @@ use mathlib.Core.Logic.{◌⊎◌, inl, inr}
 use mathlib.Core.Bool.{Bool, true, not}
 use mathlib.Core.List.{List}
 use Prim.Native.Nat.{ℕ, ◌+◌, ◌-◌, ◌≤◌, ◌<◌}
-use native.Mathlib.Omega.{arith}
 use lib.Bits.{bit_and, bit_or, bit_xor}
 use lib.Dec.{T}
 use lib.ListN.{get_or}
@@ -72,15 +71,8 @@ added flags word {r} {f} {Q} l e s =
     back (no k) (inl t) = inl t
     back (no k) (inr q) = inr ((says_not {x = flags} l refl (says_self flags f)).from k, q)
 
--- the flags already known, and those for which some child so far has Q: at the beginning, one child more, all children
+-- the flags already known, and those for which some child so far has Q: one child more, all children
 module _ {kids : List ℕ} {low f : ℕ} {Q : ℕ → Type 0} where
-  pub none_more : {known : ℕ} → Says known f (T (bit known f) ⊎ Some kids low low Q)
-  none_more {known} = says_map (inl, at) (says_self known f)
-    where
-      at : T (bit known f) ⊎ Some kids low low Q → T (bit known f)
-      at (inl t) = t
-      at (inr x) = absurd (omega (arith, x.from_low, x.to_high))
-
   pub child_more : {flags r i : ℕ} {K : Type 0} → low ≤ i → Says flags f (K ⊎ Some kids low i Q)
       → Says r f (T (bit flags f) ⊎ Q (get_or kids i 0))
       → Says r f (K ⊎ Some kids low (i + 1) Q)

@@ -41,9 +41,10 @@ fn must_pair_word(
             always: true,
             flags: shared,
         };
-        return passing(kids, segment, order, rows, given, partners);
+        passing(kids, segment, order, rows, given, partners)
+    } else {
+        0
     }
-    0
 }
 
 // The flags already known, and those that a pair with the child c must clobber: only those that c requires in every
@@ -65,15 +66,13 @@ fn must_pairs_of(
     if (flags ^ ALL) & must_pre(rows, c, sign) == 0 {
         return flags;
     }
-    let mut j = segment.start;
-    while j < segment.end {
+    for j in segment.start..segment.end {
         let wanted = OfSign {
-            sign: sign,
+            sign,
             flags: flags ^ ALL,
         };
         let partners = Partners { child: c, at: j };
-        flags = flags | must_pair_word(kids, segment, order, rows, wanted, partners);
-        j += 1;
+        flags |= must_pair_word(kids, segment, order, rows, wanted, partners);
     }
     flags
 }
@@ -86,14 +85,9 @@ pub fn must_pairs(kids: &Nodes, segment: Segment, order: &Orders, rows: &Rows, k
 {
     let sign = known.sign;
     let mut flags = known.flags;
-    let mut i = segment.start;
-    while i < segment.end {
-        let found = OfSign {
-            sign: sign,
-            flags: flags,
-        };
+    for i in segment.start..segment.end {
+        let found = OfSign { sign, flags };
         flags = must_pairs_of(kids, segment, order, rows, found, usize::from(kids[i]));
-        i += 1;
     }
     flags
 }
