@@ -1,3 +1,4 @@
--- The layout of a plan's bytes, and the bytes of its fields.
+-- The layout of a plan's bytes, the bytes of its fields, and a plan that is written part by part.
 pub mod Layout
 pub mod Fields
+pub mod Written

@@ -1,9 +1,10 @@
 // The layout of a plan: what each of its bytes holds.
 #![tactic(auto)]
 
-ghost use Rattle.std.specs.Prelude.{◌≡◌, ◌<◌};
+ghost use Rattle.std.specs.Prelude.{◌≡◌, ◌<◌, ◌≤◌, length};
 ghost use Rattle.plan_layout.specs.Layout.{Limited, size_number, size_byte, plan_length, entry_part, value_part};
 ghost use Rattle.plan_layout.specs.Layout.{part_at};
+ghost use Rattle.plan_layout.specs.Written.{TakesParts, WritesParts};
 
 // 01's N, C, K and V.
 #[derive(Clone, Copy)]
@@ -120,4 +121,14 @@ pub fn part_at(sizes: Sizes, i: usize) -> Part
         return Part::Earlier(i - earlier);
     }
     Part::Later(i - later)
+}
+
+// Writes a plan of these sizes from the first byte, each byte by the part that it holds.
+pub fn write_parts<F: Fn(Part) -> u8>(sizes: Sizes, out: &mut [u8], byte: F)
+    requires { Limited sizes × (plan_length sizes ≤ length out.old) × TakesParts (F.pre byte) sizes }
+    ensures { WritesParts (F.post byte) sizes out.old out.new }
+{
+    for i in 0..plan_length(sizes) {
+        out[i] = byte(part_at(sizes, i));
+    }
 }
