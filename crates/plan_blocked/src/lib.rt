@@ -11,8 +11,9 @@ ghost use Rattle.node_sets.specs.Sets.{marked, AllMarked, Each};
 ghost use Rattle.plan_blocked.specs.Inner.{Standing, ListChecked};
 ghost use Rattle.plan_blocked.specs.Branches.{WithBranch, emptied_at};
 
+use answers::Refusal;
 use base::kinds::{ANY_OF, OPTIONAL};
-use node_sets::{mark_all, rises};
+use node_sets::{all_nodes, mark_all, rises};
 use plan_check::check;
 use plan_format::fields::{is_kind, nodes, parent};
 use tables::{Nodes, no_nodes};
@@ -32,31 +33,13 @@ fn unblockable(plan: &[u8], s: usize) -> bool
     !(is_kind(plan, g, ANY_OF) | is_kind(plan, g, OPTIONAL))
 }
 
-// Some number of the list is such a one. The list is read up to the first, so of a rising one no more than 128 numbers.
-fn some_unblockable(plan: &[u8], list: &[usize]) -> bool
-    requires { refusal plan.now ≡ 0 }
-    ensures { result ≡ any_in list.now (unblockable_b (plan_of plan.now)) }
-{
-    let n = list.len();
-    let mut i = 0;
-    while i < n {
-        if unblockable(plan, list[i]) {
-            return true;
-        }
-        i += 1;
-    }
-    false
-}
-
-// 28.
+// 28: the list does not strictly rise, or some number of it cannot be blocked. The list is read up to the first, so of
+// a rising one no more than 128 numbers.
 fn list_bad(plan: &[u8], list: &[usize]) -> bool
     requires { refusal plan.now ≡ 0 }
     ensures { result ≡ refused28_b (plan_of plan.now) list.now }
 {
-    if rises(list) {
-        return some_unblockable(plan, list);
-    }
-    true
+    !rises(list) || list.iter().any(|s| unblockable(plan, *s))
 }
 
 // Leaves the marks of the nodes that stand: a child does if it is not blocked and its parent stands. Hands over those
@@ -66,17 +49,14 @@ fn mark_standing(plan: &[u8], blocked: &Nodes, standing: &mut Nodes) -> Nodes
     ensures { Standing plan.now (marked blocked.now) standing.new
         × WithBranch plan.now (marked blocked.now) result }
 {
-    let n = nodes(plan);
     let mut marks = no_nodes();
-    let mut c = 1;
-    while c < n {
+    for c in 1..nodes(plan) {
         let g = usize::from(parent(plan, c));
         if (blocked[c] == 1) | (standing[g] != 1) {
             standing[c] = 0;
         } else {
             marks[g] = 1;
         }
-        c += 1;
     }
     marks
 }
@@ -96,44 +76,33 @@ fn branchless(plan: &[u8], list: &[usize], standing: &Nodes, marks: &Nodes) -> b
     ensures { result ≡ any_in list.now
         (emptied_at plan.now standing.now marks.now) }
 {
-    let n = list.len();
-    let mut i = 0;
-    while i < n {
-        if emptied(plan, standing, marks, list[i]) {
-            return true;
-        }
-        i += 1;
-    }
-    false
+    list.iter().any(|s| emptied(plan, standing, marks, *s))
 }
 
-// Refusals 28 and 29, or 0, and then of the marks those of the nodes that stand. With nothing blocked all do.
-fn check_list(plan: &[u8], list: &[usize], standing: &mut Nodes) -> u32
-    requires { (refusal plan.now ≡ 0) × AllMarked standing.old }
-    ensures { ListChecked plan.now list.now result standing.new }
+// Refuses a list (28, 29), or hands over the marks of the nodes that stand. With nothing blocked all do.
+fn check_list(plan: &[u8], list: &[usize]) -> Result<Nodes, Refusal>
+    requires { refusal plan.now ≡ 0 }
+    ensures { ListChecked plan.now list.now result }
 {
-    if list.len() == 0 {
-        return 0;
+    let mut standing = all_nodes();
+    if list.is_empty() {
+        return Ok(standing);
     }
     if list_bad(plan, list) {
-        return 28;
+        return Err(Refusal::BadBlocked);
     }
     let blocked = mark_all(list);
-    let marks = mark_standing(plan, &blocked, standing);
-    if branchless(plan, list, standing, &marks) {
-        return 29;
+    let marks = mark_standing(plan, &blocked, &mut standing);
+    if branchless(plan, list, &standing, &marks) {
+        return Err(Refusal::NoBranch);
     }
-    0
+    Ok(standing)
 }
 
-// Refusals 1 to 14, 28 and 29, or 0, and then of the marks those of the nodes that stand.
-pub fn check_blocked(plan: &[u8], list: &[usize], standing: &mut Nodes) -> u32
-    requires { AllMarked standing.old }
-    ensures { ListChecked plan.now list.now result standing.new }
+// Refuses plan or list (1 to 14, 28, 29), or hands over the marks of the nodes that stand.
+pub fn check_blocked(plan: &[u8], list: &[usize]) -> Result<Nodes, Refusal>
+    ensures { ListChecked plan.now list.now result }
 {
-    let r = check(plan);
-    if r != 0 {
-        return r;
-    }
-    check_list(plan, list, standing)
+    check(plan)?;
+    check_list(plan, list)
 }

@@ -1,8 +1,10 @@
 -- What `any` answers. Assumes nothing.
 use mathlib.Core.Path.{◌≡◌, refl, sym, ap, ◌∙◌}
 use mathlib.Core.Bool.{Bool, true, false, ◌||◌}
-use mathlib.Core.List.{List, [], ◌∷◌}
-use Prim.Native.Nat.{ℕ, ◌<◌}
+use mathlib.Core.List.{List, [], ◌∷◌, Memᴰ as Among}
+use mathlib.Core.List.Memᴰ.{head as here}
+use mathlib.Core.List.Memᴰ.{tail as there}
+use Prim.Native.Nat.{ℕ, zero, suc, ◌<◌}
 use native.Mathlib.Omega.{arith}
 use denote.Param.Members.{Mut}
 use lib.ListN.{length, get_or}
@@ -66,3 +68,9 @@ pub any_listed : {F : Type 0} {g : Mut F (Bor ℕ × Unit {0}) Bool} {s u : Iter
     → ((x : Bor ℕ) (b : Bool) (q : F) → Called g f (x, tt) b q → (q ≡ f) × (b ≡ p x.now))
     → r ≡ any_in l p
 any_listed {r = r} l p e h k = any_from_yields_List p _ _ _ h (YieldsList-from_slice l e) k ∙ list_any_in l p
+
+-- what stands in a list is one of its numbers
+pub listed_at : (l : List ℕ) {x : ℕ} (k : ℕ) → k < length l → x ≡ get_or l k x → Among x l
+listed_at [] k m e = absurd (omega arith)
+listed_at (y ∷ l) zero m e = here e
+listed_at (y ∷ l) (suc k) m e = there (listed_at l k (omega arith) e)

@@ -1,21 +1,19 @@
 -- `plan_blocked::branchless` meets its contract. Assumes nothing.
-use Rattle.node_sets.proofs.Lists.{among_at, read_starts, read_finds, read_goes_on, read_ends}
-use native.Mathlib.Omega.{arith}
+use Rattle.std.proofs.Common.{rules}
+use borrow.Author.Tests.{tests}
+use Rattle.std.proofs.lemmas.Iterator.{YieldsList-from_slice}
+use Rattle.std.proofs.lemmas.Iterator.Adapters.{serves_from_places}
+use Rattle.searches.proofs.Any.{any_listed, listed_at}
+use Rattle.plan_blocked.specs.Branches.{emptied_at}
 use Rattle.plan_blocked.proofs.branchless.Goals as goal
 
-pub loop-i-init : goal.loop-i-init
-loop-i-init c = read_starts
-
-pub emptied-requires : goal.emptied-requires
-emptied-requires c = (c.requires.0, c.requires.1 _ (among_at _ _ (omega arith)))
-
-pub returns-then-emptied : goal.returns-then-emptied
-returns-then-emptied c = read_finds c.loop-i.invariant (omega arith) c.emptied.ensures
-    c.if-emptied.true
-
-pub loop-i-preserved : goal.loop-i-preserved
-loop-i-preserved c = read_goes_on c.loop-i.invariant (omega arith) c.emptied.ensures
-    c.if-emptied.false
+pub any-requires-clause-callable : goal.any-requires-clause-callable
+any-requires-clause-callable c = serves_from_places (YieldsList-from_slice c.args.list.now c.iter.ensures.rest)
+    (λ x q k. search (rules, tests)) (λ x k l e.
+    let h = c.requires.1 x.now (listed_at _ k l e) in
+    let ok = c.requires.0 in
+    search rules)
 
 pub returns : goal.returns
-returns c = read_ends c.loop-i.invariant (omega arith)
+returns c = any_listed _ (emptied_at c.args.plan.now c.args.standing.now c.args.marks.now) c.iter.ensures.rest c.any.ensures.ran
+    (λ x b q k. search (rules, tests))

@@ -61,8 +61,8 @@ returns c =
     let e : c.loop-c.c ≡ node_count c.args.plan.now = omega arith in
     (stood_all _ c.requires.0 _ (rw e at c.loop-c.invariant.1.1.0), partly_all _ _ (rw e at c.loop-c.invariant.1.1.1))
 
-pub nodes-n-requires : goal.nodes-n-requires
-nodes-n-requires c = (clean _ c.requires.0).fits.limits.long
+pub nodes-c-end-requires : goal.nodes-c-end-requires
+nodes-c-end-requires c = (clean _ c.requires.0).fits.limits.long
 
 pub parent-requires : goal.parent-requires
 parent-requires c = (omega arith, (clean _ c.requires.0).fits)
