@@ -34,8 +34,7 @@ fn groups_under(
         (segment_of from.now node).end }
 {
     let segment = children(from, node);
-    let mut i = segment.start;
-    while i < segment.end {
+    for i in segment.start..segment.end {
         let child = usize::from(kids[i]);
         let k = kind(plan, child);
         if k == ALL_OF {
@@ -43,7 +42,6 @@ fn groups_under(
         } else if k != TASK {
             any_length(plan, from, kids, lengths, waits, child);
         }
-        i += 1;
     }
 }
 
@@ -63,8 +61,7 @@ fn all_length(
         waits.new node }
 {
     groups_under(plan, from, kids, lengths, waits, node);
-    let longest = spread(plan, from, kids, lengths, waits, node);
-    lengths[node] = longest;
+    lengths[node] = spread(plan, from, kids, lengths, waits, node);
 }
 
 // Works out an any-of or optional group and all groups under it.
@@ -83,8 +80,7 @@ fn any_length(
         waits.new node }
 {
     groups_under(plan, from, kids, lengths, waits, node);
-    let longest = longest_child(plan, from, kids, lengths, node);
-    lengths[node] = longest;
+    lengths[node] = longest_child(plan, from, kids, lengths, node);
 }
 
 // The lengths of the tasks.
@@ -92,13 +88,10 @@ fn task_lengths(plan: &[u8], lengths: &mut Times, waits: &Times)
     requires { (refusal plan.now ≡ 0) × (length lengths.old ≡ NODES) × Zeros NODES waits.now }
     ensures { Tables plan.now lengths.new waits.now }
 {
-    let n = nodes(plan);
-    let mut t = 0;
-    while t < n {
+    for t in 0..nodes(plan) {
         if kind(plan, t) == TASK {
-            lengths[t] = minutes(plan, t) as u32;
+            lengths[t] = u32::from(minutes(plan, t));
         }
-        t += 1;
     }
 }
 
@@ -123,14 +116,9 @@ fn add_waits(plan: &[u8], waits: &mut Times)
     requires { (refusal plan.now ≡ 0) × WaitsWithin plan.now waits.old }
     ensures { Longest plan.now waits.new }
 {
-    let n = nodes(plan);
-    let mut c = 1;
-    while c < n {
+    for c in 1..nodes(plan) {
         let p = usize::from(parent(plan, c));
-        let above = waits[p];
-        let own = waits[c];
-        waits[c] = above + own;
-        c += 1;
+        waits[c] += waits[p];
     }
 }
 

@@ -4,7 +4,7 @@
 -- Assumes nothing.
 use Rattle.std.proofs.Common.{◌-◌, ◌+◌, ◌*◌}
 use Rattle.plan_format.specs.Format.{node_count}
-use Rattle.tables.specs.Segments.{Reached}
+use Rattle.tables.specs.Segments.{segment_of}
 use Rattle.wait_tree.specs.Filled.{LengthsTo}
 use Rattle.wait_tree.proofs.+all_length_any_length_groups_under.Given as goal
 
@@ -19,7 +19,4 @@ decreases-groups_under l = 2 * (node_count l.plan.now - l.node)
 
 abbrev pub invariant-groups_under-loop-i : goal.invariant-groups_under-loop-i
 invariant-groups_under-loop-i l =
-    Reached l.segment l.i × LengthsTo l.plan l.kids l.segment l.initial.lengths l.initial.waits l.lengths l.waits l.i
-
-abbrev pub decreases-groups_under-loop-i : goal.decreases-groups_under-loop-i
-decreases-groups_under-loop-i l = l.segment.end - l.i
+    LengthsTo l.plan l.kids (segment_of l.from l.node) l.initial.lengths l.initial.waits l.lengths l.waits l.i

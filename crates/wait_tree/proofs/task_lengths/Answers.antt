@@ -6,13 +6,11 @@ use native.Mathlib.Omega.{arith}
 use Rattle.wait_tree.proofs.task_lengths.Goals as goal
 use Rattle.wait_tree.proofs.task_lengths.Goals.{else-kind-eq-TASK, then-kind-eq-TASK}
 
-pub nodes-n-requires : goal.nodes-n-requires
-nodes-n-requires c = (clean _ c.requires.0).fits.limits.long
+pub nodes-t-end-requires : goal.nodes-t-end-requires
+nodes-t-end-requires c = (clean _ c.requires.0).fits.limits.long
 
 pub loop-t-init : goal.loop-t-init
-loop-t-init c =
-    let ok = clean _ c.requires.0 in
-    ((c.nodes-n.ensures, omega (arith, ok.fits.limits.nodes, c.nodes-n.ensures)), tasks_none c.requires.1)
+loop-t-init c = tasks_none c.requires.1
 
 pub kind-requires : goal.kind-requires
 kind-requires c = (omega arith, (clean _ c.requires.0).fits)
@@ -20,18 +18,21 @@ kind-requires c = (omega arith, (clean _ c.requires.0).fits)
 pub minutes-requires : goal.minutes-requires
 minutes-requires c = (omega arith, (clean _ c.requires.0).fits)
 
+pub offset_bounds-lengths-t : goal.offset_bounds-lengths-t
+offset_bounds-lengths-t c = omega (arith, (clean _ c.requires.0).fits.limits.nodes, c.nodes-t-end.ensures)
+
+pub bounds-lengths-t : goal.bounds-lengths-t
+bounds-lengths-t c = omega (arith, (clean _ c.requires.0).fits.limits.nodes, c.nodes-t-end.ensures)
+
 pub loop-t-preserved : goal.loop-t-preserved
 loop-t-preserved c =
-    let ok = clean _ c.requires.0 in (
-      c.loop-t.invariant.0,
-      elim c.if-kind-eq-TASK.branch [
-        | then-kind-eq-TASK w ↦ tasks_more ok (omega arith) (sym c.kind.ensures ∙ w.if-kind-eq-TASK.true)
-            w.minutes.ensures w.lengths-is c.loop-t.invariant.1
-        | else-kind-eq-TASK w ↦ tasks_skip (λ z. w.if-kind-eq-TASK.false (c.kind.ensures ∙ z)) w.lengths-is
-            c.loop-t.invariant.1
-      ],
-    )
+    let ok = clean _ c.requires.0 in
+    elim c.if-kind-eq-TASK.branch [
+      | then-kind-eq-TASK w ↦ tasks_more ok (omega arith) (sym c.kind.ensures ∙ w.if-kind-eq-TASK.true)
+          (w.from.ensures ∙ w.minutes.ensures) w.lengths-is c.loop-t.invariant
+      | else-kind-eq-TASK w ↦ tasks_skip (λ z. w.if-kind-eq-TASK.false (c.kind.ensures ∙ z)) w.lengths-is
+          c.loop-t.invariant
+    ]
 
 pub returns : goal.returns
-returns c =
-    tasks_all (clean _ c.requires.0) (omega arith) c.requires.2 c.loop-t.invariant.1
+returns c = tasks_all (clean _ c.requires.0) (omega arith) c.requires.2 c.loop-t.invariant
