@@ -9,7 +9,7 @@ use lib.Dec.{T}
 use lib.ListN.{get_or}
 use Rattle.base.specs.Bits.{bit}
 use Rattle.base.specs.Words.{Says}
-use Rattle.base.proofs.Says.{says_map, says_self, says_none, no_flag}
+use Rattle.base.proofs.Says.{says_map, says_none, no_flag}
 use Rattle.runs.specs.Plan.{Plan, Child}
 use Rattle.tables.specs.declared.Segment.{Segment}
 use Rattle.tables.specs.Segments.{Position, AtSegment}
@@ -32,13 +32,7 @@ part_of s a b c = record {
 
 -- the given flags for which every child in a part has Q
 module _ {kids : List ℕ} {flags low : ℕ} {Q : ℕ → ℕ → Type 0} where
-  -- at the beginning, one child more, no flag left
-  pub part_none : PartWord kids low low flags Q flags
-  part_none = record {
-    says = λ f l. says_map (λ t. (t, record { each = λ i a b. absurd (omega arith) }), λ x. x.0)
-        (says_self flags f);
-  }
-
+  -- one child more, no flag left
   pub part_more : {i w r : ℕ} {C : Type 0} {A : ℕ → Type 0} → low ≤ i → Narrows w r C A
       → ((f : ℕ) → f < 64 → (C → A f) ↔ Q f (get_or kids i 0))
       → PartWord kids low i flags Q w → PartWord kids low (i + 1) flags Q r

@@ -49,10 +49,7 @@ fn stands_between(order: &Orders, b: usize, c: usize, d: usize) -> bool
     requires { (b < NODES) × ((c < NODES) × (d < NODES)) }
     ensures { T result ↔ StandsBetween order.now b c d }
 {
-    if order[d * NODES + b] == BEFORE {
-        return order[b * NODES + c] == BEFORE;
-    }
-    false
+    order[d * NODES + b] == BEFORE && order[b * NODES + c] == BEFORE
 }
 
 // b is neither c nor d, and stands neither before d nor after c.
@@ -60,16 +57,7 @@ fn disturbs(order: &Orders, b: usize, c: usize, d: usize) -> bool
     requires { (b < NODES) × ((c < NODES) × (d < NODES)) }
     ensures { T result ↔ Disturbs order.now b c d }
 {
-    if b == c {
-        return false;
-    }
-    if b == d {
-        return false;
-    }
-    if order[b * NODES + d] == BEFORE {
-        return false;
-    }
-    order[b * NODES + c] != AFTER
+    b != c && b != d && order[b * NODES + d] != BEFORE && order[b * NODES + c] != AFTER
 }
 
 // The child b is one of those that the flags have to pass.
@@ -78,9 +66,10 @@ fn in_the_way(order: &Orders, always: bool, b: usize, passage: Passage) -> bool
     ensures { T result ↔ InTheWay order.now always b passage.to passage.from }
 {
     if always {
-        return disturbs(order, b, passage.to, passage.from);
+        disturbs(order, b, passage.to, passage.from)
+    } else {
+        stands_between(order, b, passage.to, passage.from)
     }
-    stands_between(order, b, passage.to, passage.from)
 }
 
 // The flags that the child b lets pass.
@@ -89,9 +78,10 @@ fn lets_pass(rows: &Rows, always: bool, b: usize) -> u64
     ensures { (f : ℕ) → f < 64 → T (bit result f) ↔ LetsPass rows.now always b f }
 {
     if always {
-        return neither(rows, b, ASSERTS, ASSERTS + 1);
+        neither(rows, b, ASSERTS, ASSERTS + 1)
+    } else {
+        word_at(rows, b, AVOID)
     }
-    word_at(rows, b, AVOID)
 }
 
 // Of the given flags, those that pass every child in the segment; it ends as soon as none is left.
@@ -109,10 +99,9 @@ fn passing_part(
         rows.now always flags passage.to passage.from result }
 {
     let mut left = flags;
-    let mut i = segment.start;
-    while i < segment.end {
+    for i in segment.start..segment.end {
         if left == 0 {
-            return 0;
+            break;
         }
         let b = usize::from(kids[i]);
         left = narrowed(
@@ -120,7 +109,6 @@ fn passing_part(
             in_the_way(order, always, b, passage),
             lets_pass(rows, always, b),
         );
-        i += 1;
     }
     left
 }
@@ -146,11 +134,11 @@ pub fn passing(
     };
     let later = Segment {
         start: j + 1,
-        end: segment.end,
+        ..segment
     };
     let earlier = Segment {
-        start: segment.start,
         end: j + 1,
+        ..segment
     };
     let always = given.always;
     let left = passing_part(kids, later, order, rows, always, given.flags, passage);

@@ -4,6 +4,3 @@ use Rattle.marks_between.proofs.lets_pass.Goals as goal
 
 pub returns-then-always : goal.returns-then-always
 returns-then-always c = λ f l. rw (c.if-always.true, c.neither.ensures) (neither _ _ f l)
-
-pub returns : goal.returns
-returns c = λ f l. rw (c.if-always.false, c.word_at.ensures) (λ t. t, λ t. t)
