@@ -6,6 +6,11 @@ use mathlib.Core.Bool.{Bool}
 use mathlib.Core.List.{List, []}
 use Prim.Native.Nat.{ℕ, suc, ◌^◌, ◌<◌, ◌≤◌}
 use native.Mathlib.Omega.{arith}
+use Rattle.std.specs.declared.result.Result.{Result}
+use Rattle.std.specs.declared.result.Result.TheVariants.{Ok, Err}
+use Rattle.answers.specs.declared.Refusal.{Refusal}
+use Rattle.answers.specs.Refusals.{number}
+use Rattle.answers.proofs.Refusals.{some_number}
 use Rattle.base.specs.Words.{Says}
 use Rattle.base.proofs.Words.{no_bits}
 use Rattle.base.proofs.Says.{no_flag}
@@ -36,8 +41,6 @@ use Rattle.runs.proofs.Calls.Demand3.{demand3}
 use Rattle.marks_words.specs.Words.{MarkWords, StartWord, FailsWord}
 use Rattle.table_marks.specs.Marks.{LeftWords}
 use Rattle.verdict.specs.declared.Verdict.{Verdict}
-use Rattle.verdict.specs.declared.Answer.{Answer}
-use Rattle.verdict.specs.declared.Answer.TheVariants.{Refused, Judged as Given}
 use Rattle.verdict.specs.Verdict.{word_of, said, answer_of, Assessed}
 use Rattle.verdict.specs.Inner.{OfWords, OfStanding}
 
@@ -118,44 +121,47 @@ word_in other (inr v) = v
 
 module _ (b xs : List ℕ) where
   -- 28 and 29
-  numbers : (a : Answer) → said a ≡ answer_of b xs → (k : ℕ) → refusal b ≡ 0
+  numbers : (a : Result Verdict Refusal) → said a ≡ answer_of b xs → (k : ℕ) → refusal b ≡ 0
       → (said a ≡ inl (suc k)) ↔ (blocked_refusal (plan_of b) xs ≡ suc k)
   unfolding answer_of refusal_under
   numbers a e k ok = let z = first_none (refusal b) (blocked_refusal (plan_of b) xs) ok in
       Iff.trans (Iff.trans (λ q. sym e ∙ q, λ q. e ∙ q) (answer_tells _ k _)) (λ q. z ∙ q, λ q. sym z ∙ q)
 
-  pub assessed_refused : {r : ℕ} → r ≡ refusal_under b xs → (r ≡ 0 → ⊥) → Assessed b xs (Refused r)
+  pub assessed_refused : {r : Refusal} → number r ≡ refusal_under b xs → Assessed b xs (Err r)
   unfolding answer_of
-  assessed_refused {r} e n = record {
+  assessed_refused {r} e = record {
     returns = q;
-    refused_28 = λ ok. Iff.trans (numbers (Refused r) q 27 ok) (refusal_28 (plan_of b) (means_well_formed b ok) xs);
-    refused_29 = λ ok. Iff.trans (numbers (Refused r) q 28 ok) (refusal_29 (plan_of b) (means_well_formed b ok) xs);
-    judged = λ z. absurd (n (e ∙ z));
-    clear = λ z. absurd (n (e ∙ z));
-    doomed = λ z. absurd (n (e ∙ z));
+    refused_28 = λ ok. Iff.trans (numbers (Err r) q 27 ok) (refusal_28 (plan_of b) (means_well_formed b ok) xs);
+    refused_29 = λ ok. Iff.trans (numbers (Err r) q 28 ok) (refusal_29 (plan_of b) (means_well_formed b ok) xs);
+    judged = λ z. absurd (some z);
+    clear = λ z. absurd (some z);
+    doomed = λ z. absurd (some z);
   }
     where
-      q : said (Refused r) ≡ answer_of b xs
-      q = ap inl e ∙ answer_some (refusal_under b xs) _ (λ z. n (e ∙ z))
+      some : refusal_under b xs ≡ 0 → ⊥
+      some z = some_number r (e ∙ z)
+
+      q : said (Err r) ≡ answer_of b xs
+      q = ap inl e ∙ answer_some (refusal_under b xs) _ some
 
   pub assessed : (v : Verdict) → refusal_under b xs ≡ 0 → word_of v ≡ verdict (plan_under b xs) (start_of b)
-      → Assessed b xs (Given v)
+      → Assessed b xs (Ok v)
   unfolding answer_of
   assessed v z e = record {
     returns = q;
-    refused_28 = λ ok. Iff.trans (numbers (Given v) q 27 ok) (refusal_28 (plan_of b) (means_well_formed b ok) xs);
-    refused_29 = λ ok. Iff.trans (numbers (Given v) q 28 ok) (refusal_29 (plan_of b) (means_well_formed b ok) xs);
+    refused_28 = λ ok. Iff.trans (numbers (Ok v) q 27 ok) (refusal_28 (plan_of b) (means_well_formed b ok) xs);
+    refused_29 = λ ok. Iff.trans (numbers (Ok v) q 28 ok) (refusal_29 (plan_of b) (means_well_formed b ok) xs);
     judged = λ z. is;
     clear = λ z. Iff.trans (is CLEAR) d.clear;
     doomed = λ z q. d.doomed ((is DOOMED).0 q);
   }
     where
-      q : said (Given v) ≡ answer_of b xs
+      q : said (Ok v) ≡ answer_of b xs
       q = ap inr e ∙ answer_none (refusal_under b xs) _ z
 
       d : Demand3On (plan_of b) (listed xs) (start_of b)
       d = demand3 (plan_of b) (means_well_formed b (plan_accepted b xs z)) (listed xs) (blocks b xs z) (start_of b)
 
-      is : (u : verdicts.Verdict) → (said (Given v) ≡ inr u) ↔ Judged (plan_under b xs) (start_of b) u
+      is : (u : verdicts.Verdict) → (said (Ok v) ≡ inr u) ↔ Judged (plan_under b xs) (start_of b) u
       is u = Iff.trans (λ q. sym e ∙ ap (word_in u) q, λ q. ap inr (e ∙ q))
           (verdict_exact (plan_under b xs) (under_well_formed b xs z) (start_of b) u)

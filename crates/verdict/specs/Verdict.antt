@@ -1,6 +1,10 @@
 -- The answer for a plan (01: book) with a list of blocked nodes (02: struck): a refusal or a verdict. Definitions only.
 use Rattle.std.specs.Prelude.{◌≡◌, ◌⊎◌, ◌↔◌, List, ℕ}
 use Rattle.std.proofs.Common.{inl, inr}
+use Rattle.std.specs.declared.result.Result.{Result}
+use Rattle.std.specs.declared.result.Result.TheVariants.{Ok, Err}
+use Rattle.answers.specs.declared.Refusal.{Refusal}
+use Rattle.answers.specs.Refusals.{number}
 use Rattle.base.specs.Answers.{refused_or}
 use Rattle.plan_rules.specs.Rules.{refusal}
 use Rattle.plan_check.specs.Meaning.{plan_of, start_of}
@@ -13,8 +17,6 @@ use Rattle.runs.specs.Violations.{NeverViolates, NeverCompletes}
 use Rattle.runs.specs.Model.Verdicts.{verdict}
 use Rattle.verdict.specs.declared.Verdict.{Verdict}
 use Rattle.verdict.specs.declared.Verdict.TheVariants.{Clear, Doomed, Open}
-use Rattle.verdict.specs.declared.Answer.{Answer}
-use Rattle.verdict.specs.declared.Answer.TheVariants as answers
 
 -- 01's word for each case
 abbrev pub word_of : Verdict → verdicts.Verdict
@@ -23,14 +25,14 @@ word_of Doomed = DOOMED
 word_of Open = OPEN
 
 -- 01's number or word for each case
-abbrev pub said : Answer → ℕ ⊎ verdicts.Verdict
-said (answers.Refused n) = inl n
-said (answers.Judged v) = inr (word_of v)
+abbrev pub said : Result Verdict Refusal → ℕ ⊎ verdicts.Verdict
+said (Err e) = inl (number e)
+said (Ok v) = inr (word_of v)
 
 unfoldable pub answer_of : List ℕ → List ℕ → ℕ ⊎ verdicts.Verdict
 answer_of b xs = refused_or (refusal_under b xs) (verdict (plan_under b xs) (start_of b))
 
-pub record Assessed (b xs : List ℕ) (a : Answer) : Type 0 where
+pub record Assessed (b xs : List ℕ) (a : Result Verdict Refusal) : Type 0 where
   pub returns : said a ≡ answer_of b xs
   -- of an accepted plan: 28 and 29 in 02's words
   pub refused_28 : refusal b ≡ 0 → (said a ≡ inl 28) ↔ Refused28 (plan_of b) xs

@@ -8,25 +8,19 @@ ghost use Rattle.marks_words.specs.Words.{StartWord};
 ghost use Rattle.verdict.specs.Verdict.{Assessed};
 ghost use Rattle.verdict.specs.Inner.{OfWords, OfStanding};
 
+use answers::Refusal;
 use marks_words::marks::{MAY_CLOBBER, MAY_PRE, MUST_CLOBBER, MUST_PRE};
 use marks_words::{Marks, failing};
-use node_sets::all_nodes;
 use plan_blocked::check_blocked;
 use plan_format::fields::{flags, start_flag};
 use table_marks::node_marks;
 use tables::Nodes;
 
-#[derive(Drop)]
+#[derive(Clone, Copy, Debug, PartialEq, Eq)]
 pub enum Verdict {
     Clear,
     Doomed,
     Open,
-}
-
-#[derive(Drop)]
-pub enum Answer {
-    Refused(u32),
-    Judged(Verdict),
 }
 
 // The flags that are set at the start, as a word.
@@ -34,14 +28,11 @@ pub fn start_word(plan: &[u8]) -> u64
     requires { refusal plan.now ≡ 0 }
     ensures { StartWord (start_of plan.now) result }
 {
-    let n = flags(plan);
-    let mut word = 0u64;
-    let mut f = 0;
-    while f < n {
+    let mut word = 0;
+    for f in 0..flags(plan) {
         if start_flag(plan, f) {
-            word = word | (1u64 << f);
+            word |= 1u64 << f;
         }
-        f += 1;
     }
     word
 }
@@ -69,14 +60,11 @@ fn judge(plan: &[u8], standing: &Nodes) -> Verdict
     of_words(&words, start)
 }
 
-// A refusal, 1 to 14, 28 or 29, or the verdict on what is left of the plan without the blocked nodes.
-pub fn assess(plan: &[u8], blocked: &[usize]) -> Answer
+// Refuses plan or list (1 to 14, 28, 29), or answers with the verdict on what is left of the plan without the blocked
+// nodes.
+pub fn assess(plan: &[u8], blocked: &[usize]) -> Result<Verdict, Refusal>
     ensures { Assessed plan.now blocked.now result }
 {
-    let mut standing = all_nodes();
-    let r = check_blocked(plan, blocked, &mut standing);
-    if r != 0 {
-        return Answer::Refused(r);
-    }
-    Answer::Judged(judge(plan, &standing))
+    let standing = check_blocked(plan, blocked)?;
+    Ok(judge(plan, &standing))
 }

@@ -10,41 +10,34 @@ use Rattle.verdict.proofs.Start.{start_none, start_set, start_clear, start_all}
 use Rattle.verdict.proofs.start_word.Goals as goal
 use Rattle.verdict.proofs.start_word.Goals.{else-start_flag, then-start_flag}
 
-pub flags-n-requires : goal.flags-n-requires
-flags-n-requires c = (clean _ c.requires).fits.limits.long
+pub flags-f-end-requires : goal.flags-f-end-requires
+flags-f-end-requires c = (clean _ c.requires).fits.limits.long
 
 pub loop-f-init : goal.loop-f-init
-loop-f-init c = (omega arith, λ g l. start_none _ g)
+loop-f-init c g l = start_none _ g
 
 pub start_flag-requires : goal.start_flag-requires
 start_flag-requires c =
     let w = (clean _ c.requires).fits.limits in
-    (omega (arith, c.flags-n.ensures, w.flags), w.long)
+    (omega (arith, c.flags-f-end.ensures, w.flags), w.long)
 
 pub overflow_shl-word : goal.overflow_shl-word
 overflow_shl-word c =
-    omega (arith, c.flags-n.ensures, (clean _ c.requires).fits.limits.flags)
-
-pub overflow_add-f : goal.overflow_add-f
-overflow_add-f c =
-    omega (arith, c.flags-n.ensures, (clean _ c.requires).fits.limits.flags)
-
-pub returns : goal.returns
-returns c =
-    let e : c.loop-f.f ≡ flag_count c.args.plan.now =
-    omega (arith, c.flags-n.ensures) in
-    start_all _ (rw e at c.loop-f.invariant.1)
+    omega (arith, c.flags-f-end.ensures, (clean _ c.requires).fits.limits.flags)
 
 pub loop-f-preserved : goal.loop-f-preserved
 loop-f-preserved c =
     let s = c.start_flag.ensures in
     let n = (clean _ c.requires).fits.limits.flags in
-    let f = c.loop-f.f in (
-      omega arith,
-      elim c.if-start_flag.branch [
-        | then-start_flag w ↦ start_set _ f c.loop-f.invariant.1
-            (w.word-is ∙ ap (λ (x : ℕ). bit_or c.loop-f.word x) (one_shl f (omega (arith, c.flags-n.ensures, n))))
-            (sym s ∙ w.if-start_flag.true)
-        | else-start_flag w ↦ rw w.word-is (start_clear _ f c.loop-f.invariant.1 (sym s ∙ w.if-start_flag.false))
-      ],
-    )
+    let f = c.loop-f.f in
+    elim c.if-start_flag.branch [
+      | then-start_flag w ↦ start_set _ f c.loop-f.invariant
+          (w.word-is ∙ ap (λ (x : ℕ). bit_or c.loop-f.word x) (one_shl f (omega (arith, c.flags-f-end.ensures, n))))
+          (sym s ∙ w.if-start_flag.true)
+      | else-start_flag w ↦ rw w.word-is (start_clear _ f c.loop-f.invariant (sym s ∙ w.if-start_flag.false))
+    ]
+
+pub returns : goal.returns
+returns c =
+    let e : c.loop-f.f ≡ flag_count c.args.plan.now = omega (arith, c.flags-f-end.ensures) in
+    start_all _ (rw e at c.loop-f.invariant)
