@@ -34,9 +34,6 @@ drew_more {seed} {draws} {state} {state'} {n} l e d =
           (λ z. get_or-set_other draws n m (state' / 65536) 0 z ∙ d.at m (omega arith));
     }
 
-pub drew_all : {seed : ℕ} {draws : List ℕ} {state n : ℕ} → DRAWS ≤ n → DrewTo seed draws state n → Drew seed draws
-drew_all l d = record { at = λ m h. d.at m (omega arith) }
-
 -- a draw that is read from the table, below k
 pub drawn_at : {seed : ℕ} {draws : List ℕ} → Drew seed draws → (n k : ℕ) → n < DRAWS
     → get_or draws n 0 % k ≡ draw seed n k

@@ -15,7 +15,6 @@ use Rattle.plan_draws.proofs.Fields.{drawn_at}
 -- of the first i groups those that come before the next are found
 pub record FoundTo (r : Recipe) (ordered : List ℕ) (found i : ℕ) : Type 0 where
   pub long : length ordered ≡ GROUPS
-  pub below : i + 1 ≤ r.groups
   pub few : found ≤ i
   pub number : found ≡ count_below i (comes_before r)
   pub at : (m : ℕ) → m < found → get_or ordered m 0 ≡ pick (comes_before r) i m
@@ -26,7 +25,6 @@ module _ (r : Recipe) (ok : Allowed r) where
   found_none ordered e =
       record {
         long = e;
-        below = omega (arith, ok.some_group);
         few = omega arith;
         number = omega arith;
         at = λ m l. absurd (omega arith);
@@ -40,7 +38,6 @@ module _ (r : Recipe) (ok : Allowed r) where
       found_one e x y =
           record {
             long = rw x (length-set ordered found i ∙ o.long);
-            below = omega arith;
             few = omega (arith, o.few);
             number = omega (arith, count_more i (comes_before r), o.number, ap num e);
             at = λ m h. rw (x, add-one i)
@@ -58,22 +55,19 @@ module _ (r : Recipe) (ok : Allowed r) where
           → FoundTo r ordered' found' (i + 1)
       found_same e x y = record {
         long = rw x o.long;
-        below = omega arith;
         few = omega (arith, o.few);
         number = omega (arith, count_more i (comes_before r), o.number, ap num e);
         at = λ m h. rw x (o.at m (omega arith)
             ∙ sym (pick_stays (comes_before r) i (i + 1) m (omega arith) (omega (arith, o.number))));
       }
 
-  pub found_all : {ordered : List ℕ} {found i : ℕ} → r.groups ≤ i + 1 → FoundTo r ordered found i
+  pub found_all : {ordered : List ℕ} {found i : ℕ} → i ≡ r.groups - 1 → FoundTo r ordered found i
       → OrdersFound r found ordered
   unfolding order_number ordered_group
-  found_all {i = i} l o = let e : i ≡ r.groups - 1 = omega (arith, o.below) in
-      record {
-        number = o.number ∙ ap (λ (n : ℕ). count_below n (comes_before r)) e;
-        at = λ m h. o.at m h
-            ∙ ap (λ (n : ℕ). pick (comes_before r) n m) e;
-      }
+  found_all e o = record {
+    number = o.number ∙ ap (λ (n : ℕ). count_below n (comes_before r)) e;
+    at = λ m h. o.at m h ∙ ap (λ (n : ℕ). pick (comes_before r) n m) e;
+  }
 
   -- the test of the code is the draw of group i
   module _ (draws : List ℕ) (d : Drew r.seed draws) (i : ℕ) (l : i + 1 < r.groups) where

@@ -36,11 +36,9 @@ pub fn draw_all(seed: u32, draws: &mut DrawTable)
     ensures { Drew seed draws.new }
 {
     let mut state = seed;
-    let mut n = 0;
-    while n < DRAWS {
-        state = std::num::wrapping_add_u32(state, 2654435769);
-        draws[n] = (state / 65536) as u16;
-        n += 1;
+    for draw in draws.iter_mut() {
+        state = state.wrapping_add(2654435769);
+        *draw = (state >> 16) as u16;
     }
 }
 
@@ -51,13 +49,11 @@ pub fn find_orders(recipe: Recipe, draws: &DrawTable, ordered: &mut OrderTable) 
 {
     let first = recipe.groups + 4 * recipe.tasks;
     let mut found = 0;
-    let mut i = 0;
-    while i + 1 < recipe.groups {
+    for i in 0..recipe.groups - 1 {
         if draws[first + i] % 2 == 1 {
             ordered[found] = i as u8;
             found += 1;
         }
-        i += 1;
     }
     found
 }

@@ -7,9 +7,6 @@ use Rattle.plan_draws.proofs.find_orders.Goals.{else-draws-first-eq1, then-draws
 pub loop-i-init : goal.loop-i-init
 loop-i-init c = found_none _ c.requires.0 _ c.requires.2
 
-pub overflow_add-i : goal.overflow_add-i
-overflow_add-i c = omega (arith, c.loop-i.invariant.below)
-
 pub loop-i-preserved : goal.loop-i-preserved
 loop-i-preserved c =
     let ok = c.requires.0 in

@@ -1,10 +1,6 @@
 -- `find_orders` meets its contract: of the groups before i those that come before the next are found. Assumes nothing.
-use Rattle.std.proofs.Common.{◌-◌}
 use Rattle.plan_draws.proofs.Orders.{FoundTo}
 use Rattle.plan_draws.proofs.find_orders.Given as goal
 
 abbrev pub invariant-loop-i : goal.invariant-loop-i
-invariant-loop-i l = FoundTo l.recipe l.ordered l.found l.i
-
-abbrev pub decreases-loop-i : goal.decreases-loop-i
-decreases-loop-i l = l.recipe.groups - l.i
+invariant-loop-i l = FoundTo l.fn.recipe l.ordered l.found l.i

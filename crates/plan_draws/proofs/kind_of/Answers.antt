@@ -5,12 +5,10 @@ use Rattle.plan_draws.proofs.kind_of.Goals as goal
 
 pub returns-then-node-recipe : goal.returns-then-node-recipe
 returns-then-node-recipe c =
-    let s = c in
-    let n = s.args.node in
     omega (
       arith,
-      kind_read s.args.recipe s.requires.0 s.args.draws.now s.requires.1 n (omega arith) (omega arith),
-      kind_drawn_lem s.args.recipe n (omega arith) (omega arith),
+      kind_read _ c.requires.0 _ c.requires.1 c.args.node (omega arith) (omega arith),
+      kind_drawn_lem c.args.recipe c.args.node (omega arith) (omega arith),
     )
 
 pub returns-then-node-eq0 : goal.returns-then-node-eq0
