@@ -14,7 +14,7 @@ use plan_rules_each::{
     some_bad_char, some_bad_condition, some_bad_entry, some_bad_order, some_bad_parent,
     some_bad_start, some_conditions_fall, some_orders_fall,
 };
-use plan_rules_later::{Pass, refuses};
+use plan_rules_later::{both_signs, childless, no_postcondition};
 
 fn sizes_bad(plan: &[u8]) -> bool
     requires { 16 ≤ length plan.now }
@@ -57,10 +57,10 @@ fn check_conditions(plan: &[u8]) -> Result<(), Refusal>
     if some_conditions_fall(plan) {
         return Err(Refusal::ConditionsFall);
     }
-    if refuses(plan, Pass::Signs) {
+    if both_signs(plan) {
         return Err(Refusal::BothSigns);
     }
-    if refuses(plan, Pass::Posts) {
+    if no_postcondition(plan) {
         return Err(Refusal::NoPostcondition);
     }
     check_orders(plan)
@@ -82,7 +82,7 @@ fn check_nodes(plan: &[u8]) -> Result<(), Refusal>
     if some_bad_parent(plan) {
         return Err(Refusal::BadParent);
     }
-    if refuses(plan, Pass::Children) {
+    if childless(plan) {
         return Err(Refusal::Childless);
     }
     check_conditions(plan)

@@ -12,35 +12,35 @@ unfolding from_conditions
 returns-then-some_conditions_fall c =
     rw (sym c.some_bad_condition.ensures ∙ c.if-some_bad_condition.false, sym c.some_conditions_fall.ensures ∙ c.if-some_conditions_fall.true)
 
-pub refuses-requires : goal.refuses-requires
-refuses-requires c = (
+pub both_signs-requires : goal.both_signs-requires
+both_signs-requires c = (
   c.requires,
   (sym c.some_bad_condition.ensures ∙ c.if-some_bad_condition.false, sym c.some_conditions_fall.ensures ∙ c.if-some_conditions_fall.false),
 )
 
-pub returns-then-refuses : goal.returns-then-refuses
+pub returns-then-both_signs : goal.returns-then-both_signs
 unfolding from_conditions
-returns-then-refuses c =
+returns-then-both_signs c =
     rw (
       sym c.some_bad_condition.ensures ∙ c.if-some_bad_condition.false,
       sym c.some_conditions_fall.ensures ∙ c.if-some_conditions_fall.false,
-      sym c.refuses.ensures ∙ c.if-refuses.true,
+      sym c.both_signs.ensures ∙ c.if-both_signs.true,
     )
 
-pub refuses-requires-2 : goal.refuses-requires-2
-refuses-requires-2 c = (
+pub no_postcondition-requires : goal.no_postcondition-requires
+no_postcondition-requires c = (
   c.requires,
   (sym c.some_bad_condition.ensures ∙ c.if-some_bad_condition.false, sym c.some_conditions_fall.ensures ∙ c.if-some_conditions_fall.false),
 )
 
-pub returns-then-refuses-2 : goal.returns-then-refuses-2
+pub returns-then-no_postcondition : goal.returns-then-no_postcondition
 unfolding from_conditions
-returns-then-refuses-2 c =
+returns-then-no_postcondition c =
     rw (
       sym c.some_bad_condition.ensures ∙ c.if-some_bad_condition.false,
       sym c.some_conditions_fall.ensures ∙ c.if-some_conditions_fall.false,
-      sym c.refuses.ensures ∙ c.if-refuses.false,
-      sym c.refuses-2.ensures ∙ c.if-refuses-2.true,
+      sym c.both_signs.ensures ∙ c.if-both_signs.false,
+      sym c.no_postcondition.ensures ∙ c.if-no_postcondition.true,
     )
 
 pub returns : goal.returns
@@ -49,8 +49,8 @@ returns c =
     rw (
       sym c.some_bad_condition.ensures ∙ c.if-some_bad_condition.false,
       sym c.some_conditions_fall.ensures ∙ c.if-some_conditions_fall.false,
-      sym c.refuses.ensures ∙ c.if-refuses.false,
-      sym c.refuses-2.ensures ∙ c.if-refuses-2.false,
+      sym c.both_signs.ensures ∙ c.if-both_signs.false,
+      sym c.no_postcondition.ensures ∙ c.if-no_postcondition.false,
       c.check_orders.ensures,
     )
 

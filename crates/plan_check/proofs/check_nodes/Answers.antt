@@ -31,19 +31,19 @@ returns-then-some_bad_parent c =
       sym c.some_bad_parent.ensures ∙ c.if-some_bad_parent.true,
     )
 
-pub refuses-requires : goal.refuses-requires
-refuses-requires c =
+pub childless-requires : goal.childless-requires
+childless-requires c =
     (c.requires, sym c.some_bad_parent.ensures ∙ c.if-some_bad_parent.false)
 
-pub returns-then-refuses : goal.returns-then-refuses
+pub returns-then-childless : goal.returns-then-childless
 unfolding from_nodes
-returns-then-refuses c =
+returns-then-childless c =
     rw (
       sym c.some_bad_start.ensures ∙ c.if-some_bad_start.false,
       sym c.some_bad_char.ensures ∙ c.if-some_bad_char.false,
       sym c.some_bad_entry.ensures ∙ c.if-some_bad_entry.false,
       sym c.some_bad_parent.ensures ∙ c.if-some_bad_parent.false,
-      sym c.refuses.ensures ∙ c.if-refuses.true,
+      sym c.childless.ensures ∙ c.if-childless.true,
     )
 
 pub returns : goal.returns
@@ -54,7 +54,7 @@ returns c =
       sym c.some_bad_char.ensures ∙ c.if-some_bad_char.false,
       sym c.some_bad_entry.ensures ∙ c.if-some_bad_entry.false,
       sym c.some_bad_parent.ensures ∙ c.if-some_bad_parent.false,
-      sym c.refuses.ensures ∙ c.if-refuses.false,
+      sym c.childless.ensures ∙ c.if-childless.false,
       c.check_conditions.ensures,
     )
 
