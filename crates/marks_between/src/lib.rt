@@ -90,15 +90,14 @@ fn passing_part(
     segment: Segment,
     order: &Orders,
     rows: &Rows,
-    always: bool,
-    flags: u64,
+    given: ToPass,
     passage: Passage,
 ) -> u64
     requires { AtSegment kids.now segment × ((passage.to < NODES) × (passage.from < NODES)) }
     ensures { PassingPart kids.now segment.start segment.end order.now
-        rows.now always flags passage.to passage.from result }
+        rows.now given.always given.flags passage.to passage.from result }
 {
-    let mut left = flags;
+    let mut left = given.flags;
     for i in segment.start..segment.end {
         if left == 0 {
             break;
@@ -106,8 +105,8 @@ fn passing_part(
         let b = usize::from(kids[i]);
         left = narrowed(
             left,
-            in_the_way(order, always, b, passage),
-            lets_pass(rows, always, b),
+            in_the_way(order, given.always, b, passage),
+            lets_pass(rows, given.always, b),
         );
     }
     left
@@ -140,7 +139,7 @@ pub fn passing(
         end: j + 1,
         ..segment
     };
-    let always = given.always;
-    let left = passing_part(kids, later, order, rows, always, given.flags, passage);
-    passing_part(kids, earlier, order, rows, always, left, passage)
+    let flags = passing_part(kids, later, order, rows, given, passage);
+    let left = ToPass { flags, ..given };
+    passing_part(kids, earlier, order, rows, left, passage)
 }

@@ -4,8 +4,8 @@ use Rattle.marks_between.proofs.Passed.{part_of, parts, passing_says}
 use native.Mathlib.Omega.{arith}
 use Rattle.marks_between.proofs.passing.Goals as goal
 
-pub passing_part-left-requires : goal.passing_part-left-requires
-passing_part-left-requires c =
+pub passing_part-flags-requires : goal.passing_part-flags-requires
+passing_part-flags-requires c =
     let j = c.requires.other in (
       part_of c.requires.segment (omega (arith, j.low)) (omega (arith, j.high)) (omega arith),
       pair_small c.requires c.from.ensures,
@@ -23,4 +23,4 @@ returns c =
     let j = c.requires.other in
     let e = c.from.ensures in
     passing_says c.args.given.always (parts (omega (arith, j.low)) (omega (arith, j.high))
-    (rw e at c.passing_part-left.ensures) (rw e at c.passing_part.ensures))
+    (rw e at c.passing_part-flags.ensures) (rw e at c.passing_part.ensures))

@@ -3,5 +3,5 @@ use Rattle.marks_between.specs.Passing.{PassingPart}
 use Rattle.marks_between.proofs.passing_part.Given as goal
 
 abbrev pub invariant-loop-i : goal.invariant-loop-i
-invariant-loop-i l =
-    PassingPart l.kids l.fn.segment.start l.i l.order l.rows l.always l.fn.flags l.passage.to l.passage.from l.left
+invariant-loop-i l = PassingPart l.kids l.fn.segment.start l.i l.order l.rows
+    l.fn.given.always l.fn.given.flags l.passage.to l.passage.from l.left
