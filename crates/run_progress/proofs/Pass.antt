@@ -1,7 +1,7 @@
 -- The table of counts, turn by turn. Assumes nothing.
-use mathlib.Core.Path.{◌≡◌, sym, ◌∙◌}
+use mathlib.Core.Path.{◌≡◌, refl, sym, ◌∙◌}
 use mathlib.Core.Logic.{by_cases}
-use mathlib.Core.Bool.{Bool, true, false, not, ◌&&◌, true≢false}
+use mathlib.Core.Bool.{Bool, true, false, not, ◌&&◌, beq, true≢false}
 use mathlib.Core.List.{List}
 use Prim.Native.Nat.{ℕ, ◌+◌, ◌-◌, ◌<◌, ◌≤◌}
 use native.Mathlib.Decide.{ℕ_discrete}
@@ -16,7 +16,6 @@ use Rattle.plan_check.specs.Meaning.{plan_of}
 use Rattle.plan_check.proofs.Nodes.{child_test, is_node}
 use Rattle.runs.specs.Tests.{same_b}
 use Rattle.runs.specs.Model.Monitor.{complete_b, begun_b}
-use Rattle.runs.proofs.Reflect.{not_not}
 use Rattle.run_state.specs.State.{status_in}
 use Rattle.run_state.specs.Inner.{state_refusal}
 use Rattle.run_state.proofs.Passed.{has_room}
@@ -103,17 +102,20 @@ module _ (k : Tally) (b s : List ℕ) (ok : state_refusal b s ≡ 0) where
           (λ x. true≢false (sym (and_both (is_child b g c) (counted_at k b s g c) x).1 ∙ y))))
           (λ z. other_parent h z))) e
 
+-- two tests that differ
+unequal : (x y : Bool) → not (beq x y) ≡ same_b x (not y)
+unfolding same_b
+unequal true true = refl
+unequal true false = refl
+unequal false true = refl
+unequal false false = refl
+
 -- the test of a counted child, by what is counted
 module _ (k : Tally) (b s : List ℕ) (g c : ℕ) where
   pub at_begun : k ≡ Begun → begun_b (plan_of b) (status_in b s) c ≡ counted_at k b s g c
   unfolding counted_at
   at_begun e = rw e
 
-  pub at_ends_all : k ≡ Ends → is_kind b g 1 ≡ true
-      → not (complete_b (plan_of b) (status_in b s) c) ≡ counted_at k b s g c
-  unfolding counted_at same_b
-  at_ends_all e q = rw (e, q)
-
-  pub at_ends_any : k ≡ Ends → is_kind b g 1 ≡ false → complete_b (plan_of b) (status_in b s) c ≡ counted_at k b s g c
-  unfolding counted_at same_b
-  at_ends_any e q = rw (e, q, not_not (complete_b (plan_of b) (status_in b s) c))
+  pub at_ends : k ≡ Ends → not (beq (is_kind b g 1) (complete_b (plan_of b) (status_in b s) c)) ≡ counted_at k b s g c
+  unfolding counted_at
+  at_ends e = rw e (unequal (is_kind b g 1) (complete_b (plan_of b) (status_in b s) c))

@@ -33,9 +33,10 @@ pub fn is_complete(plan: &[u8], state: &[u8], ends: &Nodes, n: usize) -> bool
         (status_in plan.now state.now) n }
 {
     if is_kind(plan, n, ALL_OF) {
-        return ends[n] == 0;
+        ends[n] == 0
+    } else {
+        ends[n] != 0 || state[8 + n] == DONE
     }
-    (ends[n] != 0) | (state[8 + n] == DONE)
 }
 
 pub fn is_begun(plan: &[u8], state: &[u8], begun: &Nodes, n: usize) -> bool
@@ -44,7 +45,7 @@ pub fn is_begun(plan: &[u8], state: &[u8], begun: &Nodes, n: usize) -> bool
         × (get_or begun.now n 0 ≡ children_counted Tally.Begun plan.now state.now n)) }
     ensures { result ≡ begun_b (plan_of plan.now) (status_in plan.now state.now) n }
 {
-    (state[8 + n] != WAITING) | (begun[n] != 0)
+    state[8 + n] != WAITING || begun[n] != 0
 }
 
 // A node and its parent.
@@ -63,14 +64,8 @@ fn is_counted(plan: &[u8], state: &[u8], tally: Tally, table: &Nodes, link: Link
 {
     match tally {
         Tally::Begun => is_begun(plan, state, table, link.node),
-        Tally::Ends => {
-            let complete = is_complete(plan, state, table, link.node);
-            if is_kind(plan, link.parent, ALL_OF) {
-                !complete
-            } else {
-                complete
-            }
-        }
+        Tally::Ends => is_kind(plan, link.parent, ALL_OF)
+            != is_complete(plan, state, table, link.node),
     }
 }
 
@@ -79,17 +74,13 @@ pub fn children(plan: &[u8], state: &[u8], tally: Tally) -> Nodes
     requires { state_refusal plan.now state.now ≡ 0 }
     ensures { (length result ≡ NODES) × Counted tally plan.now state.now result }
 {
-    let n = nodes(plan);
     let mut table = no_nodes();
-    let mut m = 0;
-    while m + 1 < n {
-        let c = n - 1 - m;
+    for c in (1..nodes(plan)).rev() {
         let g = usize::from(parent(plan, c));
         let link = Link { parent: g, node: c };
         if is_counted(plan, state, tally, &table, link) {
             table[g] += 1;
         }
-        m += 1;
     }
     table
 }

@@ -1,10 +1,8 @@
 -- `run_progress::children` meets its contract. Assumes nothing.
-use Prim.Native.Nat.{◌+◌, ◌-◌, ◌≤◌}
+use Prim.Native.Nat.{◌-◌, ◌≤◌}
+use Rattle.plan_format.specs.Format.{node_count}
 use Rattle.run_progress.proofs.Pass.{Holds}
 use Rattle.run_progress.proofs.children.Given as goal
 
-abbrev pub invariant-loop-m : goal.invariant-loop-m
-invariant-loop-m l = (l.m + 1 ≤ l.n) × Holds l.tally l.plan l.state l.m l.table
-
-abbrev pub decreases-loop-m : goal.decreases-loop-m
-decreases-loop-m l = l.n - l.m
+abbrev pub invariant-loop-c : goal.invariant-loop-c
+invariant-loop-c l = (1 ≤ l.c) × Holds l.tally l.plan l.state (node_count l.plan - l.c) l.table
