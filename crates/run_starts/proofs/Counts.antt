@@ -21,7 +21,8 @@ filtered true n xs = omega arith
 filtered false n xs = omega arith
 
 -- the numbers below m, and the n from m on
-counted_from : (m n : ℕ) (q : ℕ → Bool) → count_below (m + n) q ≡ count_below m q + length (filter q (range_with_len m n))
+counted_from : (m n : ℕ) (q : ℕ → Bool)
+    → count_below (m + n) q ≡ count_below m q + length (filter q (range_with_len m n))
 counted_from m zero q = let e : m + 0 ≡ m = omega arith in rw e (omega arith)
 counted_from m (suc n) q =
     let e : m + suc n ≡ m + 1 + n = omega arith in

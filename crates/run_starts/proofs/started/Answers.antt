@@ -13,6 +13,7 @@ unfolding started_count
 returns c =
     let q = started_in c.args.plan.now c.args.state.now in
     count_from_yields_List c.filter.result c.count.result c.count.ensures.ran
-    (YieldsList-from_filter _ q (YieldsList-from_range 0 c.nodes.result c.nodes.result (search rules) (omega arith)) c.filter.ensures.closure
-    (λ x r p k. search (rules, tests)))
+    (YieldsList-from_filter _ q
+    (YieldsList-from_range 0 c.nodes.result c.nodes.result (search rules) (omega arith))
+    c.filter.ensures.closure (λ x r p k. search (rules, tests)))
     ∙ rw c.nodes.ensures (counted _ q)

@@ -1,25 +1,19 @@
 -- `run_tasks::not_running` meets its contract. Assumes nothing.
-use mathlib.Core.Path.{◌≡◌, ◌∙◌}
 use mathlib.Core.Bool.{not}
-use Prim.Native.Nat.{◌+◌, ◌<◌}
 use lib.Dec.{eqb}
-use lib.ListN.{length, get_or}
 use borrow.Author.Rules.{rules}
 use borrow.Author.Tests.{tests}
-use Rattle.std.proofs.lemmas.Grind.{get_or_default_zero}
 use Rattle.std.proofs.lemmas.Iterator.{YieldsList-from_slice}
 use Rattle.std.proofs.lemmas.Iterator.Adapters.{serves_from_places}
 use Rattle.run_starts.specs.Starts.{node_byte}
-use Rattle.node_sets.proofs.Lists.{among_at}
-use Rattle.searches.proofs.Any.{any_listed}
+use Rattle.searches.proofs.Any.{any_listed, listed_at}
 use Rattle.run_tasks.proofs.not_running.Goals as goal
 
 pub any-requires-clause-callable : goal.any-requires-clause-callable
 any-requires-clause-callable c =
     let ts = c.args.tasks.now in
     serves_from_places (YieldsList-from_slice ts (cc)) (λ x q k. search rules) (λ x k l e.
-    let z : x.now ≡ get_or ts k 0 = e ∙ get_or_default_zero ts k x.now l in
-    let h : (x.now < 128) × (8 + x.now < length c.args.state.now) = rw z (c.requires _ (among_at ts k l)) in
+    let h = c.requires x.now (listed_at ts k l e) in
     search rules)
 
 pub returns : goal.returns
