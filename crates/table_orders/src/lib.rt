@@ -27,12 +27,10 @@ pub fn link_all(order: &mut Orders, a: usize, b: usize)
     requires { (a < b) × (b < NODES) × (length order.old ≡ PAIRS) }
     ensures { Linked order.old order.new b (Leading order.old a) }
 {
-    let mut c = 0;
-    while c < a {
+    for c in 0..a {
         if order[c * NODES + a] == BEFORE {
             link(order, c, b);
         }
-        c += 1;
     }
     link(order, a, b);
 }
@@ -42,7 +40,7 @@ fn both_stand(standing: &Nodes, a: usize, b: usize) -> bool
     requires { (a < NODES) × (b < NODES) }
     ensures { result ≡ (marked standing.now a && marked standing.now b) }
 {
-    (standing[a] == 1) & (standing[b] == 1)
+    standing[a] == 1 && standing[b] == 1
 }
 
 // Puts the orders of an accepted plan into a table without any, those between nodes that stand. An order of which a
@@ -51,14 +49,11 @@ pub fn fill_orders(plan: &[u8], standing: &Nodes, order: &mut Orders)
     requires { (refusal plan.now ≡ 0) × Unlinked order.old }
     ensures { OrdersAmong plan.now standing.now order.new }
 {
-    let n = orders(plan);
-    let mut i = 0;
-    while i < n {
+    for i in 0..orders(plan) {
         let a = usize::from(earlier(plan, i));
         let b = usize::from(later(plan, i));
         if both_stand(standing, a, b) {
             link_all(order, a, b);
         }
-        i += 1;
     }
 }

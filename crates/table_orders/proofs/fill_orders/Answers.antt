@@ -9,8 +9,8 @@ use native.Mathlib.Omega.{arith}
 use Rattle.table_orders.proofs.fill_orders.Goals as goal
 use Rattle.table_orders.proofs.fill_orders.Goals.{then-both_stand, else-both_stand}
 
-pub orders-n-requires : goal.orders-n-requires
-orders-n-requires c = (clean _ c.requires.0).fits.limits.long
+pub orders-i-end-requires : goal.orders-i-end-requires
+orders-i-end-requires c = (clean _ c.requires.0).fits.limits.long
 
 pub loop-i-init : goal.loop-i-init
 loop-i-init c = (omega arith, tabled_none c.requires.1)
