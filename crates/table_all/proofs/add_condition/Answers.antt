@@ -7,4 +7,4 @@ use Rattle.table_all.proofs.add_condition.Goals as goal
 pub returns : goal.returns
 returns c =
     let a = c.args in
-    bit_added a.conds.now (a.t * 6 + a.value / 64) (a.value % 64) (omega arith)
+    rw c.from.ensures (bit_added a.conds.now (a.t * 6 + a.value / 64) (a.value % 64) (omega arith))

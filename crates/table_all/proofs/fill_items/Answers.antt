@@ -1,51 +1,61 @@
 -- `fill_items` meets its contract, item by item. Assumes nothing.
 use mathlib.Core.Path.{◌≡◌, refl, ap, ◌∙◌}
-use Prim.Native.Nat.{◌+◌, ◌<◌}
+use mathlib.Core.Logic.{inl}
 use native.Mathlib.Omega.{arith}
+use Prim.Native.Nat.{◌+◌}
 use Rattle.plan_check.proofs.Accepted.{clean}
-use Rattle.plan_reader.specs.Items.{item_count, item_of}
+use Rattle.plan_reader.specs.Items.{item_of}
 use Rattle.plan_reader.specs.declared.Reader.{Reader}
 use Rattle.table_all.proofs.Drawn.{drawn_none, drawn_fits, drawn_more, drawn_to}
 use Rattle.table_all.proofs.fill_items.Goals as goal
-use Rattle.table_all.proofs.fill_items.Goals.{After-next}
+use Rattle.table_all.proofs.fill_items.Goals.{In-Some}
+
+pub loop-at-init-derived : goal.loop-at-init-derived
+loop-at-init-derived c =
+    rw (c.into_iter-at-iterator.ensures.into_iter_gives, c.enumerate-at-items.ensures.source, c.enumerate-at-items.ensures.count)
+    ((((clean _ c.requires.0).fits, c.requires.1), tt, inl (omega arith)), tt)
+
+pub loop-at-init : goal.loop-at-init
+loop-at-init c =
+    rw (c.into_iter-at-iterator.ensures.into_iter_gives, c.enumerate-at-items.ensures.source, c.enumerate-at-items.ensures.count)
+    (record {
+      place = refl;
+      low = omega arith;
+      end = refl;
+      bytes = refl;
+      drawn = drawn_none c.args.plan.now c.requires.2 c.requires.3 c.requires.4;
+    })
 
 -- the item of this turn
-is_item : (c : After-next) → c.next.result ≡ item_of c.args.plan.now c.loop-reader.reader.at
-is_item c = rw c.loop-reader.invariant.bytes at c.next.ensures.0
-
-pub loop-reader-init : goal.loop-reader-init
-loop-reader-init c = record {
-  low = omega arith;
-  bytes = refl;
-  drawn = drawn_none c.args.plan.now c.requires.2 c.requires.3 c.requires.4;
-}
-
-pub next-requires : goal.next-requires
-next-requires c =
-    let less : c.loop-reader.reader.at < item_count c.args.plan.now = omega (arith, c.requires.1) in
-    rw c.loop-reader.invariant.bytes (less, (clean _ c.requires.0).fits)
+is_item : (c : In-Some) → c.in-Some.item ≡ item_of c.args.plan.now c.in-Some.at
+is_item c =
+    let i = c.loop-at.invariant in
+    rw (c.in-Some.ensures.steps.1, i.place, ← i.bytes) c.in-Some.ensures.steps.0.1
 
 pub put_item-requires : goal.put_item-requires
 put_item-requires c =
-    let d = c.loop-reader.invariant.drawn in
-    let e = is_item (goal.at.put_item-requires c).After-next in
-    (drawn_fits _ (clean _ c.requires.0) _ e (omega (arith, c.requires.1)), d.codes.long, d.words.long)
+    let d = c.loop-at.invariant.drawn in
+    let s = c.in-Some.ensures.steps in
+    (drawn_fits _ (clean _ c.requires.0) _ (is_item (goal.at.put_item-requires c).In-Some) (omega (arith, s.0.0, s.1, c.requires.1)), d.codes.long, d.words.long)
 
-pub loop-reader-preserved : goal.loop-reader-preserved
-loop-reader-preserved c =
-    let i = c.loop-reader.invariant in
-    let e = is_item (goal.at.loop-reader-preserved c).After-next in
-    let r = c.next.ensures.1 in
-    let next : c.next.new.self.at ≡ c.loop-reader.reader.at + 1 = ap (λ (x : Reader). x.at) r in
-    let less : c.loop-reader.reader.at < item_count c.args.plan.now = omega (arith, c.requires.1) in
+pub loop-at-preserved : goal.loop-at-preserved
+loop-at-preserved c =
+    let i = c.loop-at.invariant in
+    let s = c.in-Some.ensures.steps in
+    let r = s.0.2 in
+    let at : c.next.new.self.iter.at ≡ c.loop-at.at-iterator.iter.at + 1 = ap (λ (x : Reader). x.at) r in
     record {
-      low = omega (arith, next);
+      place = omega (arith, s.2, i.place, at);
+      low = omega (arith, at, s.0.0, i.end);
+      end = ap (λ (x : Reader). x.end) r ∙ i.end;
       bytes = ap (λ (x : Reader). x.plan.now) r ∙ i.bytes;
-      drawn = rw next (drawn_more _ (clean _ c.requires.0) _ e _ _ _ i.drawn c.put_item.ensures less);
+      drawn = rw (s.2, ← s.1)
+          (drawn_more _ (clean _ c.requires.0) _ (is_item (goal.at.loop-at-preserved c).In-Some) _ _ _ (rw s.1 i.drawn)
+          c.put_item.ensures (omega (arith, s.0.0, s.1, c.requires.1)));
     }
 
 pub returns : goal.returns
 returns c =
-    let i = c.loop-reader.invariant in
-    let e : c.loop-reader.reader.at ≡ c.args.n = omega (arith, i.low) in
+    let i = c.loop-at.invariant in
+    let e : c.loop-at.at-iterator.count ≡ c.args.n = omega (arith, c.in-None.ensures.steps.0.0) in
     drawn_to _ c.requires.0 c.requires.1 (rw e at i.drawn)

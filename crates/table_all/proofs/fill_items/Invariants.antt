@@ -1,15 +1,14 @@
 -- One reader draws the items: the tables have those below its position. Assumes nothing.
 use mathlib.Core.Path.{◌≡◌}
-use Prim.Native.Nat.{◌-◌, ◌≤◌}
+use Prim.Native.Nat.{◌≤◌}
 use Rattle.table_all.proofs.Drawn.{Drawn}
 use Rattle.table_all.proofs.fill_items.Given as goal
 
-abbrev pub invariant-loop-reader : goal.invariant-loop-reader
-invariant-loop-reader l = record {
-  low : l.reader.at ≤ l.n;
-  bytes : l.reader.plan.now ≡ l.plan;
-  drawn : Drawn l.plan l.kinds l.order l.conds l.reader.at;
+abbrev pub invariant-loop-at : goal.invariant-loop-at
+invariant-loop-at l = record {
+  place : l.at-iterator.count ≡ l.at-iterator.iter.at;
+  low : l.at-iterator.iter.at ≤ l.n;
+  end : l.at-iterator.iter.end ≡ l.n;
+  bytes : l.at-iterator.iter.plan.now ≡ l.plan;
+  drawn : Drawn l.plan l.kinds l.order l.conds l.at-iterator.count;
 }
-
-abbrev pub decreases-loop-reader : goal.decreases-loop-reader
-decreases-loop-reader l = l.n - l.reader.at
