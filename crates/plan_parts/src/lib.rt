@@ -38,7 +38,8 @@ pub fn part_byte(plan: &[u8], shift: u8, part: Part) -> u8
         Part::Size(i) => size_byte(sizes_of(plan), i),
         Part::Start(k) => plan[8 + k],
         Part::Name(k) => name_char(plan, k),
-        Part::Parent(n) => { if n == 0 { 0 } else { parent(plan, n) + shift } }
+        Part::Parent(0) => 0,
+        Part::Parent(n) => parent(plan, n) + shift,
         Part::Kind(n) => kind(plan, n),
         Part::MinutesLow(n) => (minutes(plan, n) % 256) as u8,
         Part::MinutesHigh(n) => (minutes(plan, n) / 256) as u8,
@@ -59,11 +60,7 @@ pub fn joined_sizes(first: Sizes, second: Sizes) -> Sizes
         nodes: first.nodes + second.nodes,
         conditions: first.conditions + second.conditions,
         orders: first.orders + second.orders,
-        flags: if first.flags <= second.flags {
-            second.flags
-        } else {
-            first.flags
-        },
+        flags: first.flags.max(second.flags),
     }
 }
 
@@ -73,18 +70,12 @@ pub fn has_part(sizes: Sizes, part: Part) -> bool
     ensures { result ≡ has_part sizes part }
 {
     match part {
-        Part::Size(i) => i < 8,
-        Part::Start(k) => k < 8,
+        Part::Size(k) | Part::Start(k) => k < 8,
         Part::Name(k) => k < 4 * sizes.nodes,
-        Part::Parent(n) => n < sizes.nodes,
-        Part::Kind(n) => n < sizes.nodes,
-        Part::MinutesLow(n) => n < sizes.nodes,
-        Part::MinutesHigh(n) => n < sizes.nodes,
-        Part::Task(i) => i < sizes.conditions,
-        Part::ValueLow(i) => i < sizes.conditions,
-        Part::ValueHigh(i) => i < sizes.conditions,
-        Part::Earlier(j) => j < sizes.orders,
-        Part::Later(j) => j < sizes.orders,
+        Part::Parent(n) | Part::Kind(n) | Part::MinutesLow(n) | Part::MinutesHigh(n) => n
+            < sizes.nodes,
+        Part::Task(i) | Part::ValueLow(i) | Part::ValueHigh(i) => i < sizes.conditions,
+        Part::Earlier(j) | Part::Later(j) => j < sizes.orders,
     }
 }
 
