@@ -1,25 +1,29 @@
 -- The chain of refusals 1 to 16, forwards and backwards. Assumes nothing.
 use mathlib.Core.Path.{◌≡◌, refl, sym, ◌∙◌}
-use mathlib.Core.Bool.{Bool, true, false, cond, not, ◌&&◌, ◌||◌, or-true, or-false}
+use mathlib.Core.Bool.{Bool, true, false, cond, ◌&&◌, ◌||◌}
 use mathlib.Core.List.{List}
 use Prim.Native.Nat.{ℕ, ◌+◌, ◌*◌, ◌<◌, ◌≤◌}
-use native.Mathlib.Omega.{arith}
-use lib.ListN.{length, get_or, take}
-use lib.Dec.{eqb, ltb, leb}
-use borrow.Author.Tests.{lt-ltb, le-ltb, ltb-false, ne_eqb}
+use lib.ListN.{length, take}
+use lib.Dec.{leb}
+use borrow.Author.Tests.{lt-ltb, le-ltb, ltb-false}
+use Rattle.std.specs.declared.result.Result.TheVariants.{Ok, Err}
+use Rattle.answers.specs.declared.Refusal.{Refusal}
+use Rattle.answers.specs.declared.Refusal.TheVariants.{NoRoom, Malformed}
+use Rattle.answers.specs.Refusals.{number}
+use Rattle.answers.proofs.Refusals.{some_number, not_ok, same_ok}
+use Rattle.base.specs.Answers.{first}
 use Rattle.base.proofs.First.{first_some, both_none, check_passed}
 use Rattle.run_flags.specs.Flags.{flag_in}
 use Rattle.run_flags.proofs.EachFlag.{in_first}
-use Rattle.plan_format.specs.Format.{node_count, flag_count, is_kind}
+use Rattle.plan_format.specs.Format.{node_count, flag_count}
 use Rattle.plan_rules.specs.Rules.{refusal}
 use Rattle.runs.specs.Searches.{any_below, listed}
 use Rattle.plan_check.proofs.Accepted.{Clean, clean}
-use Rattle.node_sets.specs.Sets.{marked}
 use Rattle.plan_blocked.specs.Blocked.{refusal_under}
-use Rattle.plan_blocked.specs.Inner.{Standing, ListChecked}
+use Rattle.plan_blocked.specs.Inner.{Standing}
 use Rattle.plan_blocked.proofs.Refused.{plan_accepted}
 use Rattle.runs.proofs.Searches.{some_same}
-use Rattle.run_starts.specs.Starts.{node_byte, stray_ordinal, misnumbered}
+use Rattle.run_starts.specs.Starts.{stray_ordinal, misnumbered}
 use Rattle.run_starts.specs.Inner.{StateFits}
 use Rattle.run_state.specs.State.{bad_absent, malformed_under, room_refusal_under, state_refusal_under}
 use Rattle.run_state.specs.Inner.{bad_byte_in, bad_node_in, StateChecked}
@@ -43,46 +47,44 @@ turned false true false = refl
 turned false false true = refl
 turned false false false = refl
 
+module _ {b xs : List ℕ} {q : ℕ} where
+  refused : (e : Refusal) → number e ≡ q → StateChecked b xs q (Err e)
+  refused e z = record { returns = z; standing = λ table y. absurd (not_ok y) }
+
+  passes : {table : List ℕ} → 0 ≡ q → Standing b (listed xs) table → StateChecked b xs q (Ok table)
+  passes z h = record { returns = z; standing = λ t y. rw (sym (same_ok y)) h }
+
 module _ (b xs s : List ℕ) where
-  pub room_refused : {r : ℕ} {table : List ℕ} → ListChecked b xs r table → (r ≡ 0 → ⊥)
-      → StateChecked b xs (room_refusal_under b xs s) r table
+  pub room_refused : (e : Refusal) → number e ≡ refusal_under b xs
+      → StateChecked b xs (room_refusal_under b xs s) (Err e)
   unfolding room_refusal_under
-  room_refused c n = record {
-    returns = c.returns ∙ first_some (refusal_under b xs) _ (λ z. n (c.returns ∙ z));
-    standing = λ z. absurd (n z);
-  }
+  room_refused e q = refused e (q ∙ first_some (refusal_under b xs) _ (λ z. some_number e (q ∙ z)))
 
-  pub room_short_under : {table : List ℕ} → refusal_under b xs ≡ 0 → length s < 8 + 3 * node_count b
-      → StateChecked b xs (room_refusal_under b xs s) 15 table
+  pub room_short : refusal_under b xs ≡ 0 → length s < 8 + 3 * node_count b
+      → StateChecked b xs (room_refusal_under b xs s) (Err NoRoom)
   unfolding room_refusal_under too_short
-  room_short_under e l = record { returns = simp (e, lt-ltb _ _ l); standing = λ z. absurd (omega arith) }
+  room_short e l = refused NoRoom (simp (e, lt-ltb _ _ l))
 
-  pub room_enough : refusal_under b xs ≡ 0 → 8 + 3 * node_count b ≤ length s → 0 ≡ room_refusal_under b xs s
+  pub room_long : {table : List ℕ} → refusal_under b xs ≡ 0 → 8 + 3 * node_count b ≤ length s
+      → Standing b (listed xs) table → StateChecked b xs (room_refusal_under b xs s) (Ok table)
   unfolding room_refusal_under too_short
-  room_enough e l = simp (e, le-ltb _ _ l)
+  room_long e l h = let z : 0 ≡ first (refusal_under b xs) (cond (too_short b s) 15 0) = simp (e, le-ltb _ _ l) in
+      passes z h
 
-  pub room_long_under : {r : ℕ} {table : List ℕ} → ListChecked b xs r table → r ≡ 0
-      → 8 + 3 * node_count b ≤ length s → StateChecked b xs (room_refusal_under b xs s) 0 table
-  room_long_under c z l = record { returns = room_enough (sym c.returns ∙ z) l; standing = λ q. c.standing z }
-
-  pub state_refused : {r : ℕ} {table : List ℕ} → StateChecked b xs (room_refusal_under b xs s) r table → (r ≡ 0 → ⊥)
-      → StateChecked b xs (state_refusal_under b xs s) r table
+  pub state_refused : (e : Refusal) → number e ≡ room_refusal_under b xs s
+      → StateChecked b xs (state_refusal_under b xs s) (Err e)
   unfolding state_refusal_under
-  state_refused c n = record {
-    returns = c.returns ∙ first_some (room_refusal_under b xs s) _ (λ z. n (c.returns ∙ z));
-    standing = λ z. absurd (n z);
-  }
+  state_refused e q = refused e (q ∙ first_some (room_refusal_under b xs s) _ (λ z. some_number e (q ∙ z)))
 
-  pub state_bad_under : {table : List ℕ} → room_refusal_under b xs s ≡ 0 → malformed_under b xs s ≡ true
-      → StateChecked b xs (state_refusal_under b xs s) 16 table
+  pub state_bad : room_refusal_under b xs s ≡ 0 → malformed_under b xs s ≡ true
+      → StateChecked b xs (state_refusal_under b xs s) (Err Malformed)
   unfolding state_refusal_under
-  state_bad_under e m = record { returns = simp (e, m); standing = λ z. absurd (omega arith) }
+  state_bad e m = refused Malformed (simp (e, m))
 
-  pub state_good_under : {r : ℕ} {table : List ℕ} → StateChecked b xs (room_refusal_under b xs s) r table → r ≡ 0
-      → malformed_under b xs s ≡ false → StateChecked b xs (state_refusal_under b xs s) 0 table
+  pub state_good : {table : List ℕ} → room_refusal_under b xs s ≡ 0 → malformed_under b xs s ≡ false
+      → Standing b (listed xs) table → StateChecked b xs (state_refusal_under b xs s) (Ok table)
   unfolding state_refusal_under
-  state_good_under c z m = let e = sym c.returns ∙ z in
-      record { returns = simp (e, m); standing = λ q. c.standing z }
+  state_good e m h = passes (simp (e, m)) h
 
   pub state_passed : refusal_under b xs ≡ 0 → 8 + 3 * node_count b ≤ length s → malformed_under b xs s ≡ false
       → state_refusal_under b xs s ≡ 0
@@ -128,41 +130,3 @@ pub flag_bad : (b s bytes : List ℕ) (v f : ℕ) (h : Bool) → v ≡ flag_coun
     → f < 64 → (leb v f && h) ≡ bad_flag b s f
 unfolding bad_flag
 flag_bad b s bytes v f h ev eb eh l = rw (ev, eh, eb, in_first s f l)
-
--- a node's byte, by what the function has at hand
-module _ (b table s : List ℕ) (n : ℕ) where
-  pub byte_waiting : node_byte s n ≡ 0 → false ≡ bad_byte_in b table s n
-  unfolding bad_byte_in bad_byte
-  byte_waiting e = rw e (at (is_kind b n 0) (is_kind b n 3) (not (marked table n)))
-    where
-      at : (x y z : Bool) → false ≡ (cond x false (cond y false false) || (z && false))
-      at true y true = refl
-      at true y false = refl
-      at false true true = refl
-      at false true false = refl
-      at false false true = refl
-      at false false false = refl
-
-  -- one that does not stand
-  pub byte_absent : (node_byte s n ≡ 0 → ⊥) → (get_or table n 0 ≡ 1 → ⊥) → true ≡ bad_byte_in b table s n
-  unfolding bad_byte_in marked
-  byte_absent z k = rw (ne_eqb (node_byte s n) 0 z, ne_eqb (get_or table n 0) 1 k) (sym (or-true (bad_byte b s n)))
-
-  -- one that stands
-  module _ (e : get_or table n 0 ≡ 1) where
-    standing : bad_byte b s n ≡ bad_byte_in b table s n
-    unfolding bad_byte_in marked
-    standing = rw e (sym (or-false (bad_byte b s n)))
-
-    pub byte_task : is_kind b n 0 ≡ true → ltb 2 (node_byte s n) ≡ bad_byte_in b table s n
-    unfolding bad_byte
-    byte_task y = rw (← standing, y)
-
-    pub byte_group : (node_byte s n ≡ 0 → ⊥) → is_kind b n 0 ≡ false → (o : Bool) → o ≡ is_kind b n 3
-        → not (o && eqb (node_byte s n) 2) ≡ bad_byte_in b table s n
-    unfolding bad_byte
-    byte_group z y o q = rw (← standing, y, ne_eqb (node_byte s n) 0 z, ← q) (at o)
-      where
-        at : (x : Bool) → not (x && eqb (node_byte s n) 2) ≡ cond x (not (eqb (node_byte s n) 2)) true
-        at true = refl
-        at false = refl

@@ -2,17 +2,17 @@
 #![tactic(auto)]
 
 ghost use Rattle.std.specs.Prelude.{◌≡◌, ◌+◌, ◌<◌, ◌≤◌, length};
+ghost use Rattle.answers.specs.Refusals.{returned};
 ghost use Rattle.plan_format.specs.Format.{node_count};
 ghost use Rattle.runs.specs.Searches.{any_below};
 ghost use Rattle.run_starts.specs.Inner.{StateFits};
-ghost use Rattle.node_sets.specs.Sets.{AllMarked};
 ghost use Rattle.run_state.specs.State.{bad_flag, room_refusal_under, state_refusal_under};
 ghost use Rattle.run_state.specs.Inner.{bad_byte_in, bad_node_in, StateChecked};
-ghost use Rattle.run_state.specs.Fresh.{fresh_byte, Freshened};
+ghost use Rattle.run_state.specs.Fresh.{Freshened};
 
+use answers::Refusal;
 use base::kinds::{OPTIONAL, TASK};
 use base::statuses::{DONE, WAITING};
-use node_sets::all_nodes;
 use plan_blocked::check_blocked;
 use plan_format::fields::{flags, is_kind, nodes};
 use run_flags::load;
@@ -26,14 +26,7 @@ fn flags_bad(plan: &[u8], state: &[u8]) -> bool
 {
     let v = flags(plan);
     let held = load(state);
-    let mut f = 0;
-    while f < 64 {
-        if (v <= f) & held.has(f) {
-            return true;
-        }
-        f += 1;
-    }
-    false
+    (0..64).any(|f| v <= f && held.has(f))
 }
 
 // The byte of node n is none that it may have: one that does not stand waits.
@@ -51,15 +44,16 @@ fn byte_bad(plan: &[u8], state: &[u8], standing: &Nodes, n: usize) -> bool
     if is_kind(plan, n, TASK) {
         return DONE < x;
     }
-    !(is_kind(plan, n, OPTIONAL) & (x == DONE))
+    !(is_kind(plan, n, OPTIONAL) && x == DONE)
 }
 
 // The byte of node n is bad, or it has an ordinal and has not been started.
+#[tactic(auto, unfolding(crate::specs::Inner::bad_node_in))]
 fn node_bad(plan: &[u8], state: &[u8], standing: &Nodes, n: usize) -> bool
     requires { (n < node_count plan.now) × StateFits plan.now state.now }
     ensures { result ≡ bad_node_in plan.now standing.now state.now n }
 {
-    byte_bad(plan, state, standing, n) | is_stray(plan, state, n)
+    byte_bad(plan, state, standing, n) || is_stray(plan, state, n)
 }
 
 fn nodes_bad(plan: &[u8], state: &[u8], standing: &Nodes) -> bool
@@ -67,73 +61,41 @@ fn nodes_bad(plan: &[u8], state: &[u8], standing: &Nodes) -> bool
     ensures { result ≡ any_below (node_count plan.now)
         (bad_node_in plan.now standing.now state.now) }
 {
-    let n = nodes(plan);
-    let mut i = 0;
-    while i < n {
-        if node_bad(plan, state, standing, i) {
-            return true;
-        }
-        i += 1;
-    }
-    false
+    (0..nodes(plan)).any(|n| node_bad(plan, state, standing, n))
 }
 
-// Refusals 1 to 14, 28, 29 and 15, or 0, and then of the marks those of the nodes that stand.
-fn check_room(plan: &[u8], blocked: &[usize], state: &[u8], standing: &mut Nodes) -> u32
-    requires { AllMarked standing.old }
+// Refuses plan, list or a state that is too short (1 to 14, 28, 29, 15), or hands over the marks of the nodes that
+// stand.
+fn check_room(plan: &[u8], blocked: &[usize], state: &[u8]) -> Result<Nodes, Refusal>
     ensures { StateChecked plan.now blocked.now
-        (room_refusal_under plan.now blocked.now state.now) result standing.new }
+        (room_refusal_under plan.now blocked.now state.now) result }
 {
-    let r = check_blocked(plan, blocked, standing);
-    if r != 0 {
-        return r;
-    }
+    let standing = check_blocked(plan, blocked)?;
     if state.len() < 8 + 3 * nodes(plan) {
-        return 15;
+        return Err(Refusal::NoRoom);
     }
-    0
+    Ok(standing)
 }
 
-// Refusals up to 16, or 0, and then of the marks those of the nodes that stand.
-pub fn check_state(plan: &[u8], blocked: &[usize], state: &[u8], standing: &mut Nodes) -> u32
-    requires { AllMarked standing.old }
+// Refuses plan, list or state (1 to 16, 28, 29), or hands over the marks of the nodes that stand.
+pub fn check_state(plan: &[u8], blocked: &[usize], state: &[u8]) -> Result<Nodes, Refusal>
     ensures { StateChecked plan.now blocked.now
-        (state_refusal_under plan.now blocked.now state.now) result standing.new }
+        (state_refusal_under plan.now blocked.now state.now) result }
 {
-    let r = check_room(plan, blocked, state, standing);
-    if r != 0 {
-        return r;
+    let standing = check_room(plan, blocked, state)?;
+    if flags_bad(plan, state) || nodes_bad(plan, state, &standing) || ordinals_bad(plan, state) {
+        return Err(Refusal::Malformed);
     }
-    if flags_bad(plan, state) | nodes_bad(plan, state, standing) | ordinals_bad(plan, state) {
-        return 16;
-    }
-    0
-}
-
-fn fresh_byte(plan: &[u8], i: usize) -> u8
-    requires { 16 ≤ length plan.now }
-    ensures { result ≡ fresh_byte plan.now i }
-{
-    if i < 8 {
-        return plan[8 + i];
-    }
-    0
+    Ok(standing)
 }
 
 // A state in which every task waits and each flag is as its start bit says; refused, nothing changes.
-pub fn fresh(plan: &[u8], blocked: &[usize], state: &mut [u8]) -> u32
-    ensures { Freshened plan.now blocked.now state.old result state.new }
+pub fn fresh(plan: &[u8], blocked: &[usize], state: &mut [u8]) -> Result<(), Refusal>
+    ensures { Freshened plan.now blocked.now state.old (returned result) state.new }
 {
-    let mut standing = all_nodes();
-    let r = check_room(plan, blocked, state, &mut standing);
-    if r != 0 {
-        return r;
-    }
+    check_room(plan, blocked, state)?;
     let n = 8 + 3 * nodes(plan);
-    let mut k = 0;
-    while k < n {
-        state[k] = fresh_byte(plan, k);
-        k += 1;
-    }
-    0
+    state[..8].copy_from_slice(&plan[8..16]);
+    state[8..n].fill(0);
+    Ok(())
 }
