@@ -1,35 +1,29 @@
 // The rules that compare a place with later ones: one pass backwards over the nodes or the conditions, with a table.
 #![tactic(auto)]
 
-ghost use Rattle.std.specs.Prelude.{◌≡◌, false, ◌<◌};
-ghost use Rattle.base.specs.Zeros.{Zeros};
+ghost use Rattle.std.specs.Prelude.{◌≡◌, false, ℕ, ◌<◌, get_or, eqb};
 ghost use Rattle.plan_format.specs.Format.{node_count, cond_count};
 ghost use Rattle.plan_format.specs.Whole.{Whole};
 ghost use Rattle.plan_rules.specs.Rules.{cause7, cause8, cause9, cause10, cause11, cause12};
-ghost use Rattle.plan_rules_later.specs.Passes.{child_step, sign_step, post_step, step_of, steps_of, NoneBefore};
-ghost use Rattle.plan_rules_later.specs.Passes.{pass_cause};
+ghost use Rattle.plan_rules_later.specs.Passes.{child_step, sign_step, post_step, asked, refused_by, Finds};
 
 use base::places::{INC, POST};
 use plan_codes::value::{flag_of, place_of, sign_of};
 use plan_format::fields::{condition_node, condition_value, conditions, is_group, nodes, parent};
 
-// Which rule: groups without child, conditions with both signs, inconditions without postcondition.
+// What a place asks of an entry of the table: that it is the place's mark, or that it is not.
 #[derive(Clone, Copy)]
-pub enum Pass {
-    Children,
-    Signs,
-    Posts,
+enum Ask {
+    Needs(u8),
+    Bars(u8),
 }
 
-// What a place does: it may need or bar that an entry of the table is its mark; then it may write its mark to an entry.
-#[derive(Drop)]
-pub struct Step {
-    pub needs: bool,
-    pub bars: bool,
-    pub ask: u8,
-    pub writes: bool,
-    pub at: u8,
-    pub mark: u8,
+// What a place does: it may ask an entry; then it may write its mark to one.
+#[derive(Clone, Copy)]
+struct Step {
+    asks: Option<Ask>,
+    writes: Option<u8>,
+    mark: u8,
 }
 
 // A group needs that a later node has marked it; every node marks its parent.
@@ -38,11 +32,8 @@ fn child_step(plan: &[u8], n: usize) -> Step
     ensures { result ≡ child_step plan.now n }
 {
     Step {
-        needs: is_group(plan, n),
-        bars: false,
-        ask: n as u8,
-        writes: true,
-        at: parent(plan, n),
+        asks: is_group(plan, n).then_some(Ask::Needs(n as u8)),
+        writes: Some(parent(plan, n)),
         mark: 1,
     }
 }
@@ -56,11 +47,8 @@ fn sign_step(plan: &[u8], i: usize) -> Step
     let sign = sign_of(v);
     let slot = (64 * place_of(v) + flag_of(v)) as u8;
     Step {
-        needs: false,
-        bars: sign == 0,
-        ask: slot,
-        writes: sign == 1,
-        at: slot,
+        asks: (sign == 0).then_some(Ask::Bars(slot)),
+        writes: (sign == 1).then_some(slot),
         mark: condition_node(plan, i) + 1,
     }
 }
@@ -74,64 +62,37 @@ fn post_step(plan: &[u8], i: usize) -> Step
     let place = place_of(v);
     let flag = flag_of(v) as u8;
     Step {
-        needs: place == INC,
-        bars: false,
-        ask: flag,
-        writes: place == POST,
-        at: flag,
+        asks: (place == INC).then_some(Ask::Needs(flag)),
+        writes: (place == POST).then_some(flag),
         mark: condition_node(plan, i) + 1,
     }
 }
 
-// How many places the pass has.
-fn steps(plan: &[u8], pass: Pass) -> usize
-    requires { Whole plan.now }
-    ensures { result ≡ steps_of pass plan.now }
+// The entry that the place asks is not as it asks.
+fn refused(step: Step, table: &[u8; 256]) -> bool
+    ensures { result ≡ refused_by step.asks (eqb (get_or table.now (asked step.asks) 0) step.mark) }
 {
-    match pass {
-        Pass::Children => nodes(plan),
-        Pass::Signs => conditions(plan),
-        Pass::Posts => conditions(plan),
+    match step.asks {
+        Some(Ask::Needs(k)) => table[usize::from(k)] != step.mark,
+        Some(Ask::Bars(k)) => table[usize::from(k)] == step.mark,
+        None => false,
     }
 }
 
-// What the pass does at place i.
-fn step_at(plan: &[u8], pass: Pass, i: usize) -> Step
-    requires { (i < steps_of pass plan.now) × (Whole plan.now × NoneBefore pass plan.now) }
-    ensures { result ≡ step_of pass plan.now i }
+// Some place asks what the places after it have not made so.
+fn refuses<F: Fn(usize) -> Step>(n: usize, step: F) -> bool
+    requires { (i : ℕ) → i < n → F.pre step i }
+    ensures { Finds (F.post step) n result }
 {
-    match pass {
-        Pass::Children => child_step(plan, i),
-        Pass::Signs => sign_step(plan, i),
-        Pass::Posts => post_step(plan, i),
-    }
-}
-
-// A table with no mark.
-fn blank() -> [u8; 256]
-    ensures { Zeros 256 result }
-{
-    [0u8; 256]
-}
-
-// The cause of the pass applies.
-pub fn refuses(plan: &[u8], pass: Pass) -> bool
-    requires { Whole plan.now × NoneBefore pass plan.now }
-    ensures { result ≡ pass_cause pass plan.now }
-{
-    let n = steps(plan, pass);
-    let mut table = blank();
-    let mut m = 0;
-    while m < n {
-        let s = step_at(plan, pass, n - 1 - m);
-        let found = table[usize::from(s.ask)] == s.mark;
-        if (s.needs & !found) | (s.bars & found) {
+    let mut table = [0u8; 256];
+    for i in (0..n).rev() {
+        let s = step(i);
+        if refused(s, &table) {
             return true;
         }
-        if s.writes {
-            table[usize::from(s.at)] = s.mark;
+        if let Some(k) = s.writes {
+            table[usize::from(k)] = s.mark;
         }
-        m += 1;
     }
     false
 }
@@ -141,7 +102,7 @@ pub fn childless(plan: &[u8]) -> bool
     requires { Whole plan.now × (cause7 plan.now ≡ false) }
     ensures { result ≡ cause8 plan.now }
 {
-    refuses(plan, Pass::Children)
+    refuses(nodes(plan), |n| child_step(plan, n))
 }
 
 // A task has conditions of both signs on one flag, at one place.
@@ -149,7 +110,7 @@ pub fn both_signs(plan: &[u8]) -> bool
     requires { Whole plan.now × ((cause9 plan.now ≡ false) × (cause10 plan.now ≡ false)) }
     ensures { result ≡ cause11 plan.now }
 {
-    refuses(plan, Pass::Signs)
+    refuses(conditions(plan), |i| sign_step(plan, i))
 }
 
 // An incondition's task has no postcondition on its flag.
@@ -157,5 +118,5 @@ pub fn no_postcondition(plan: &[u8]) -> bool
     requires { Whole plan.now × ((cause9 plan.now ≡ false) × (cause10 plan.now ≡ false)) }
     ensures { result ≡ cause12 plan.now }
 {
-    refuses(plan, Pass::Posts)
+    refuses(conditions(plan), |i| post_step(plan, i))
 }

@@ -4,7 +4,7 @@ use Rattle.plan_rules_later.proofs.child_step.Goals as goal
 
 pub returns : goal.returns
 unfolding child_step
-returns c = rw (c.parent.ensures, c.is_group.ensures)
+returns c = rw (c.then_some.ensures, c.is_group.ensures, c.parent.ensures)
 
 pub is_group-requires : goal.is_group-requires
 is_group-requires c = c.requires.1

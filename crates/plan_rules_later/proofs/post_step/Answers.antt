@@ -32,6 +32,8 @@ overflow_add-result c =
 pub returns : goal.returns
 unfolding post_step
 returns c = rw (
+  c.then_some.ensures,
+  c.then_some-2.ensures,
   c.condition_node.ensures,
   c.flag_of-flag.ensures,
   c.place_of-place.ensures,

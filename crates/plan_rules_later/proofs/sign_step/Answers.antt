@@ -43,6 +43,8 @@ overflow_add-result c =
 pub returns : goal.returns
 unfolding sign_step slot_of
 returns c = rw (
+  c.then_some.ensures,
+  c.then_some-2.ensures,
   c.condition_node.ensures,
   c.flag_of.ensures,
   c.place_of.ensures,
