@@ -17,13 +17,10 @@ use Rattle.text_decimals.proofs.Written.{written_none, wrote_then, wrote_same}
 use Rattle.wait_lengths.specs.Waits.{longest_wait}
 use Rattle.wait_lengths.proofs.Bounds.{end_limit}
 use Rattle.text_order.specs.Model.{ranked_to, ranking}
+use Rattle.text_order.proofs.Keys.{name_length}
 use Rattle.text_order.proofs.Order.{among_at, ranked_task, ranking_length}
 use Rattle.text_lines.specs.Lines.{TaskLines, no_lines, line}
 use Rattle.text_lines.specs.Model.{ending, line_of, lines_of}
-
-pub name_length : (b : List ℕ) (n : ℕ) → length (name_of b n) ≡ 4
-unfolding name_of
-name_length b n = refl
 
 pub ending_length : (n : ℕ) → length (ending n) ≡ length (decimal n) + 2
 unfolding ending

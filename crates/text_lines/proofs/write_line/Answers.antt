@@ -1,6 +1,7 @@
 -- `write_line` meets its contract. Assumes nothing.
 use Rattle.text_decimals.proofs.Written.{wrote_long, wrote_then, wrote_same}
-use Rattle.text_lines.proofs.Text.{name_length, line_length, line_is}
+use Rattle.text_order.proofs.Keys.{name_length}
+use Rattle.text_lines.proofs.Text.{line_length, line_is}
 use native.Mathlib.Omega.{arith}
 use Rattle.text_lines.proofs.write_line.Goals as goal
 

@@ -1,4 +1,4 @@
--- `write_lines` meets its contract: the first i lines are written. Assumes nothing.
+-- `write_lines` meets its contract: the lines of the tasks before this one are written. Assumes nothing.
 use mathlib.Core.Path.{ap}
 use lib.ListN.{length}
 use Rattle.plan_check.proofs.Accepted.{clean}
@@ -8,8 +8,15 @@ use Rattle.text_lines.proofs.Text.{task_limit, lines_none, line_task, lines_turn
 use native.Mathlib.Omega.{arith}
 use Rattle.text_lines.proofs.write_lines.Goals as goal
 
-pub loop-i-init : goal.loop-i-init
-loop-i-init c = lines_none (clean _ c.requires.0)
+pub loop-task-init : goal.loop-task-init
+loop-task-init c = lines_none (clean _ c.requires.0)
+
+pub loop-task-preserved : goal.loop-task-preserved
+loop-task-preserved c =
+    let ok = clean _ c.requires.0 in
+    let t = line_task ok c.requires.2 (omega arith) c.from-t.ensures in
+    lines_turn ok (omega (arith, ap length c.requires.2)) t.0 t.1 (c.requires.1.is _ t.0)
+    c.write_line-end.ensures c.loop-task.invariant
 
 pub offset_bounds-waits-t : goal.offset_bounds-waits-t
 offset_bounds-waits-t c = omega (arith, c.from-t.ensures)
@@ -19,8 +26,8 @@ bounds-waits-t c =
     let ok = clean _ c.requires.0 in
     omega (arith, (line_task ok c.requires.2 (omega arith) c.from-t.ensures).0, ok.fits.limits.nodes)
 
-pub write_line-a-requires : goal.write_line-a-requires
-write_line-a-requires c =
+pub write_line-end-requires : goal.write_line-end-requires
+write_line-end-requires c =
     let ok = clean _ c.requires.0 in
     let t = (line_task ok c.requires.2 (omega arith) c.from-t.ensures).0 in (
       c.requires.0,
@@ -28,24 +35,17 @@ write_line-a-requires c =
       omega (
         arith,
         c.requires.3,
-        c.loop-i.invariant.short,
+        c.loop-task.invariant.short,
         ap length c.requires.2,
         ranking_length _ ok,
-        wrote_long c.loop-i.invariant.wrote,
+        wrote_long c.loop-task.invariant.wrote,
         task_limit ok t (c.requires.1.is _ t),
       ),
     )
 
-pub loop-i-preserved : goal.loop-i-preserved
-loop-i-preserved c =
-    let ok = clean _ c.requires.0 in
-    let t = line_task ok c.requires.2 (omega arith) c.from-t.ensures in
-    lines_turn ok (omega (arith, ap length c.requires.2)) t.0 t.1 (c.requires.1.is _ t.0)
-    c.write_line-a.ensures c.loop-i.invariant
-
 pub shape_of-out : goal.shape_of-out
-shape_of-out c = wrote_long c.loop-i.invariant.wrote
+shape_of-out c = wrote_long c.loop-task.invariant.wrote
 
 pub returns : goal.returns
 returns c =
-    lines_all (clean _ c.requires.0) (omega (arith, ap length c.requires.2)) c.loop-i.invariant
+    lines_all (clean _ c.requires.0) (omega (arith, ap length c.requires.2)) c.loop-task.invariant

@@ -1,11 +1,6 @@
--- `write_lines` meets its contract: the first i lines are written. Assumes nothing.
-use Prim.Native.Nat.{◌-◌}
-use lib.ListN.{length}
+-- `write_lines` meets its contract: the lines of the tasks before this one are written. Assumes nothing.
 use Rattle.text_lines.proofs.Text.{LinesTo}
 use Rattle.text_lines.proofs.write_lines.Given as goal
 
-abbrev pub invariant-loop-i : goal.invariant-loop-i
-invariant-loop-i l = LinesTo l.plan l.initial.out l.out l.at l.a l.i
-
-abbrev pub decreases-loop-i : goal.decreases-loop-i
-decreases-loop-i l = length l.tasks - l.i
+abbrev pub invariant-loop-task : goal.invariant-loop-task
+invariant-loop-task l = LinesTo l.plan l.initial.out l.out l.at l.end l.task-index
