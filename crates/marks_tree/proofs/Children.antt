@@ -21,7 +21,7 @@ use Rattle.marks_row.specs.Tasks.{AtTask}
 use Rattle.marks_siblings.specs.Group.{Group}
 use Rattle.marks_row.proofs.Rows.{index_small, written_right, written_keeps}
 use Rattle.tables.proofs.Segments.{has_children, listed, every_child}
-use Rattle.tables.proofs.Walks.{right_none, right_more, right_all}
+use Rattle.tables.proofs.Walks.{right_more, right_all}
 use Rattle.marks_group.specs.Groups.{AnyRow}
 use Rattle.marks_tree.specs.Clobbers.{AllOfRow}
 use Rattle.marks_tree.specs.Filled.{Given, OfAny, ChildrenTo, Filled, TasksFilled, AllFilled, BelowFilled}
@@ -64,10 +64,6 @@ pub any_kind : {kind from kids order rows rows' : List ℕ} {n node : ℕ} {K : 
 any_kind is x = record { long = x.long; under = λ p g k. x.under p g (is p g.kinds g.is_node) }
 
 module _ (kind from kids order : List ℕ) (n node : ℕ) (segment : Segment) where
-  pub children_none : (rows : List ℕ) → length rows ≡ 2944
-      → ChildrenTo kind from kids order n node segment rows rows segment.start
-  children_none rows e = record { long = e; walked = λ p g. right_none refl }
-
   -- one child more
   pub child_more : {rows₀ rows rows' : List ℕ} {i c : ℕ} → segment ≡ segment_of from node → c ≡ get_or kids i 0
       → Position segment i → ChildrenTo kind from kids order n node segment rows₀ rows i
@@ -120,9 +116,6 @@ module _ (kind from kids order : List ℕ) (n node : ℕ) (segment : Segment) wh
 
 -- the tasks below i
 module _ {kind conds rows : List ℕ} where
-  pub tasks_none : length rows ≡ 2944 → TasksFilled kind conds rows 0
-  tasks_none e = record { long = e; right = λ p w k c t l. absurd (omega arith) }
-
   pub task_more : {i : ℕ} {rows' rows'' words : List ℕ} → rows'' ≡ rows' → TasksFilled kind conds rows i
       → RowWritten rows rows' i words
       → ((p : Plan) → AtTask conds i p → Row p i words) → TasksFilled kind conds rows'' (i + 1)

@@ -1,4 +1,5 @@
 -- Laws of the rows of all nodes.
 pub mod Open
+pub mod FromFn
 pub mod AllRow
 pub mod Children

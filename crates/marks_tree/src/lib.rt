@@ -19,7 +19,8 @@ use marks_may_pairs::clobbering_pairs;
 use marks_must_pairs::must_pairs;
 use marks_pair::Literals;
 use marks_row::columns::{ASSERTS, MAY_CLOBBER, MUST_CLOBBER, POSTS, REQUIRES};
-use marks_row::{COLUMNS, Rows, Words, task_words, write_row};
+use marks_row::{Rows, Words, task_words, write_row};
+use std::array;
 use tables::{Conditions, Nodes, Orders, Segment, Starts, children};
 
 // A row with the words of may and must clobber only.
@@ -35,13 +36,7 @@ fn clobber_words(may: Literals, must: Literals) -> Words
 fn ored(a: Words, b: Words) -> Words
     ensures { Ored a b result }
 {
-    let mut out = a;
-    let mut k = 0;
-    while k < COLUMNS {
-        out[k] = a[k] | b[k];
-        k += 1;
-    }
-    out
+    array::from_fn(|k| a[k] | b[k])
 }
 
 // The literals that a pair of children of an all_of group can clobber where no child does: some task under the group
@@ -76,11 +71,7 @@ fn all_row(kids: &Nodes, segment: Segment, order: &Orders, rows: &Rows) -> Words
     };
     let clear = must_pairs(kids, segment, order, rows, known_clear);
     let set = must_pairs(kids, segment, order, rows, known_set);
-    let must = Literals {
-        clear: clear,
-        set: set,
-    };
-    let clobbers = clobber_words(may, must);
+    let clobbers = clobber_words(may, Literals { clear, set });
     ored(words, clobbers)
 }
 
@@ -123,11 +114,8 @@ fn groups_under(
         kids.now order.now n node result rows.old rows.new result.end }
 {
     let segment = children(from, node);
-    let mut i = segment.start;
-    while i < segment.end {
-        let child = usize::from(kids[i]);
-        group(kind, from, kids, order, rows, n, child);
-        i += 1;
+    for i in segment.start..segment.end {
+        group(kind, from, kids, order, rows, n, usize::from(kids[i]));
     }
     segment
 }
@@ -179,13 +167,11 @@ fn task_rows(kind: &Nodes, conds: &Conditions, rows: &mut Rows, n: usize)
     requires { (n ≤ NODES) × (length rows.old ≡ ROWS) }
     ensures { TasksFilled kind.now conds.now rows.new n }
 {
-    let mut i = 0;
-    while i < n {
+    for i in 0..n {
         if kind[i] == TASK {
             let words = task_words(conds, i);
             write_row(rows, i, words);
         }
-        i += 1;
     }
 }
 

@@ -1,7 +1,9 @@
 -- `group`, `all_of`, `any_of` and `groups_under` meet their contracts, by the laws of a group and its children. Assumes
 -- nothing.
-use mathlib.Core.Path.{refl}
-use Rattle.tables.proofs.Turns.{position, next_turn, last_turn}
+use mathlib.Core.Path.{◌≡◌, refl}
+use native.Mathlib.Omega.{arith}
+use Rattle.tables.specs.Segments.{Position}
+use Rattle.tables.proofs.Turns.{at_segment}
 use Rattle.marks_tree.proofs.Children.{is_task, is_all, is_choice_lem, child_more}
 use Rattle.marks_tree.proofs.Children.{any_kind, task_filled, all_filled, any_filled}
 use Rattle.marks_tree.proofs.+all_of_any_of_group_groups_under.Goals as goal
@@ -32,14 +34,11 @@ any_of-returns t c =
 -- ---- what is under a group
 pub groups_under-loop-i-preserved : goal.groups_under-loop-i-preserved
 groups_under-loop-i-preserved t c =
-    let turn = c.loop-i.invariant.0 in
-    let test = c.loop-i-test.true in (
-      next_turn turn test,
-      child_more _ _ _ _ _ _ _ c.children-segment.ensures c.from-child.ensures (position turn test)
-          c.loop-i.invariant.1 c.group.ensures,
-    )
+    let at : Position c.children-segment.result c.loop-i.i = record { low = omega arith; high = omega arith } in
+    child_more _ _ _ _ _ _ _ c.children-segment.ensures c.from.ensures at c.loop-i.invariant c.group.ensures
 
 pub groups_under-returns : goal.groups_under-returns
 groups_under-returns t c =
-    let e = last_turn c.loop-i.invariant.0 c.loop-i-test.false in
-    (c.children-segment.ensures, rw e at c.loop-i.invariant.1)
+    let segment = at_segment c.requires.0 c.children-segment.ensures in
+    let e : c.loop-i.i ≡ c.children-segment.result.end = omega (arith, segment.rises) in
+    (c.children-segment.ensures, rw e at c.loop-i.invariant)

@@ -1,7 +1,6 @@
 -- Three times the distance from the node to n falls, with two more for a node, and one more for a group of a known
 -- kind, than for what is under it. The children before i are worked out, with all under them: the loop is there once.
 use Rattle.std.proofs.Common.{◌+◌, ◌*◌, ◌-◌}
-use Rattle.tables.specs.Segments.{Reached}
 use Rattle.marks_tree.specs.Filled.{ChildrenTo}
 use Rattle.marks_tree.proofs.+all_of_any_of_group_groups_under.Given as goal
 
@@ -19,7 +18,4 @@ decreases-groups_under l = 3 * (l.n - l.node)
 
 abbrev pub invariant-groups_under-loop-i : goal.invariant-groups_under-loop-i
 invariant-groups_under-loop-i l =
-    Reached l.segment l.i × ChildrenTo l.kind l.from l.kids l.order l.n l.node l.segment l.initial.rows l.rows l.i
-
-abbrev pub decreases-groups_under-loop-i : goal.decreases-groups_under-loop-i
-decreases-groups_under-loop-i l = l.segment.end - l.i
+    ChildrenTo l.kind l.from l.kids l.order l.n l.node l.segment l.initial.rows l.rows l.i

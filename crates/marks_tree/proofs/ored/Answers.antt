@@ -1,10 +1,13 @@
--- `ored` meets its contract: the words below k are put together. Assumes nothing.
-use native.Mathlib.Omega.{arith}
+-- `ored` meets its contract, word by word. Assumes nothing.
+use mathlib.Core.Path.{◌≡◌}
+use lib.Bits.{bit_or}
+use lib.ListN.{get_or}
 use borrow.Author.Rules.{rules}
+use Rattle.marks_tree.proofs.FromFn.{made}
 use Rattle.marks_tree.proofs.ored.Goals as goal
 
-pub loop-k-init : goal.loop-k-init
-loop-k-init c = (omega arith, (search rules, λ j l. absurd (omega arith)))
-
 pub returns : goal.returns
-returns c = record { is = λ k l. c.loop-k.invariant.1.1 k (omega arith) }
+returns c = record {
+  is = made (λ k y. y ≡ bit_or (get_or c.args.a k 0) (get_or c.args.b k 0)) c.from_fn.ensures.items
+      (λ k y q x. search rules);
+}
