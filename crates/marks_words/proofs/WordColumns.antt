@@ -1,5 +1,5 @@
 -- The words of marks: where each stands, and which columns it is made of. Assumes nothing.
-use mathlib.Core.Path.{◌≡◌, refl, sym, ap, ◌∙◌}
+use mathlib.Core.Path.{◌≡◌, refl, sym}
 use mathlib.Core.Logic.{◌⊎◌, inl, inr, ◌↔◌}
 use mathlib.Core.Bool.{Bool, true, false, true≢false}
 use mathlib.Core.List.{List}
@@ -16,7 +16,6 @@ use Rattle.runs.specs.Numbers.{mark_at}
 use Rattle.runs.specs.Model.Verdicts.{Fails}
 use Rattle.marks_row.specs.Columns as columns
 use Rattle.marks_row.specs.Columns.{Right, word_at}
-use Rattle.runs.proofs.Plan.Numbers.{sign_small}
 use Rattle.marks_words.specs.Words.{word_index, first_words, MarkWords, StartWord}
 
 pub mark_small : (m : Mark) → byte_of m < 8
@@ -39,9 +38,6 @@ mark_byte must_inc = refl
 mark_byte may_clobber = refl
 mark_byte must_clobber = refl
 
-pub mark_from : (m : Mark) {k : ℕ} → byte_of m ≡ k → m ≡ mark_at k
-mark_from m e = sym (mark_byte m) ∙ ap mark_at e
-
 pub byte_mark : (k : ℕ) → k < 8 → byte_of (mark_at k) ≡ k
 byte_mark zero l = refl
 byte_mark (suc zero) l = refl
@@ -60,22 +56,6 @@ module _ {k : ℕ} (v : Bool) (m : Mark) (e : k ≡ word_index v m) where
 
   pub mark_is : k % 8 ≡ byte_of m
   mark_is = omega (arith, e, mark_small m)
-
-pub word_small : (v : Bool) (m : Mark) → word_index v m < 16
-word_small v m = omega (arith, sign_small v, mark_small m)
-
-pub first_small : (k : ℕ) → k < 8 → get_or first_words k 0 < 22
-first_small k l = rw (← byte_mark k l) (at (mark_at k))
-  where
-    at : (m : Mark) → get_or first_words (byte_of m) 0 < 22
-    at may_pre = omega arith
-    at must_pre = omega arith
-    at may_post = omega arith
-    at must_post = omega arith
-    at may_inc = omega arith
-    at must_inc = omega arith
-    at may_clobber = omega arith
-    at must_clobber = omega arith
 
 -- the marks that have a column
 module _ {p : Plan} {rows : List ℕ} {n : ℕ} (r : Right p rows n) where

@@ -11,9 +11,9 @@ ghost use Rattle.marks_row.specs.Columns.{ROWS};
 ghost use Rattle.marks_words.specs.Words.{first_words, WordIs, WordsAre, FailsWord};
 ghost use Rattle.marks_words.specs.Tables.{NodeWords};
 
-use marks::{MUST_POST, MUST_PRE};
 use marks_row::{ROWS, Rows, columns, must_post, must_pre, word_at};
 use marks_tree::node_rows;
+use std::array;
 use tables::{Conditions, Nodes, Orders, Starts};
 
 // The words of a node: by sign and mark.
@@ -24,17 +24,15 @@ fn column(mark: usize) -> usize
     requires { mark < 8 }
     ensures { result ≡ get_or first_words mark 0 }
 {
-    let first = [
-        columns::MAY_PRE,
-        0,
-        columns::MAY_POST,
-        0,
-        columns::MAY_INC,
-        columns::MUST_INC,
-        columns::MAY_CLOBBER,
-        columns::MUST_CLOBBER,
-    ];
-    first[mark]
+    match mark {
+        marks::MAY_PRE => columns::MAY_PRE,
+        marks::MAY_POST => columns::MAY_POST,
+        marks::MAY_INC => columns::MAY_INC,
+        marks::MUST_INC => columns::MUST_INC,
+        marks::MAY_CLOBBER => columns::MAY_CLOBBER,
+        marks::MUST_CLOBBER => columns::MUST_CLOBBER,
+        _ => 0,
+    }
 }
 
 // The word of a node for one sign and one mark: k is mark + 8 * sign. Two marks are worked out from two columns each.
@@ -43,14 +41,11 @@ fn mark_word(rows: &Rows, node: usize, k: usize) -> u64
     ensures { WordIs rows.now node k result }
 {
     let sign = k / 8;
-    let mark = k % 8;
-    if mark == MUST_PRE {
-        return must_pre(rows, node, sign);
+    match k % 8 {
+        marks::MUST_PRE => must_pre(rows, node, sign),
+        marks::MUST_POST => must_post(rows, node, sign),
+        mark => word_at(rows, node, column(mark) + sign),
     }
-    if mark == MUST_POST {
-        return must_post(rows, node, sign);
-    }
-    word_at(rows, node, column(mark) + sign)
 }
 
 // The sixteen words of a node.
@@ -58,13 +53,7 @@ pub fn mark_words(rows: &Rows, node: usize) -> Marks
     requires { node < NODES }
     ensures { WordsAre rows.now node result }
 {
-    let mut words = [0u64; 16];
-    let mut k = 0;
-    while k < 16 {
-        words[k] = mark_word(rows, node, k);
-        k += 1;
-    }
-    words
+    array::from_fn(|k| mark_word(rows, node, k))
 }
 
 pub fn no_rows() -> Rows
