@@ -35,10 +35,7 @@ fn is_of(plan: &[u8], place: u16, tasks: &Nodes, i: usize) -> bool
     ensures { result ≡ is_of plan.now place (marked tasks.now) i }
 {
     let node = usize::from(condition_node(plan, i));
-    if tasks[node] != 1 {
-        return false;
-    }
-    is_at(plan, place, i)
+    tasks[node] == 1 && is_at(plan, place, i)
 }
 
 // The flag of condition i.
@@ -46,7 +43,7 @@ fn flag_at(plan: &[u8], i: usize) -> usize
     requires { (i < cond_count plan.now) × (refusal plan.now ≡ 0) }
     ensures { (result ≡ flag_of (cond_value plan.now i)) × (result < 64) }
 {
-    flag_of(condition_value(plan, i)) as usize
+    usize::from(flag_of(condition_value(plan, i)))
 }
 
 // Condition i has the sign "set".
@@ -64,9 +61,7 @@ pub fn with_literals(plan: &[u8], place: u16, tasks: &Nodes, flags: Flags) -> Fl
     ensures { result.bytes ≡ made plan.now place (marked tasks.now) flags.bytes }
 {
     let mut next = flags;
-    let mut i = conditions(plan);
-    while 0 < i {
-        i -= 1;
+    for i in (0..conditions(plan)).rev() {
         if is_of(plan, place, tasks, i) {
             next = next.with(flag_at(plan, i), set_at(plan, i));
         }
@@ -77,7 +72,7 @@ pub fn with_literals(plan: &[u8], place: u16, tasks: &Nodes, flags: Flags) -> Fl
 fn differs(sign: bool, value: bool) -> bool
     ensures { result ≡ not (same_b sign value) }
 {
-    if sign { !value } else { value }
+    sign != value
 }
 
 // Condition i is of a marked task, at the place, and the flags do not meet it.
@@ -85,10 +80,7 @@ fn unmet_at(plan: &[u8], place: u16, tasks: &Nodes, flags: Flags, i: usize) -> b
     requires { (i < cond_count plan.now) × (refusal plan.now ≡ 0) }
     ensures { result ≡ unmet_at plan.now place (marked tasks.now) flags.bytes i }
 {
-    if !is_of(plan, place, tasks, i) {
-        return false;
-    }
-    differs(set_at(plan, i), flags.has(flag_at(plan, i)))
+    is_of(plan, place, tasks, i) && differs(set_at(plan, i), flags.has(flag_at(plan, i)))
 }
 
 // The flags do not meet some condition of a marked task at the place: 21 for the preconditions before a start, 26 for
@@ -98,15 +90,7 @@ pub fn unmet(plan: &[u8], place: u16, tasks: &Nodes, flags: Flags) -> bool
     ensures { result ≡ any_below (cond_count plan.now)
         (unmet_at plan.now place (marked tasks.now) flags.bytes) }
 {
-    let n = conditions(plan);
-    let mut i = 0;
-    while i < n {
-        if unmet_at(plan, place, tasks, flags, i) {
-            return true;
-        }
-        i += 1;
-    }
-    false
+    (0..conditions(plan)).any(|i| unmet_at(plan, place, tasks, flags, i))
 }
 
 // What an event makes of flags that are all clear, and of flags that are all set.
@@ -144,17 +128,6 @@ pub fn inc_broken(plan: &[u8], state: &[u8], place: u16, tasks: &Nodes) -> bool
 {
     let clear = with_literals(plan, place, tasks, Flags::all(false));
     let set = with_literals(plan, place, tasks, Flags::all(true));
-    let after = Images {
-        clear: clear,
-        set: set,
-    };
-    let n = conditions(plan);
-    let mut i = 0;
-    while i < n {
-        if broken_at(plan, state, after, tasks, i) {
-            return true;
-        }
-        i += 1;
-    }
-    false
+    let after = Images { clear, set };
+    (0..conditions(plan)).any(|i| broken_at(plan, state, after, tasks, i))
 }

@@ -46,9 +46,6 @@ set_at-sign-requires c = (c.requires.0, (room (goal.at.set_at-sign-requires c).S
 pub is_at-requires : goal.is_at-requires
 is_at-requires c = (c.requires.0, (room (goal.at.is_at-requires c).Start).accepted)
 
-pub overflow_add-result : goal.overflow_add-result
-overflow_add-result c = omega (arith, c.from-node.ensures.1)
-
 pub bounds-tasks-node : goal.bounds-tasks-node
 bounds-tasks-node c =
     let p = goal.at.bounds-tasks-node c in

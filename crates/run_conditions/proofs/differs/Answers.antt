@@ -1,13 +1,15 @@
 -- `run_conditions::differs` meets its contract. Assumes nothing.
-use mathlib.Core.Path.{sym}
-use mathlib.Core.Bool.{not-not}
+use mathlib.Core.Path.{◌≡◌, refl}
+use mathlib.Core.Bool.{Bool, true, false, not, beq}
 use Rattle.runs.specs.Tests.{same_b}
 use Rattle.run_conditions.proofs.differs.Goals as goal
 
-pub returns-then-sign : goal.returns-then-sign
+unequal : (x y : Bool) → not (beq x y) ≡ not (same_b x y)
 unfolding same_b
-returns-then-sign c = rw c.if-sign.true
+unequal true true = refl
+unequal true false = refl
+unequal false true = refl
+unequal false false = refl
 
-pub returns-else-sign : goal.returns-else-sign
-unfolding same_b
-returns-else-sign c = rw c.if-sign.false (sym (not-not _))
+pub returns : goal.returns
+returns c = unequal c.args.sign c.args.value

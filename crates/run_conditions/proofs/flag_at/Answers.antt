@@ -15,6 +15,6 @@ flag_of-requires c = omega (arith, c.condition_value.ensures, (values _ c.requir
 
 pub returns : goal.returns
 returns c = (
-  c.flag_of.ensures ∙ ap flag_of c.condition_value.ensures,
-  omega (arith, c.flag_of.ensures, flag_small c.condition_value.result),
+  c.from.ensures ∙ c.flag_of.ensures ∙ ap flag_of c.condition_value.ensures,
+  omega (arith, c.from.ensures, c.flag_of.ensures, flag_small c.condition_value.result),
 )

@@ -26,11 +26,13 @@ bounds-tasks-node c =
       (clean _ c.requires.1).fits.limits.nodes,
     )
 
-pub returns-then-tasks-node-ne1 : goal.returns-then-tasks-node-ne1
+pub returns-then-tasks-node-eq1 : goal.returns-then-tasks-node-eq1
 unfolding is_of marked
-returns-then-tasks-node-ne1 c =
-    rw (← node_is (goal.at.returns-then-tasks-node-ne1 c).After-from-node, ne_eqb _ 1 c.if-tasks-node-ne1.true)
+returns-then-tasks-node-eq1 c =
+    c.is_at.ensures
+    ∙ rw (← node_is (goal.at.returns-then-tasks-node-eq1 c).After-from-node, c.if-tasks-node-eq1.true)
 
-pub returns : goal.returns
+pub returns-else-tasks-node-eq1 : goal.returns-else-tasks-node-eq1
 unfolding is_of marked
-returns c = c.is_at.ensures ∙ rw (← node_is (goal.at.returns c).After-from-node, c.if-tasks-node-ne1.false)
+returns-else-tasks-node-eq1 c =
+    rw (← node_is (goal.at.returns-else-tasks-node-eq1 c).After-from-node, ne_eqb _ 1 c.if-tasks-node-eq1.false)
