@@ -10,9 +10,9 @@ use native.Mathlib.Omega.{arith}
 use lib.Dec.{eqb, leb}
 use lib.ListN.{get_or}
 use borrow.Author.Tests.{eq-eqb, ne_eqb, le-leb, lt-leb}
+use Rattle.base.specs.Answers.{overlay}
 use Rattle.base.proofs.Count.{count_le}
 use Rattle.plan_layout.specs.declared.Sizes.{Sizes}
-use Rattle.plan_layout.specs.declared.Part.{Part}
 use Rattle.plan_layout.specs.Layout.{Limited, size_byte, plan_length, part_at}
 use Rattle.plan_layout.specs.Fields.{byte_in, byte_at}
 use Rattle.plan_layout.proofs.Names.{four}
@@ -199,8 +199,8 @@ module _ {r : Recipe} {draws ordered : List ℕ} {sizes : Sizes} (p : Prepared r
       let x = order_at_lem r j (omega arith) in
       (omega (arith, few_orders r, ok.few_groups), omega (arith, order_is_lem j l, x.below, ok.few_groups))
 
-  -- byte i, by the part that it holds
-  pub byte_is : (i : ℕ) {part : Part} {v : ℕ} → part ≡ part_at sizes i → v ≡ byte_in (generated r) part
-      → v ≡ byte_at (generated r) i
+  -- each byte by the part that it holds
+  pub overlaid : (n : ℕ) (out : List ℕ)
+      → overlay (λ i. byte_in (generated r) (part_at sizes i)) n out ≡ overlay (byte_at (generated r)) n out
   unfolding byte_at generated
-  byte_is i e v = v ∙ ap (byte_in (generated r)) (e ∙ ap (λ (s : Sizes). part_at s i) p.sized)
+  overlaid n out = rw p.sized

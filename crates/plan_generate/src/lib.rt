@@ -1,22 +1,21 @@
 // Generated plans (02: soak books).
 #![tactic(auto)]
 
-ghost use Rattle.std.specs.Prelude.{◌≡◌, ◌≤◌, ◌<◌, length};
-ghost use Rattle.base.specs.Answers.{overlay};
-ghost use Rattle.answers.specs.Written.{told};
-ghost use Rattle.plan_layout.specs.Layout.{plan_length, PartOf};
-ghost use Rattle.plan_layout.specs.Fields.{byte_in, byte_at};
+ghost use Rattle.std.specs.Prelude.{◌≡◌, ◌≤◌, ◌<◌};
+ghost use Rattle.answers.specs.Refusals.{told};
+ghost use Rattle.plan_layout.specs.Layout.{PartOf};
+ghost use Rattle.plan_layout.specs.Fields.{byte_in};
 ghost use Rattle.plan_draws.specs.Inner.{GROUPS};
 ghost use Rattle.plan_generate.specs.Model.{name_in, parent_in, generated, refused30};
 ghost use Rattle.plan_generate.specs.Inner.{Prepared};
 ghost use Rattle.plan_generate.specs.Calls.{Generates};
 
-use answers::Written;
+use answers::Refusal;
 use plan_draws::{
     DRAWS, DrawTable, GROUPS, OrderTable, Recipe, TASKS, draw_all, find_orders, kind_of,
     literal_of, minutes_of,
 };
-use plan_layout::{Part, Sizes, part_at, plan_length, size_byte};
+use plan_layout::{Part, Sizes, plan_length, size_byte, write_parts};
 
 // Character k of the names: SOAK, then G or T and the node number in three digits.
 fn name_byte(groups: usize, k: usize) -> u8
@@ -51,6 +50,7 @@ fn parent_of(groups: usize, node: usize) -> u8
 }
 
 // The byte of a part.
+#[tactic(auto, unfolding(crate::specs::Model::generated))]
 fn byte_of(recipe: Recipe, draws: &DrawTable, ordered: &OrderTable, sizes: Sizes, part: Part) -> u8
     requires { Prepared recipe draws.now ordered.now sizes × PartOf sizes part }
     ensures { result ≡ byte_in (generated recipe) part }
@@ -71,31 +71,20 @@ fn byte_of(recipe: Recipe, draws: &DrawTable, ordered: &OrderTable, sizes: Sizes
     }
 }
 
-// Writes the plan from the first byte.
-fn write_plan(recipe: Recipe, draws: &DrawTable, ordered: &OrderTable, sizes: Sizes, out: &mut [u8])
-    requires { Prepared recipe draws.now ordered.now sizes × (plan_length sizes ≤ length out.old) }
-    ensures { out.new ≡ overlay (byte_at (generated recipe)) (plan_length sizes) out.old }
-{
-    let end = plan_length(sizes);
-    let mut i = 0;
-    while i < end {
-        let part = part_at(sizes, i);
-        out[i] = byte_of(recipe, draws, ordered, sizes, part);
-        i += 1;
-    }
-}
-
 // 30: g or t is not allowed.
+#[tactic(auto, using(std::proofs::lemmas::Bool::Decides::nat_tests), unfolding(crate::specs::Model::refused30))]
 fn refused(recipe: Recipe) -> bool
     ensures { result ≡ refused30 recipe }
 {
-    ((recipe.groups < 1) | (recipe.groups > GROUPS))
-        | ((recipe.tasks < recipe.groups) | (recipe.tasks > TASKS))
+    recipe.groups < 1
+        || recipe.groups > GROUPS
+        || recipe.tasks < recipe.groups
+        || recipe.tasks > TASKS
 }
 
 // Writes the plan that the seed gives, with these groups and tasks, from the first byte; refused (30, 15), nothing
 // changes.
-pub fn generate(seed: u32, groups: usize, tasks: usize, out: &mut [u8]) -> Written
+pub fn generate(seed: u32, groups: usize, tasks: usize, out: &mut [u8]) -> Result<usize, Refusal>
     ensures { Generates (record { seed = seed; groups = groups; tasks = tasks }) out.old (told result)
         out.new }
 {
@@ -105,7 +94,7 @@ pub fn generate(seed: u32, groups: usize, tasks: usize, out: &mut [u8]) -> Writt
         tasks,
     };
     if refused(recipe) {
-        return Written::Refused(30);
+        return Err(Refusal::BadRecipe);
     }
     let mut draws = [0u16; DRAWS];
     draw_all(seed, &mut draws);
@@ -119,8 +108,12 @@ pub fn generate(seed: u32, groups: usize, tasks: usize, out: &mut [u8]) -> Writt
     };
     let end = plan_length(sizes);
     if out.len() < end {
-        return Written::Refused(15);
+        return Err(Refusal::NoRoom);
     }
-    write_plan(recipe, &draws, &ordered, sizes, out);
-    Written::Length(end)
+    write_parts(
+        sizes,
+        out,
+        |part| byte_of(recipe, &draws, &ordered, sizes, part),
+    );
+    Ok(end)
 }

@@ -26,30 +26,6 @@ unfolding generated
 returns-in-Size c = rw c.in-Size.is
     (c.size_byte.ensures ∙ size_is c.requires.0 _)
 
-pub returns-in-Start : goal.returns-in-Start
-unfolding generated
-returns-in-Start c = rw c.in-Start.is
-
-pub returns-in-Name : goal.returns-in-Name
-unfolding generated
-returns-in-Name c = rw c.in-Name.is c.name_byte.ensures
-
-pub returns-in-Parent : goal.returns-in-Parent
-unfolding generated
-returns-in-Parent c = rw c.in-Parent.is c.parent_of.ensures
-
-pub returns-in-Kind : goal.returns-in-Kind
-unfolding generated
-returns-in-Kind c = rw c.in-Kind.is c.kind_of.ensures
-
-pub returns-in-Task : goal.returns-in-Task
-unfolding generated
-returns-in-Task c = rw c.in-Task.is
-
-pub returns-in-ValueLow : goal.returns-in-ValueLow
-unfolding generated
-returns-in-ValueLow c = rw c.in-ValueLow.is c.literal_of.ensures
-
 pub returns-in-ValueHigh : goal.returns-in-ValueHigh
 unfolding generated
 returns-in-ValueHigh c = rw c.in-ValueHigh.is (value_high _ _)
@@ -57,14 +33,12 @@ returns-in-ValueHigh c = rw c.in-ValueHigh.is (value_high _ _)
 pub returns-in-Earlier : goal.returns-in-Earlier
 unfolding generated
 returns-in-Earlier c =
-    let j = order_is_lem c.requires.0 _ (rw c.in-Earlier.is at c.requires.1) in
-    rw c.in-Earlier.is (omega (arith, j))
+    rw c.in-Earlier.is (omega (arith, order_is_lem c.requires.0 _ (rw c.in-Earlier.is at c.requires.1)))
 
 pub returns-in-Later : goal.returns-in-Later
 unfolding generated
 returns-in-Later c =
-    let j = order_is_lem c.requires.0 _ (rw c.in-Later.is at c.requires.1) in
-    rw c.in-Later.is (omega (arith, j))
+    rw c.in-Later.is (omega (arith, order_is_lem c.requires.0 _ (rw c.in-Later.is at c.requires.1)))
 
 pub bounds-ordered-j : goal.bounds-ordered-j
 bounds-ordered-j c =
@@ -72,8 +46,8 @@ bounds-ordered-j c =
 
 pub returns-in-MinutesLow : goal.returns-in-MinutesLow
 unfolding generated
-returns-in-MinutesLow c = let e = c.minutes_of.ensures in
-    rw c.in-MinutesLow.is (omega (arith, e, minutes_small c.args.recipe c.in-MinutesLow.n))
+returns-in-MinutesLow c =
+    rw c.in-MinutesLow.is (omega (arith, c.minutes_of.ensures, minutes_small c.args.recipe c.in-MinutesLow.n))
 
 pub returns-in-MinutesHigh : goal.returns-in-MinutesHigh
 unfolding generated

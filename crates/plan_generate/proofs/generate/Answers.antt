@@ -3,12 +3,13 @@ use mathlib.Core.Path.{◌≡◌, refl, sym, ap, ◌∙◌}
 use mathlib.Core.Bool.{false}
 use Prim.Native.Nat.{ℕ}
 use native.Mathlib.Omega.{arith}
+use Rattle.std.proofs.Common.{rules}
 use Rattle.base.specs.Answers.{overlay}
-use Rattle.plan_layout.specs.Fields.{byte_at}
+use Rattle.plan_layout.specs.Fields.{byte_in, byte_at}
 use Rattle.plan_generate.specs.Model.{generated, refused30}
 use Rattle.plan_draws.specs.declared.Recipe.{Recipe}
 use Rattle.plan_draws.specs.Drawn.{Allowed}
-use Rattle.plan_generate.proofs.Bytes.{sizes_fit, length_is, prepared}
+use Rattle.plan_generate.proofs.Bytes.{sizes_fit, length_is, prepared, limited, overlaid}
 use Rattle.plan_generate.proofs.Calls.{allowed, generates_30, generates_15, generates_plan}
 use Rattle.plan_generate.proofs.generate.Goals as goal
 use Rattle.plan_generate.proofs.generate.Goals.{Else-refused}
@@ -45,10 +46,11 @@ plan_length-end-requires c =
     let e = (goal.at.plan_length-end-requires c).Else-refused in
     sizes_fit (recipe e) c.find_orders-orders.ensures (ok e)
 
-pub write_plan-requires : goal.write_plan-requires
-write_plan-requires c =
-    let e = (goal.at.write_plan-requires c).Else-refused in
-    (prepared (recipe e) c.find_orders-orders.ensures (ok e) c.draw_all.ensures, omega arith)
+pub write_parts-requires : goal.write_parts-requires
+write_parts-requires c =
+    let e = (goal.at.write_parts-requires c).Else-refused in
+    let p = prepared (recipe e) c.find_orders-orders.ensures (ok e) c.draw_all.ensures in
+    (limited p, omega arith, λ q l. search rules)
 
 pub returns-then-out-end : goal.returns-then-out-end
 returns-then-out-end c =
@@ -61,5 +63,7 @@ returns c =
     let e = (goal.at.returns c).Else-refused in
     let n = length_is (recipe e) c.find_orders-orders.ensures c.plan_length-end.ensures in
     let m = length_is (recipe e) c.find_orders-orders.ensures refl in
+    let p = prepared (recipe e) c.find_orders-orders.ensures (ok e) c.draw_all.ensures in
     generates_plan (recipe e) _ (passes e) n (omega arith)
-    (c.write_plan.ensures ∙ ap (λ (k : ℕ). overlay (byte_at (generated (recipe e))) k c.args.out.now) m)
+    (c.write_parts.ensures (byte_in (generated (recipe e))) (λ q x l h. search rules)
+    ∙ overlaid p _ _ ∙ ap (λ (k : ℕ). overlay (byte_at (generated (recipe e))) k c.args.out.now) m)

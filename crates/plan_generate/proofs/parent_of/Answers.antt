@@ -10,10 +10,10 @@ pub returns-then-node-groups : goal.returns-then-node-groups
 returns-then-node-groups c = parent_group _ _ (omega arith) (omega arith)
 
 pub overflow_cast-result : goal.overflow_cast-result
-overflow_cast-result c = let a = c in omega (arith, turn a.args.groups a.args.node a.requires.0)
+overflow_cast-result c = omega (arith, turn c.args.groups c.args.node c.requires.0)
 
 pub overflow_add-result : goal.overflow_add-result
-overflow_add-result c = let a = c in omega (arith, turn a.args.groups a.args.node a.requires.0)
+overflow_add-result c = omega (arith, turn c.args.groups c.args.node c.requires.0)
 
 pub returns : goal.returns
 returns c = parent_task _ _ (omega arith)
