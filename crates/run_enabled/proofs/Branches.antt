@@ -35,22 +35,6 @@ use Rattle.base.proofs.Count.{some_counted, counted_some, count_others}
 use Rattle.run_enabled.specs.Enabling.{rival_at}
 use Rattle.run_enabled.proofs.Marks.{up_or_here}
 
--- the test, by what the function has at hand
-module _ (b s : List ℕ) (g n : ℕ) where
-  pub own_begun : (x : ℕ) → is_kind b g 1 ≡ false → begun_b (plan_of b) (status_in b s) n ≡ true
-      → x ≡ children_counted tallies.Begun b s g → (eqb (node_byte s g) 2 || ltb 1 x) ≡ rival_at b s g n
-  unfolding rival_at
-  own_begun x y z e = rw (y, z, e)
-
-  pub own_waits : (x : ℕ) → is_kind b g 1 ≡ false → begun_b (plan_of b) (status_in b s) n ≡ false
-      → x ≡ children_counted tallies.Begun b s g → (eqb (node_byte s g) 2 || ltb 0 x) ≡ rival_at b s g n
-  unfolding rival_at
-  own_waits x y z e = rw (y, z, e)
-
-  pub no_choice : is_kind b g 1 ≡ true → false ≡ rival_at b s g n
-  unfolding rival_at
-  no_choice y = rw y
-
 module _ (b s : List ℕ) (ok : state_refusal b s ≡ 0) where
   begins : (n : ℕ) → n < node_count b
       → Reflects (begun_b (plan_of b) (status_in b s) n) (Begun (plan_of b) (status_in b s) n)

@@ -24,26 +24,19 @@ use run_progress::{is_begun, is_complete};
 use tables::{Nodes, no_nodes};
 
 // The parent g of node n is an any-of or optional group, and another branch of it than n is begun; a skip begins the
-// one without tasks.
+// one without tasks. The begun children of g are counted, n with them.
+#[tactic(auto, unfolding(crate::specs::Enabling::rival_at, run_starts::specs::Starts::node_byte))]
 fn rival_begun(plan: &[u8], state: &[u8], begun: &Nodes, g: usize, n: usize) -> bool
     requires n_nonzero { (0 < n) × ((n < node_count plan.now)
         × ((g ≡ parent_of plan.now n) × (state_refusal plan.now state.now ≡ 0))) }
     requires counted { Counted Begun plan.now state.now begun.now }
     ensures { result ≡ rival_at plan.now state.now g n }
 {
-    if is_kind(plan, g, ALL_OF) {
-        return false;
-    }
     let skipped = state[8 + g] == DONE;
-    let own = is_begun(plan, state, begun, n);
-    let count = begun[g];
-    if own {
-        return skipped | (1 < count);
-    }
-    skipped | (0 < count)
+    !is_kind(plan, g, ALL_OF) && (skipped || u8::from(is_begun(plan, state, begun, n)) < begun[g])
 }
 
-// 19: walks up from the node.
+// 19: walks up from the node. A `while`: the walk ends at the root.
 pub fn branch_begun(plan: &[u8], state: &[u8], begun: &Nodes, node: usize) -> bool
     requires at_event { AtEvent plan.now state.now node }
     requires counted { Counted Begun plan.now state.now begun.now }
@@ -61,7 +54,7 @@ pub fn branch_begun(plan: &[u8], state: &[u8], begun: &Nodes, node: usize) -> bo
     false
 }
 
-// A mark at each node above the node, and at itself.
+// A mark at each node above the node, and at itself. A `while`: the walk ends at the root.
 pub fn path(plan: &[u8], node: usize) -> Nodes
     requires { (node < node_count plan.now) × (refusal plan.now ≡ 0) }
     ensures { (length result ≡ NODES) × ((a : ℕ) → a < NODES
@@ -78,6 +71,7 @@ pub fn path(plan: &[u8], node: usize) -> Nodes
 }
 
 // Order j applies to a node whose path is marked, and its earlier node is not complete.
+#[tactic(auto, unfolding(crate::specs::Enabling::open_at))]
 fn open_at(plan: &[u8], state: &[u8], ends: &Nodes, marks: &Nodes, j: usize) -> bool
     requires j_bound { (j < order_count plan.now) × (state_refusal plan.now state.now ≡ 0) }
     requires counted { Counted Ends plan.now state.now ends.now }
@@ -85,7 +79,7 @@ fn open_at(plan: &[u8], state: &[u8], ends: &Nodes, marks: &Nodes, j: usize) -> 
 {
     let a = usize::from(earlier(plan, j));
     let z = usize::from(later(plan, j));
-    (marks[z] == 1) & !is_complete(plan, state, ends, a)
+    marks[z] == 1 && !is_complete(plan, state, ends, a)
 }
 
 // 20: some order is open.
@@ -95,13 +89,5 @@ pub fn order_open(plan: &[u8], state: &[u8], ends: &Nodes, marks: &Nodes) -> boo
     ensures { result ≡ any_below (order_count plan.now)
         (open_at plan.now state.now marks.now) }
 {
-    let n = orders(plan);
-    let mut j = 0;
-    while j < n {
-        if open_at(plan, state, ends, marks, j) {
-            return true;
-        }
-        j += 1;
-    }
-    false
+    (0..orders(plan)).any(|j| open_at(plan, state, ends, marks, j))
 }

@@ -3,7 +3,6 @@ use Prim.Native.Nat.{◌<◌}
 use Rattle.plan_format.specs.Format.{node_count, earlier_of, later_of}
 use Rattle.run_state.proofs.Refused.{Roomy}
 use Rattle.run_state.proofs.Passed.{has_room}
-use Rattle.run_enabled.specs.Enabling.{open_at}
 use Rattle.run_enabled.proofs.Orders.{order_nodes}
 use native.Mathlib.Omega.{arith}
 use Rattle.run_enabled.proofs.open_at.Goals as goal
@@ -49,13 +48,3 @@ is_complete-requires c =
             (omega (arith, l, (room (goal.at.is_complete-requires c).Start).plan.fits.limits.nodes)),
       ),
     )
-
-pub returns : goal.returns
-unfolding open_at
-returns c = rw (
-  c.is_complete.ensures,
-  c.from-z.ensures,
-  c.later.ensures,
-  c.from-a.ensures,
-  c.earlier.ensures,
-)
