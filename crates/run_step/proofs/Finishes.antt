@@ -1,10 +1,12 @@
 -- The bytes that the finishes of a list leave, in one pass: the flags, then a 2 at each task. Assumes nothing.
-use mathlib.Core.Path.{◌≡◌, sym, ap, ◌∙◌}
+use mathlib.Core.Path.{◌≡◌, refl, sym, ap, ◌∙◌}
+use mathlib.Core.Logic.{by_cases}
+use native.Mathlib.Decide.{ℕ_discrete}
 use mathlib.Core.List.{List, [], ◌∷◌, ◌++◌}
 use Prim.Native.Nat.{ℕ, zero, suc, ◌+◌, ◌≤◌}
 use native.Mathlib.Omega.{arith}
 use lib.ListN.{length, take, drop, set, take-append-drop}
-use lib.Seq.{take_at, drop_at, length-take-le}
+use lib.Seq.{take_at, drop_at, length-take-le, set_comm}
 use Rattle.plan_rules.specs.Rules.{refusal}
 use Rattle.runs.specs.Plan.{post, place_number}
 use Rattle.runs.specs.Calls.{finishes, Rising}
@@ -29,15 +31,23 @@ set_past (y ∷ p) q (suc n) t x e =
     let k : suc n + t ≡ suc (n + t) = omega arith in
     rw k (ap (λ (l : List ℕ). y ∷ l) (set_past p q n t x (omega (arith, e))))
 
--- no task is done; one more is
+-- no task is done; one more is, in any order
 pub nothing_done : (z : List ℕ) → take 8 z ++ all_done_of [] (drop 8 z) ≡ z
 unfolding all_done_of
 nothing_done z = take-append-drop 8 z
 
-pub done_more : (z ts : List ℕ) (t : ℕ) → 8 ≤ length z
-    → take 8 z ++ all_done_of (t ∷ ts) (drop 8 z) ≡ set (take 8 z ++ all_done_of ts (drop 8 z)) (8 + t) 2
+either_first : (z : List ℕ) (t y : ℕ) → set (set z t 2) y 2 ≡ set (set z y 2) t 2
+either_first z t y = by_cases (ℕ_discrete t y) (λ (e : t ≡ y). rw e) (λ e. set_comm z t y 2 2 e)
+
+done_next : (ts : List ℕ) (t : ℕ) (z : List ℕ) → all_done_of (ts ++ t ∷ []) z ≡ set (all_done_of ts z) t 2
 unfolding all_done_of
-done_more z ts t l = sym (set_past (take 8 z) (all_done_of ts (drop 8 z)) 8 t 2 (length-take-le 8 z l))
+done_next [] t z = refl
+done_next (y ∷ ts) t z = ap (λ (l : List ℕ). set l y 2) (done_next ts t z) ∙ either_first (all_done_of ts z) t y
+
+pub done_more : (z ts : List ℕ) (t : ℕ) → 8 ≤ length z
+    → take 8 z ++ all_done_of (ts ++ t ∷ []) (drop 8 z) ≡ set (take 8 z ++ all_done_of ts (drop 8 z)) (8 + t) 2
+done_more z ts t l = ap (λ (y : List ℕ). take 8 z ++ y) (done_next ts t (drop 8 z))
+    ∙ sym (set_past (take 8 z) (all_done_of ts (drop 8 z)) 8 t 2 (length-take-le 8 z l))
 
 -- one finish more
 with_more : (b p q : List ℕ) (t : ℕ) → length p ≡ 8

@@ -53,9 +53,7 @@ pub fn write_finishes(plan: &[u8], state: &mut [u8], tasks: &[usize])
     let marks = mark_all(tasks);
     let next = with_literals(plan, POST, &marks, load(state));
     store(state, next);
-    let mut i = tasks.len();
-    while 0 < i {
-        i -= 1;
-        state[8 + tasks[i]] = DONE;
+    for t in tasks {
+        state[8 + *t] = DONE;
     }
 }

@@ -1,16 +1,16 @@
 -- `write_finishes` meets its contract. Assumes nothing.
 use mathlib.Core.Path.{◌≡◌, refl, sym, ap, ◌∙◌}
 use mathlib.Core.List.{List, ◌++◌}
-use Prim.Native.Nat.{ℕ, suc, ◌+◌, ◌≤◌, ◌<◌, ◌-◌}
+use Prim.Native.Nat.{ℕ, ◌+◌, ◌≤◌, ◌<◌}
 use lib.ListN.{length, get_or, take, drop, set, length-set}
-use lib.Seq.{drop-cons}
+use Rattle.std.proofs.lemmas.List.{take_all, take_more}
 use Rattle.plan_check.proofs.Meaning.{kind_is}
 use Rattle.runs.specs.Plan.{post, place_number}
 use Rattle.run_state.specs.Made.{made}
 use Rattle.run_state.proofs.Passed.{has_room}
 use Rattle.runs.specs.Searches.{listed}
 use Rattle.node_sets.specs.Sets.{Each}
-use Rattle.node_sets.proofs.Lists.{among_at, drop_none}
+use Rattle.node_sets.proofs.Lists.{among_at}
 use Rattle.run_step.proofs.Finishes.{all_done_of, nothing_done, done_more, all_written}
 use borrow.Author.Rules.{rules}
 use native.Mathlib.Omega.{arith}
@@ -41,53 +41,46 @@ stored c = rw (
 long : (c : After-store) → length c.store.new.state ≡ length c.args.state.now
 long c = search rules
 
-pub loop-i-init : goal.loop-i-init
-loop-i-init c =
-    let ts = c.args.tasks.now in
-    let z = c.store.new.state in
-    (omega arith, (refl, ap (λ (l : List ℕ). take 8 z ++ all_done_of l (drop 8 z)) (drop_none ts) ∙ nothing_done z))
+pub loop-t-init : goal.loop-t-init
+loop-t-init c = (refl, nothing_done c.store.new.state)
 
 -- the next task
 pub overflow_add-state : goal.overflow_add-state
-overflow_add-state c =
-    let s = (goal.at.overflow_add-state c).Start in
-    omega (arith, (inside s _ (among_at _ (c.loop-i.i - 1) (omega arith))).0)
+overflow_add-state c = omega (
+  arith,
+  (inside (goal.at.overflow_add-state c).Start _ (among_at _ c.loop-t.t-index c.loop-t-test.true)).0,
+)
 
-pub bounds-state-tasks : goal.bounds-state-tasks
-bounds-state-tasks c =
-    let p = goal.at.bounds-state-tasks c in
+pub bounds-state-t : goal.bounds-state-t
+bounds-state-t c =
+    let p = goal.at.bounds-state-t c in
     omega (
       arith,
-      (inside p.Start _ (among_at _ (c.loop-i.i - 1) (omega arith))).1,
-      c.loop-i.invariant.1.0,
+      (inside p.Start _ (among_at _ c.loop-t.t-index c.loop-t-test.true)).1,
+      c.loop-t.invariant.0,
       long p.After-store,
     )
 
-pub loop-i-preserved : goal.loop-i-preserved
-loop-i-preserved c =
-    let l = c.loop-i in
-    let p = goal.at.loop-i-preserved c in
+pub loop-t-preserved : goal.loop-t-preserved
+loop-t-preserved c =
+    let l = c.loop-t in
+    let p = goal.at.loop-t-preserved c in
     let ts = c.args.tasks.now in
-    let z = c.store.new.state in
-    let k : suc (l.i - 1) ≡ l.i = omega arith in (
-      omega arith,
-      (
-        length-set l.state _ 2 ∙ l.invariant.1.0,
-        ap (λ (x : List ℕ). take 8 z ++ all_done_of x (drop 8 z)) (rw k at (drop-cons ts (l.i - 1) 0 (omega arith)))
-            ∙ done_more z (drop l.i ts) _ (omega (arith, long p.After-store, room p.Start))
-            ∙ ap (λ (x : List ℕ). set x (8 + get_or ts (l.i - 1) 0) 2) l.invariant.1.1,
-      ),
+    let z = c.store.new.state in (
+      length-set l.state _ 2 ∙ l.invariant.0,
+      ap (λ (x : List ℕ). take 8 z ++ all_done_of x (drop 8 z)) (take_more ts l.t-index 0 c.loop-t-test.true)
+          ∙ done_more z (take l.t-index ts) _ (omega (arith, long p.After-store, room p.Start))
+          ∙ ap (λ (x : List ℕ). set x (8 + get_or ts l.t-index 0) 2) l.invariant.1,
     )
 
 pub shape_of-state : goal.shape_of-state
-shape_of-state c = c.loop-i.invariant.1.0 ∙ long (goal.at.shape_of-state c).After-store
+shape_of-state c = c.loop-t.invariant.0 ∙ long (goal.at.shape_of-state c).After-store
 
 pub returns : goal.returns
 returns c =
-    let l = c.loop-i in
+    let l = c.loop-t in
     let p = goal.at.returns c in
-    let e : l.i ≡ 0 = omega arith in
-    sym (rw e at l.invariant.1.1)
+    sym (rw (take_all l.t-index c.args.tasks.now (omega arith)) at l.invariant.1)
     ∙ all_written _ _ (has_room _ _ c.requires.passed).accepted (room p.Start) _ c.requires.rises _
     (stored p.After-store)
 
