@@ -12,7 +12,11 @@ use lib.Seq.{length-take-le}
 use borrow.Author.Tests.{lt-ltb, le-ltb, ne_eqb}
 use Rattle.base.specs.Answers.{refused_or}
 use Rattle.base.proofs.First.{first_some, both_none}
-use Rattle.answers.specs.declared.Written.TheVariants.{Refused, Length}
+use Rattle.std.specs.declared.result.Result.TheVariants.{Ok, Err}
+use Rattle.answers.specs.declared.Refusal.{Refusal}
+use Rattle.answers.specs.declared.Refusal.TheVariants.{NoRoom}
+use Rattle.answers.specs.Refusals.{number}
+use Rattle.answers.proofs.Refusals.{some_number}
 use Rattle.plan_rules.proofs.Limit.{refusal_limit}
 use Rattle.plan_rules.specs.Rules.{refusal}
 use Rattle.text_decimals.specs.Decimals.{written, Wrote}
@@ -49,16 +53,20 @@ module _ (b out : List ℕ) where
   unfolding listing_refusal
   refused_none e l = rw (e, le-ltb (length out) 2048 l)
 
-  refused_is : (r n : ℕ) → listing_refusal b out ≡ r → n ≡ r → (r ≡ 0 → ⊥) → Lists b out (Refused n) out
+  refused_is : (r : ℕ) (e : Refusal) → listing_refusal b out ≡ r → number e ≡ r → Lists b out (Err e) out
   unfolding listed_of listing_left
-  refused_is zero n e q h = absurd (h refl)
-  refused_is (suc r) n e q h = record { returns = rw (e, q); leaves = rw (e, ne_eqb (suc r) 0 h); text = listing_is b }
+  refused_is zero e q h = absurd (some_number e h)
+  refused_is (suc r) e q h = record {
+    returns = rw (q, h);
+    leaves = rw (q, ne_eqb (suc r) 0 (λ z. omega arith));
+    text = listing_is b;
+  }
 
-  pub lists_refused : {n : ℕ} → n ≡ refusal b → (refusal b ≡ 0 → ⊥) → Lists b out (Refused n) out
-  lists_refused {n} e h = refused_is (refusal b) n (refused_first h) e h
+  pub lists_refused : (e : Refusal) → number e ≡ refusal b → Lists b out (Err e) out
+  lists_refused e h = refused_is (refusal b) e (refused_first (λ z. some_number e (h ∙ z))) h
 
-  pub lists_short : refusal b ≡ 0 → length out < 2048 → Lists b out (Refused 15) out
-  lists_short e l = refused_is 15 15 (refused_short e l) refl (λ z. omega arith)
+  pub lists_short : refusal b ≡ 0 → length out < 2048 → Lists b out (Err NoRoom) out
+  lists_short e l = refused_is 15 NoRoom (refused_short e l) refl
 
   -- accepted
   left_text : listing_refusal b out ≡ 0 → listing_left b out ≡ written out 0 (text_of b)
@@ -70,7 +78,7 @@ module _ (b out : List ℕ) where
   left_out h = rw (ne_eqb (listing_refusal b out) 0 h)
 
   pub lists_text : {r : ℕ} {out' : List ℕ} → refusal b ≡ 0 → 2048 ≤ length out → Wrote out 0 (text_of b) r out'
-      → Lists b out (Length r) out'
+      → Lists b out (Ok r) out'
   unfolding listed_of
   lists_text {r} e l w =
       let z = refused_none e l in
@@ -82,21 +90,21 @@ module _ (b out : List ℕ) where
   unfolding listing_refusal
   accepted_plan e = (both_none (refusal b) (cond (ltb (length out) 2048) 15 0) e).0
 
-  pub text_answered : {r : ℕ} {out' : List ℕ} → Lists b out (Length r) out' → Wrote out 0 (printed b) r out'
+  pub text_answered : {r : ℕ} {out' : List ℕ} → Lists b out (Ok r) out' → Wrote out 0 (printed b) r out'
   unfolding listed_of
   text_answered {r} h =
       let w = said_value (listing_refusal b out) (length (text_of b)) r h.returns in
       wrote_same (printed_text b (accepted_plan w.0))
       (record { bytes = h.leaves ∙ left_text w.0; next = omega (arith, w.1) })
 
-  pub refused_answered : {n : ℕ} {out' : List ℕ} → 2048 ≤ length out → Lists b out (Refused n) out'
-      → (n ≤ 14) × (refused_text n ≡ printed b) × (out' ≡ out)
+  pub refused_answered : {n : ℕ} {e : Refusal} {out' : List ℕ} → n ≡ number e → 2048 ≤ length out
+      → Lists b out (Err e) out' → (n ≤ 14) × (refused_text n ≡ printed b) × (out' ≡ out)
   unfolding listed_of
-  refused_answered {n} l h =
-      let w = said_number (listing_refusal b out) n (length (text_of b)) h.returns in
+  refused_answered {n} {e} q l h =
+      let w = said_number (listing_refusal b out) n (length (text_of b)) (rw q h.returns) in
       let p : refusal b ≡ 0 → ⊥ = λ z. w.1 (refused_none z l) in
-      let e : n ≡ refusal b = w.0 ∙ refused_first p in
-      (omega (arith, refusal_limit b), ap refused_text e ∙ printed_refused b p, h.leaves ∙ left_out w.1)
+      let m : n ≡ refusal b = w.0 ∙ refused_first p in
+      (omega (arith, refusal_limit b), ap refused_text m ∙ printed_refused b p, h.leaves ∙ left_out w.1)
 
 -- ---- all that is printed fits too
 pub printed_fits : (b : List ℕ) → length (printed b) ≤ 1666

@@ -1,8 +1,9 @@
 -- What the listing call answers, and every byte that it leaves. Definitions only.
 use Rattle.std.specs.Prelude.{ℕ, ◌≤◌, ◌≡◌, ◌⊎◌, ◌↔◌, cond, List, eqb, ltb, length, take}
 use Rattle.base.specs.Answers.{first, refused_or}
-use Rattle.answers.specs.declared.Written.{Written}
-use Rattle.answers.specs.Written.{told}
+use Rattle.std.specs.declared.result.Result.{Result}
+use Rattle.answers.specs.declared.Refusal.{Refusal}
+use Rattle.answers.specs.Refusals.{told}
 use Rattle.plan_rules.specs.Rules.{refusal}
 use Rattle.text_decimals.specs.Decimals.{written, Wrote}
 use Rattle.text_listing.specs.Model.{text_of}
@@ -23,7 +24,7 @@ unfoldable pub listing_left : List ℕ → List ℕ → List ℕ
 listing_left b out = cond (eqb (listing_refusal b out) 0) (written out 0 (text_of b)) out
 
 -- a call answered and left these; 01's words hold of the text of an accepted plan, and of no other
-pub record Lists (b out : List ℕ) (r : Written) (out' : List ℕ) : Type 0 where
+pub record Lists (b out : List ℕ) (r : Result ℕ Refusal) (out' : List ℕ) : Type 0 where
   pub returns : told r ≡ listed_of b out
   pub leaves : out' ≡ listing_left b out
   pub text : refusal b ≡ 0 → (s : List ℕ) → IsListing b s ↔ (s ≡ text_of b)

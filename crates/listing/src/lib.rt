@@ -3,7 +3,7 @@
 
 ghost use Rattle.listing.specs.Listing.{Lists, Prints};
 
-use answers::Written;
+use answers::Refusal;
 use plan_check::check;
 use text_decimals::write_bytes;
 use text_lines::end_line;
@@ -13,29 +13,25 @@ use text_listing::write_listing;
 pub type Page = [u8; 2048];
 
 // Writes the listing from the first byte; refused (up to 15), nothing changes.
-pub fn listing(plan: &[u8], out: &mut [u8]) -> Written
+pub fn listing(plan: &[u8], out: &mut [u8]) -> Result<usize, Refusal>
     ensures { Lists plan.now out.old result out.new }
 {
-    let r = check(plan);
-    if r != 0 {
-        return Written::Refused(r);
-    }
+    check(plan)?;
     if out.len() < 2048 {
-        return Written::Refused(15);
+        return Err(Refusal::NoRoom);
     }
-    Written::Length(write_listing(plan, out))
+    Ok(write_listing(plan, out))
 }
 
 // Writes all that the program prints for these bytes, and answers how long it is.
 pub fn print(plan: &[u8], out: &mut Page) -> usize
     ensures { Prints plan.now out.old result out.new }
 {
-    let listed = listing(plan, out);
-    match listed {
-        Written::Refused(n) => {
-            let a = write_bytes(out, 0, b"REFUSED");
-            end_line(out, a, n)
+    match listing(plan, out) {
+        Ok(length) => length,
+        Err(refusal) => {
+            let at = write_bytes(out, 0, b"REFUSED");
+            end_line(out, at, u32::from(refusal))
         }
-        Written::Length(n) => n,
     }
 }

@@ -13,17 +13,17 @@ use Rattle.listing.proofs.print.Goals as goal
 pub end_line-requires : goal.end_line-requires
 end_line-requires c =
     let l : 2048 ≤ length c.args.out.now = search rules in
-    let w = refused_answered _ _ l c.in-Refused.ensures in
-    let b = c.write_bytes-a.ensures in
-    omega (arith, l, b.next, wrote_long b, ap length w.2, ending_limit c.in-Refused.n (omega (arith, w.0)))
+    let w = refused_answered _ _ c.from.ensures l c.in-Err.ensures in
+    let b = c.write_bytes-at.ensures in
+    omega (arith, l, b.next, wrote_long b, ap length w.2, ending_limit c.from.result (omega (arith, w.0)))
 
-pub returns-in-Refused : goal.returns-in-Refused
-returns-in-Refused c =
+pub returns-in-Err : goal.returns-in-Err
+returns-in-Err c =
     let l : 2048 ≤ length c.args.out.now = search rules in
-    let w = refused_answered _ _ l c.in-Refused.ensures in
-    prints _ l (wrote_same (refused_is _ ∙ w.1) (wrote_then (rw w.2 at c.write_bytes-a.ensures) c.end_line.ensures))
+    let w = refused_answered _ _ c.from.ensures l c.in-Err.ensures in
+    prints _ l (wrote_same (refused_is _ ∙ w.1) (wrote_then (rw w.2 at c.write_bytes-at.ensures) c.end_line.ensures))
 
-pub returns-in-Length : goal.returns-in-Length
-returns-in-Length c =
+pub returns-in-Ok : goal.returns-in-Ok
+returns-in-Ok c =
     let l : 2048 ≤ length c.args.out.now = search rules in
-    prints _ l (text_answered _ _ c.in-Length.ensures)
+    prints _ l (text_answered _ _ c.in-Ok.ensures)
