@@ -77,14 +77,14 @@ module _ (b c : List ℕ) where
   start_of k = rw (le-leb 0 (max (flag_count b) (flag_count c)) (omega arith))
 
   -- the new root
-  pub hull_kind : (merged_fields b c).kind 0 ≡ 1
-  hull_kind = turn_first 1 0 _ _ (omega arith)
+  pub root_kind : (merged_fields b c).kind 0 ≡ 1
+  root_kind = turn_first 1 0 _ _ (omega arith)
 
-  pub hull_parent : (merged_fields b c).parent 0 ≡ 255
-  hull_parent = turn_first 1 0 _ _ (omega arith)
+  pub root_parent : (merged_fields b c).parent 0 ≡ 255
+  root_parent = turn_first 1 0 _ _ (omega arith)
 
-  pub hull_minutes : (merged_fields b c).minutes 0 ≡ 0
-  hull_minutes = turn_first 1 0 _ _ (omega arith)
+  pub root_minutes : (merged_fields b c).minutes 0 ≡ 0
+  root_minutes = turn_first 1 0 _ _ (omega arith)
 
   pub hull_name_lem : (k : ℕ) → k < 4 → (merged_fields b c).name k ≡ get_or hull_name k 0
   hull_name_lem k l = turn_first 4 k _ _ l

@@ -25,7 +25,7 @@ use Rattle.plan_layout.specs.Fields.{Fields, Laid}
 use Rattle.plan_parts.specs.Read.{fields_of}
 use Rattle.plan_merge.specs.Model.{merged_sizes, merged_fields}
 use Rattle.plan_merge.specs.Inner.{Mergeable}
-use Rattle.plan_merge.proofs.Fields.{Contains, contains_first, contains_second, hull_kind}
+use Rattle.plan_merge.proofs.Fields.{Contains, contains_first, contains_second, root_kind}
 use Rattle.plan_merge.proofs.Valid.{Half, first_half, second_half, half_of}
 use Rattle.plan_merge.proofs.Bytes.{whole_first, whole_second}
 use Rattle.plan_merge.proofs.Sentences.{merged_accepted, starts_first, starts_second}
@@ -162,7 +162,7 @@ module _ (b c : List ℕ) (ok : Mergeable b c) (m : List ℕ) (l : Laid m (merge
   unfolding plan_of
   plans_merged = record {
     size = omega (arith, l.nodes);
-    root = kind_all_of _ (l.kind 0 (omega arith) ∙ hull_kind b c);
+    root = kind_all_of _ (l.kind 0 (omega arith) ∙ root_kind b c);
     first = tree_at m _ l b 1 0 0 (contains_first b c) (whole_first b c ok).limits.some_node (omega arith)
         (omega (arith, l.flags)) (starts_first b c ok m l);
     second = tree_at m _ l c past _ _ (contains_second b c) (whole_second b c ok).limits.some_node (omega arith)

@@ -24,8 +24,8 @@ use Rattle.plan_layout.proofs.Starts.{start_bytes}
 use Rattle.plan_parts.specs.Read.{fields_of}
 use Rattle.plan_merge.specs.Sentences.{shifted_parent, NodeShifted, shifted_conditions, shifted_orders, IsMerged}
 use Rattle.plan_merge.specs.Model.{merged_sizes, merged_fields}
-use Rattle.plan_merge.proofs.Fields.{Contains, contains_first, contains_second, hull_kind, hull_parent}
-use Rattle.plan_merge.proofs.Fields.{hull_minutes, hull_name_lem}
+use Rattle.plan_merge.proofs.Fields.{Contains, contains_first, contains_second, root_kind, root_parent}
+use Rattle.plan_merge.proofs.Fields.{root_minutes, hull_name_lem}
 use Rattle.plan_merge.proofs.Valid.{NodeSource, new_root, of_first, of_second, source_of, Half, first_half, second_half}
 use Rattle.plan_merge.proofs.Valid.{half_of}
 use Rattle.plan_merge.proofs.Counts.{condition_count, order_count_lem, merged_long}
@@ -61,9 +61,9 @@ module _ (b c m : List ℕ) (h : IsMerged b c m) where
       hull_name_lem b c 2 (omega arith),
       hull_name_lem b c 3 (omega arith),
     );
-    its_parent = r.its_parent ∙ sym (hull_parent b c);
-    its_kind = r.its_kind ∙ sym (hull_kind b c);
-    its_minutes = r.its_minutes ∙ sym (hull_minutes b c);
+    its_parent = r.its_parent ∙ sym (root_parent b c);
+    its_kind = r.its_kind ∙ sym (root_kind b c);
+    its_minutes = r.its_minutes ∙ sym (root_minutes b c);
   }
 
   module _ (d : List ℕ) (s i j : ℕ) (w : Contains (merged_fields b c) (fields_of d) s i j)

@@ -26,7 +26,7 @@ use Rattle.plan_layout.proofs.Sections.{laid_bytes_lem}
 use Rattle.plan_layout.proofs.Accepted.{accepted}
 use Rattle.plan_parts.specs.Read.{sizes_of}
 use Rattle.plan_parts.specs.Joined.{joined_sizes}
-use Rattle.plan_merge.specs.Model.{hull_sizes, merged_sizes, refused33, refused34, pair_refusal, merge_refusal}
+use Rattle.plan_merge.specs.Model.{root_sizes, merged_sizes, refused33, refused34, pair_refusal, merge_refusal}
 use Rattle.plan_merge.specs.Model.{merge_answer}
 use Rattle.plan_merge.specs.Calls.{Merges}
 use Rattle.plan_merge.specs.Rows.{grid_fields, grid_bytes, AllLimited, sizes_for, at_limits}
@@ -122,7 +122,7 @@ module _ (x : ℕ) (s : Sizes) (g : Gridded s) where
 
 -- ---- two of them
 abbrev sizes_together : Sizes → Sizes → Sizes
-sizes_together s t = joined_sizes hull_sizes (joined_sizes s t)
+sizes_together s t = joined_sizes root_sizes (joined_sizes s t)
 
 unfoldable too_large_plan : Sizes → Bool
 too_large_plan s = (ltb 128 s.nodes || ltb 1024 s.conditions) || ltb 512 s.orders
@@ -135,8 +135,8 @@ module _ (x y : ℕ) (s t : Sizes) (g : Gridded s) (h : Gridded t) where
   c = grid_bytes y t
 
   sizes_are : merged_sizes b c ≡ sizes_together s t
-  sizes_are = ap (λ (z : Sizes). joined_sizes hull_sizes (joined_sizes z (sizes_of c))) (grid_sizes x s g)
-      ∙ ap (λ (z : Sizes). joined_sizes hull_sizes (joined_sizes s z)) (grid_sizes y t h)
+  sizes_are = ap (λ (z : Sizes). joined_sizes root_sizes (joined_sizes z (sizes_of c))) (grid_sizes x s g)
+      ∙ ap (λ (z : Sizes). joined_sizes root_sizes (joined_sizes s z)) (grid_sizes y t h)
 
   large_is : refused33 b c ≡ too_large_plan (sizes_together s t)
   unfolding refused33 too_large_plan

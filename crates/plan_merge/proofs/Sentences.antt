@@ -24,8 +24,8 @@ use Rattle.plan_merge.specs.Sentences.{hull_name, shifted_parent, NodeShifted, s
 use Rattle.plan_merge.specs.Sentences.{IsMerged}
 use Rattle.plan_merge.specs.Model.{merged_fields, refused34}
 use Rattle.plan_merge.specs.Inner.{Mergeable}
-use Rattle.plan_merge.proofs.Fields.{Contains, contains_first, contains_second, start_of, hull_kind, hull_parent}
-use Rattle.plan_merge.proofs.Fields.{hull_minutes, hull_name_lem}
+use Rattle.plan_merge.proofs.Fields.{Contains, contains_first, contains_second, start_of, root_kind, root_parent}
+use Rattle.plan_merge.proofs.Fields.{root_minutes, hull_name_lem}
 use Rattle.plan_merge.proofs.Bytes.{whole_first, whole_second, valid}
 
 -- ---- what the bytes m carry of a plan d, whose nodes begin at s, its conditions at c, its orders at k
@@ -101,9 +101,9 @@ module _ (b c : List ℕ) (ok : Mergeable b c) (m : List ℕ) (l : Laid m (merge
       root_char_lem 2 (omega arith),
       root_char_lem 3 (omega arith),
     );
-    its_parent = l.parent 0 (omega arith) ∙ hull_parent b c;
-    its_kind = l.kind 0 (omega arith) ∙ hull_kind b c;
-    its_minutes = l.minutes 0 (omega arith) ∙ hull_minutes b c;
+    its_parent = l.parent 0 (omega arith) ∙ root_parent b c;
+    its_kind = l.kind 0 (omega arith) ∙ root_kind b c;
+    its_minutes = l.minutes 0 (omega arith) ∙ root_minutes b c;
   }
 
   -- ---- conditions and orders: those of the first, then those of the second

@@ -13,12 +13,12 @@ use Rattle.plan_parts.specs.Joined.{joined_sizes, joined_fields, shifted_fields}
 use Rattle.plan_merge.specs.Sentences.{hull_name}
 
 -- the new root alone: one all-of node, no flags
-abbrev pub hull_sizes : Sizes
-hull_sizes = record { nodes = 1; conditions = 0; orders = 0; flags = 0 }
+abbrev pub root_sizes : Sizes
+root_sizes = record { nodes = 1; conditions = 0; orders = 0; flags = 0 }
 
-abbrev pub hull : Fields
-hull = record {
-  sizes = hull_sizes;
+abbrev pub root_fields : Fields
+root_fields = record {
+  sizes = root_sizes;
   start = λ k. 0;
   name = λ k. get_or hull_name k 0;
   parent = λ n. 255;
@@ -32,10 +32,10 @@ hull = record {
 
 module _ (b c : List ℕ) where
   abbrev pub merged_sizes : Sizes
-  merged_sizes = joined_sizes hull_sizes (joined_sizes (sizes_of b) (sizes_of c))
+  merged_sizes = joined_sizes root_sizes (joined_sizes (sizes_of b) (sizes_of c))
 
   abbrev pub merged_fields : Fields
-  merged_fields = joined_fields hull
+  merged_fields = joined_fields root_fields
       (joined_fields (shifted_fields 1 (fields_of b)) (shifted_fields (1 + node_count b) (fields_of c)))
 
   -- 33: a size passes its limit

@@ -1,27 +1,26 @@
 // Merged plans (02: pooled books).
 #![tactic(auto)]
 
-ghost use Rattle.std.specs.Prelude.{◌≡◌, true, ◌≤◌, length};
-ghost use Rattle.base.specs.Answers.{overlay};
-ghost use Rattle.answers.specs.Written.{told};
+ghost use Rattle.std.specs.Prelude.{◌≡◌, true, ◌||◌, ltb};
+ghost use Rattle.answers.specs.Refusals.{told};
 ghost use Rattle.plan_format.specs.Whole.{Whole};
-ghost use Rattle.plan_layout.specs.Layout.{plan_length, PartOf};
-ghost use Rattle.plan_layout.specs.Fields.{byte_in, byte_at};
+ghost use Rattle.plan_layout.specs.Layout.{PartOf};
+ghost use Rattle.plan_layout.specs.Fields.{byte_in};
 ghost use Rattle.plan_parts.specs.Joined.{has_part};
-ghost use Rattle.plan_merge.specs.Model.{hull_sizes, merged_sizes, merged_fields, refused34};
+ghost use Rattle.plan_merge.specs.Model.{root_sizes, merged_sizes, merged_fields, refused34};
 ghost use Rattle.plan_merge.specs.Inner.{Mergeable};
 ghost use Rattle.plan_merge.specs.Calls.{Merges};
 
-use answers::Written;
+use answers::Refusal;
 use base::kinds::ALL_OF;
 use plan_check::check;
 use plan_format::fields::{flags, start_flag};
-use plan_layout::{Part, Sizes, part_at, plan_length, size_byte};
+use plan_layout::{Part, Sizes, plan_length, size_byte, write_parts};
 use plan_parts::{has_part, joined_sizes, part_after, part_byte, sizes_of};
 
 // The new root alone.
-fn hull_sizes() -> Sizes
-    ensures { result ≡ hull_sizes }
+fn root_sizes() -> Sizes
+    ensures { result ≡ root_sizes }
 {
     Sizes {
         nodes: 1,
@@ -36,23 +35,21 @@ fn starts_apart(first: &[u8], second: &[u8]) -> bool
     requires { Whole first.now × Whole second.now }
     ensures { result ≡ refused34 first.now second.now }
 {
-    let here = flags(first);
-    let there = flags(second);
-    let end = if here <= there { here } else { there };
-    let mut f = 0;
-    while f < end {
-        if start_flag(first, f) != start_flag(second, f) {
-            return true;
-        }
-        f += 1;
-    }
-    false
+    let shared = flags(first).min(flags(second));
+    (0..shared).any(|f| start_flag(first, f) != start_flag(second, f))
+}
+
+// 33: a size passes its limit.
+fn too_large(sizes: Sizes) -> bool
+    ensures { result ≡ ((ltb 128 sizes.nodes || ltb 1024 sizes.conditions) || ltb 512 sizes.orders) }
+{
+    sizes.nodes > 128 || sizes.conditions > 1024 || sizes.orders > 512
 }
 
 // A byte of the sizes, of the start flags (those of the plan with more flags) or of HULL.
 fn new_byte(first: &[u8], second: &[u8], sizes: Sizes, part: Part) -> u8
     requires { Mergeable first.now second.now × (sizes ≡ merged_sizes first.now second.now)
-        × (has_part hull_sizes part ≡ true) }
+        × (has_part root_sizes part ≡ true) }
     ensures { result ≡ byte_in (merged_fields first.now second.now) part }
 {
     match part {
@@ -67,13 +64,12 @@ fn new_byte(first: &[u8], second: &[u8], sizes: Sizes, part: Part) -> u8
         Part::Name(k) => b"HULL"[k],
         Part::Parent(_) => 255,
         Part::Kind(_) => ALL_OF,
-        Part::MinutesLow(_) => 0,
-        Part::MinutesHigh(_) => 0,
-        Part::Task(_) => 0,
-        Part::ValueLow(_) => 0,
-        Part::ValueHigh(_) => 0,
-        Part::Earlier(_) => 0,
-        Part::Later(_) => 0,
+        Part::MinutesLow(_) | Part::MinutesHigh(_) => 0,
+        Part::Task(_)
+        | Part::ValueLow(_)
+        | Part::ValueHigh(_)
+        | Part::Earlier(_)
+        | Part::Later(_) => 0,
     }
 }
 
@@ -83,11 +79,11 @@ fn byte_of(first: &[u8], second: &[u8], sizes: Sizes, part: Part) -> u8
         × PartOf (merged_sizes first.now second.now) part }
     ensures { result ≡ byte_in (merged_fields first.now second.now) part }
 {
-    let hull = hull_sizes();
-    if has_part(hull, part) {
+    let root = root_sizes();
+    if has_part(root, part) {
         return new_byte(first, second, sizes, part);
     }
-    let below = part_after(hull, part);
+    let below = part_after(root, part);
     let before = sizes_of(first);
     if has_part(before, below) {
         return part_byte(first, 1, below);
@@ -96,50 +92,27 @@ fn byte_of(first: &[u8], second: &[u8], sizes: Sizes, part: Part) -> u8
     part_byte(second, 1 + before.nodes as u8, own)
 }
 
-// Writes the merged plan from the first byte.
-fn write_plan(first: &[u8], second: &[u8], sizes: Sizes, out: &mut [u8])
-    requires { Mergeable first.now second.now × (sizes ≡ merged_sizes first.now second.now)
-        × (plan_length sizes ≤ length out.old) }
-    ensures { out.new ≡ overlay (byte_at (merged_fields first.now second.now))
-        (plan_length sizes) out.old }
-{
-    let end = plan_length(sizes);
-    let mut i = 0;
-    while i < end {
-        let part = part_at(sizes, i);
-        out[i] = byte_of(first, second, sizes, part);
-        i += 1;
-    }
-}
-
 // Writes the plan merged from two from the first byte; refused (1 to 14 of the first, then of the second, 33, 34, 15),
 // nothing changes.
-pub fn merge(first: &[u8], second: &[u8], out: &mut [u8]) -> Written
-    ensures { Merges first.now second.now out.old (told result)
-        out.new }
+pub fn merge(first: &[u8], second: &[u8], out: &mut [u8]) -> Result<usize, Refusal>
+    ensures { Merges first.now second.now out.old (told result) out.new }
 {
-    let one = check(first);
-    if one != 0 {
-        return Written::Refused(one);
-    }
-    let other = check(second);
-    if other != 0 {
-        return Written::Refused(other);
-    }
+    check(first)?;
+    check(second)?;
     let sizes = joined_sizes(
-        hull_sizes(),
+        root_sizes(),
         joined_sizes(sizes_of(first), sizes_of(second)),
     );
-    if ((sizes.nodes > 128) | (sizes.conditions > 1024)) | (sizes.orders > 512) {
-        return Written::Refused(33);
+    if too_large(sizes) {
+        return Err(Refusal::MergedSizes);
     }
     if starts_apart(first, second) {
-        return Written::Refused(34);
+        return Err(Refusal::StartsApart);
     }
     let end = plan_length(sizes);
     if out.len() < end {
-        return Written::Refused(15);
+        return Err(Refusal::NoRoom);
     }
-    write_plan(first, second, sizes, out);
-    Written::Length(end)
+    write_parts(sizes, out, |part| byte_of(first, second, sizes, part));
+    Ok(end)
 }
