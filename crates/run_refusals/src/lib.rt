@@ -8,12 +8,14 @@ ghost use Rattle.runs.specs.Execution as execution;
 ghost use Rattle.runs.specs.Calls.{asks, together};
 ghost use Rattle.runs.specs.Numbers.{status_byte};
 ghost use Rattle.run_state.specs.Inner.{AtEvent, state_refusal};
+ghost use Rattle.answers.specs.Refusals.{returned};
 ghost use Rattle.run_progress.specs.Progress.{Counted};
 ghost use Rattle.run_progress.specs.declared.Tally.TheVariants.{Begun};
 ghost use Rattle.run_refusals.specs.Inner.{event_of, event_place, Refuses, RefusesEvent};
 ghost use Rattle.node_sets.specs.Sets.{marked};
 ghost use Rattle.run_refusals.specs.Parts.{tree_refusal, begin_refusal};
 
+use answers::Refusal;
 use base::kinds::{OPTIONAL, TASK};
 use base::places::{INC, POST, PRE};
 use base::statuses::{RUNNING, WAITING};
@@ -53,120 +55,134 @@ fn asked(m: Move) -> u8
     }
 }
 
-// Refusals 19 and 20, or 0; 19 also tells a node that does not stand.
-fn tree_refused(plan: &[u8], state: &[u8], standing: &Nodes, begun: &Nodes, node: usize) -> u32
+// Refusals 19 and 20; 19 also tells a node that does not stand.
+fn tree_refused(
+    plan: &[u8],
+    state: &[u8],
+    standing: &Nodes,
+    begun: &Nodes,
+    node: usize,
+) -> Result<(), Refusal>
     requires at_event { AtEvent plan.now state.now node }
     requires counted { Counted Begun plan.now state.now begun.now }
-    ensures { result ≡ tree_refusal plan.now state.now node
+    ensures { returned result ≡ tree_refusal plan.now state.now node
         (marked standing.now node) }
 {
-    if standing[node] != 1 {
-        return 19;
-    }
-    if branch_begun(plan, state, begun, node) {
-        return 19;
+    if standing[node] != 1 || branch_begun(plan, state, begun, node) {
+        return Err(Refusal::OtherBranch);
     }
     let ends = children(plan, state, Tally::Ends);
     let marks = path(plan, node);
     if order_open(plan, state, &ends, &marks) {
-        return 20;
+        return Err(Refusal::OrderOpen);
     }
-    0
+    Ok(())
 }
 
-// Refusals 19 to 21 of a start, or 0.
-fn start_refused(plan: &[u8], state: &[u8], standing: &Nodes, task: usize) -> u32
+// Refusals 19 to 21 of a start.
+fn start_refused(plan: &[u8], state: &[u8], standing: &Nodes, task: usize) -> Result<(), Refusal>
     requires { AtEvent plan.now state.now task }
-    ensures { result ≡ begin_refusal plan.now state.now (execution.start task)
+    ensures { returned result ≡ begin_refusal plan.now state.now (execution.start task)
         (marked standing.now task) }
 {
     let begun = children(plan, state, Tally::Begun);
-    let r = tree_refused(plan, state, standing, &begun, task);
-    if r != 0 {
-        return r;
-    }
+    tree_refused(plan, state, standing, &begun, task)?;
     let own = mark_one(task);
     if unmet(plan, PRE, &own, load(state)) {
-        21
+        Err(Refusal::Unmet)
     } else {
-        0
+        Ok(())
     }
 }
 
-// Refusals 19 to 21, which are asked of a start only, or 0.
-fn begin_refused(plan: &[u8], state: &[u8], standing: &Nodes, m: Move, task: usize) -> u32
+// Refusals 19 to 21, which are asked of a start only.
+fn begin_refused(
+    plan: &[u8],
+    state: &[u8],
+    standing: &Nodes,
+    m: Move,
+    task: usize,
+) -> Result<(), Refusal>
     requires { AtEvent plan.now state.now task }
-    ensures { result ≡ begin_refusal plan.now state.now (event_of m task)
+    ensures { returned result ≡ begin_refusal plan.now state.now (event_of m task)
         (marked standing.now task) }
 {
     match m {
         Move::Start => start_refused(plan, state, standing, task),
-        Move::Finish => 0,
+        Move::Finish => Ok(()),
     }
 }
 
-// Refusals 17 to 22 of a move, or 0.
-pub fn refused(plan: &[u8], state: &[u8], standing: &Nodes, m: Move, task: usize) -> u32
+// Refusals 17 to 22 of a move.
+pub fn refused(
+    plan: &[u8],
+    state: &[u8],
+    standing: &Nodes,
+    m: Move,
+    task: usize,
+) -> Result<(), Refusal>
     requires { state_refusal plan.now state.now ≡ 0 }
     ensures { RefusesEvent plan.now state.now standing.now
-        (event_of m task) result }
+        (event_of m task) (returned result) }
 {
     if !is_kind(plan, task, TASK) {
-        return 17;
+        return Err(Refusal::NoSuchNode);
     }
     if state[8 + task] != asked(m) {
-        return 18;
+        return Err(Refusal::WrongStatus);
     }
-    let r = begin_refused(plan, state, standing, m, task);
-    if r != 0 {
-        return r;
-    }
+    begin_refused(plan, state, standing, m, task)?;
     let own = mark_one(task);
     if inc_broken(plan, state, asserted_place(m), &own) {
-        return 22;
+        return Err(Refusal::Broken);
     }
-    0
+    Ok(())
 }
 
-// Refusals 27 and 18 to 20 of a skip, or 0.
-pub fn skip_refused(plan: &[u8], state: &[u8], standing: &Nodes, group: usize) -> u32
+// Refusals 27 and 18 to 20 of a skip.
+pub fn skip_refused(
+    plan: &[u8],
+    state: &[u8],
+    standing: &Nodes,
+    group: usize,
+) -> Result<(), Refusal>
     requires { state_refusal plan.now state.now ≡ 0 }
     ensures { RefusesEvent plan.now state.now standing.now
-        (execution.skip group) result }
+        (execution.skip group) (returned result) }
 {
     if !is_kind(plan, group, OPTIONAL) {
-        return 27;
+        return Err(Refusal::NotOptional);
     }
     let begun = children(plan, state, Tally::Begun);
     if is_begun(plan, state, &begun, group) {
-        18
+        Err(Refusal::WrongStatus)
     } else {
         tree_refused(plan, state, standing, &begun, group)
     }
 }
 
-// Refusals 25, 17, 18, 26 and 22 of several finishes in one step, or 0. What the tasks leave must all be true after it
+// Refusals 25, 17, 18, 26 and 22 of several finishes in one step. What the tasks leave must all be true after it
 // (26); of the others that run, none has a hold turned (22).
-pub fn together_refused(plan: &[u8], state: &[u8], tasks: &[usize]) -> u32
+pub fn together_refused(plan: &[u8], state: &[u8], tasks: &[usize]) -> Result<(), Refusal>
     requires { state_refusal plan.now state.now ≡ 0 }
-    ensures { Refuses plan.now state.now (together tasks.now) result }
+    ensures { Refuses plan.now state.now (together tasks.now) (returned result) }
 {
     if not_rising(tasks) {
-        return 25;
+        return Err(Refusal::TasksFall);
     }
     if no_task(plan, tasks) {
-        return 17;
+        return Err(Refusal::NoSuchNode);
     }
     if not_running(state, tasks) {
-        return 18;
+        return Err(Refusal::WrongStatus);
     }
     let marks = mark_all(tasks);
     let next = with_literals(plan, POST, &marks, load(state));
     if unmet(plan, POST, &marks, next) {
-        return 26;
+        return Err(Refusal::Opposed);
     }
     if inc_broken(plan, state, POST, &marks) {
-        return 22;
+        return Err(Refusal::Broken);
     }
-    0
+    Ok(())
 }

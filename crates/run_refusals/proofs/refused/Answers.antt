@@ -2,6 +2,8 @@
 use mathlib.Core.Path.{◌≡◌, sym, ap, ◌∙◌}
 use mathlib.Core.Bool.{true, false}
 use Prim.Native.Nat.{◌<◌}
+use Rattle.std.proofs.lemmas.Result.{err_from_is_err_and}
+use Rattle.answers.proofs.Refusals.{some_number}
 use Rattle.plan_format.specs.Format.{node_count, is_kind}
 use Rattle.plan_check.specs.Meaning.{plan_of}
 use Rattle.plan_check.proofs.Meaning.{kind_is}
@@ -21,7 +23,7 @@ use Rattle.run_refusals.proofs.OfKind.{broken_by}
 use Rattle.run_refusals.proofs.Answers.{answer_17, answer_18, answer_begin, answer_broken}
 use native.Mathlib.Omega.{arith}
 use Rattle.run_refusals.proofs.refused.Goals as goal
-use Rattle.run_refusals.proofs.refused.Goals.{After-asked, After-inc_broken, Else-not-is_kind, Else-r-ne0}
+use Rattle.run_refusals.proofs.refused.Goals.{After-asked, After-inc_broken, Else-not-is_kind, In_ok-begin_refused}
 use Rattle.run_refusals.proofs.refused.Goals.{Else-state-task}
 
 is_task : (c : Else-not-is_kind) → is_kind c.args.plan.now c.args.task 0 ≡ true
@@ -41,10 +43,10 @@ unfolding node_byte
 as_asked c = let a = c.args in
     c.if-state-task.false ∙ c.asked.ensures ∙ ap (λ (q : Status). status_byte q) (asks_of a.m a.task)
 
-begun : (c : Else-r-ne0) → let a = c.args in
+begun : (c : In_ok-begin_refused) → let a = c.args in
     begin_refusal a.plan.now a.state.now (event_of a.m a.task) (marked a.standing.now a.task)
     ≡ 0
-begun c = sym c.begin_refused-r.ensures ∙ c.if-r-ne0.false
+begun c = sym c.in_ok-begin_refused.ensures
 
 broken : (c : After-inc_broken) → let a = c.args in
     inc_broken_b (plan_of a.plan.now) (status_in a.plan.now a.state.now) (event_of a.m a.task) ≡ c.inc_broken.result
@@ -79,19 +81,20 @@ returns-then-state-task c xs u h =
     answer_18 _ xs _ u a.task _ (node_of_lem a.m a.task) (task_event a.m a.task)
     (is_task p.Else-not-is_kind) (λ z. c.if-state-task.true (z ∙ sym (asked_is p.After-asked)))
 
-pub begin_refused-r-requires : goal.begin_refused-r-requires
-begin_refused-r-requires c = record {
-  node = task_below (goal.at.begin_refused-r-requires c).Else-not-is_kind;
+pub begin_refused-requires : goal.begin_refused-requires
+begin_refused-requires c = record {
+  node = task_below (goal.at.begin_refused-requires c).Else-not-is_kind;
   passed = c.requires;
 }
 
-pub returns-then-r-ne0 : goal.returns-then-r-ne0
-returns-then-r-ne0 c xs u h =
+pub returns-in_err-begin_refused : goal.returns-in_err-begin_refused
+returns-in_err-begin_refused c xs u h =
     let a = c.args in
-    let p = goal.at.returns-then-r-ne0 c in
-    answer_begin _ xs _ u a.task _ (node_of_lem a.m a.task) (task_event a.m a.task)
+    let p = goal.at.returns-in_err-begin_refused c in
+    let r = err_from_is_err_and c.from_residual.result c.from_residual.ensures.1 in
+    rw (r.1, r.2) (answer_begin _ xs _ u a.task _ (node_of_lem a.m a.task) (task_event a.m a.task)
     (is_task p.Else-not-is_kind) (as_asked p.Else-state-task) h _
-    c.begin_refused-r.ensures c.if-r-ne0.true
+    c.in_err-begin_refused.ensures (some_number _))
 
 pub mark_one-own-requires : goal.mark_one-own-requires
 mark_one-own-requires c =
@@ -104,7 +107,7 @@ returns-then-inc_broken c xs u h =
     let a = c.args in
     let p = goal.at.returns-then-inc_broken c in
     answer_broken _ xs _ u a.task _ (node_of_lem a.m a.task) (task_event a.m a.task)
-    (is_task p.Else-not-is_kind) (as_asked p.Else-state-task) h (begun p.Else-r-ne0) true
+    (is_task p.Else-not-is_kind) (as_asked p.Else-state-task) h (begun p.In_ok-begin_refused) true
     (broken p.After-inc_broken ∙ c.if-inc_broken.true)
 
 pub returns : goal.returns
@@ -112,7 +115,7 @@ returns c xs u h =
     let a = c.args in
     let p = goal.at.returns c in
     answer_broken _ xs _ u a.task _ (node_of_lem a.m a.task) (task_event a.m a.task)
-    (is_task p.Else-not-is_kind) (as_asked p.Else-state-task) h (begun p.Else-r-ne0) false
+    (is_task p.Else-not-is_kind) (as_asked p.Else-state-task) h (begun p.In_ok-begin_refused) false
     (broken p.After-inc_broken ∙ c.if-inc_broken.false)
 
 pub is_kind-requires : goal.is_kind-requires

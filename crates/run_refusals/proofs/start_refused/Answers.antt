@@ -1,5 +1,7 @@
 -- `start_refused` meets its contract. Assumes nothing.
 use mathlib.Core.Path.{◌≡◌, sym, ◌∙◌}
+use Rattle.std.proofs.lemmas.Result.{err_from_is_err_and}
+use Rattle.answers.proofs.Refusals.{some_number}
 use Rattle.plan_check.specs.Meaning.{plan_of}
 use Rattle.runs.specs.Execution.{start}
 use Rattle.runs.specs.Model.Monitor.{pre_unmet_b}
@@ -20,10 +22,12 @@ unmet c = sym (rw (c.load.ensures, c.mark_one-own.ensures) at c.unmet.ensures
 
 none_yet : (c : After-unmet) → tree_refusal c.args.plan.now c.args.state.now
     c.args.task (marked c.args.standing.now c.args.task) ≡ 0
-none_yet c = sym c.tree_refused-r.ensures ∙ c.if-r-ne0.false
+none_yet c = sym c.in_ok-tree_refused.ensures
 
-pub returns-then-r-ne0 : goal.returns-then-r-ne0
-returns-then-r-ne0 c = begin_tree _ _ _ _ _ c.tree_refused-r.ensures c.if-r-ne0.true
+pub returns-in_err-tree_refused : goal.returns-in_err-tree_refused
+returns-in_err-tree_refused c =
+    let p = err_from_is_err_and c.from_residual.result c.from_residual.ensures.1 in
+    rw (p.1, p.2) (begin_tree _ _ _ _ _ c.in_err-tree_refused.ensures (some_number _))
 
 pub mark_one-own-requires : goal.mark_one-own-requires
 mark_one-own-requires c = omega (arith, c.requires.node, (has_room _ _ c.requires.passed).plan.fits.limits.nodes)
