@@ -38,9 +38,7 @@ pub fn write_move(plan: &[u8], state: &mut [u8], m: Move, task: usize)
             write_event(plan, state, asserted_place(m), task, RUNNING);
             write_ordinal(plan, state, task, k);
         }
-        Move::Finish => {
-            write_event(plan, state, asserted_place(m), task, DONE);
-        }
+        Move::Finish => write_event(plan, state, asserted_place(m), task, DONE),
     }
 }
 
