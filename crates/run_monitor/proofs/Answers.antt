@@ -3,6 +3,10 @@ use mathlib.Core.Path.{◌≡◌, refl, sym, ◌∙◌}
 use mathlib.Core.Bool.{true, false, true≢false}
 use mathlib.Core.List.{List}
 use Prim.Native.Nat.{ℕ}
+use Rattle.std.specs.declared.result.Result.TheVariants.{Ok, Err}
+use Rattle.answers.specs.declared.Refusal.{Refusal}
+use Rattle.answers.specs.Refusals.{number}
+use Rattle.answers.proofs.Refusals.{some_number}
 use Rattle.base.proofs.First.{answer_some}
 use Rattle.plan_check.specs.Meaning.{plan_of}
 use Rattle.plan_blocked.specs.Blocked.{plan_under}
@@ -18,15 +22,16 @@ use Rattle.runs.proofs.Reflect.{Reflects, clash, r_map, same_test, true_T, T_tru
 use Rattle.runs.proofs.Calls.Reflect.{r_complete}
 use Rattle.run_state.specs.State.{status_in, state_refusal_under}
 use Rattle.run_state.proofs.Passed.{well_formed, passed, list_passed, absent_waits}
-use Rattle.run_monitor.specs.declared.Progress.TheVariants.{Refused, Complete, Unfinished}
+use Rattle.run_monitor.specs.declared.Progress.TheVariants.{Complete, Unfinished}
 use Rattle.run_monitor.specs.Status.{word_for, status_answer, Told}
 
 module _ (b xs s : List ℕ) where
-  pub told_refused : (r : ℕ) → r ≡ state_refusal_under b xs s → (r ≡ 0 → ⊥) → Told b xs s (Refused r)
+  pub told_refused : (e : Refusal) → number e ≡ state_refusal_under b xs s → Told b xs s (Err e)
   unfolding status_answer
-  told_refused r e n = record {
-    returns = rw (← e) (answer_some r (word_for (complete_b (plan_under b xs) (status_in b s) 0)) n);
-    complete = (λ q. clash cc, λ x. absurd (n (e ∙ x.0)));
+  told_refused e q = record {
+    returns = rw (← q)
+        (answer_some (number e) (word_for (complete_b (plan_under b xs) (status_in b s) 0)) (some_number e));
+    complete = (λ z. clash cc, λ x. absurd (some_number e (q ∙ x.0)));
   }
 
   module _ (under : state_refusal_under b xs s ≡ 0) where
@@ -49,12 +54,12 @@ module _ (b xs s : List ℕ) where
         (r_map (complete_same (plan_of b) w (listed xs) list (status_in b s) (absent_waits b xs s under) 0
         ((r_stands (plan_of b) w (listed xs) 0).to left.root_node)) root)
 
-    pub told_complete : complete_b (plan_of b) (status_in b s) 0 ≡ true → Told b xs s Complete
+    pub told_complete : complete_b (plan_of b) (status_in b s) 0 ≡ true → Told b xs s (Ok Complete)
     unfolding status_answer
     told_complete z = let y = sym same ∙ z in
         record { returns = rw (under, y); complete = (λ q. (under, root.to (true_T _ y)), λ x. refl) }
 
-    pub told_unfinished : complete_b (plan_of b) (status_in b s) 0 ≡ false → Told b xs s Unfinished
+    pub told_unfinished : complete_b (plan_of b) (status_in b s) 0 ≡ false → Told b xs s (Ok Unfinished)
     unfolding status_answer
     told_unfinished z = let y = sym same ∙ z in record {
       returns = rw (under, y);

@@ -12,6 +12,9 @@ use Rattle.runs.specs.Calls.{Call, one, together, events}
 use Rattle.runs.specs.Model.Monitor.{returned}
 use Rattle.runs.proofs.Calls.Alone.{one_finish}
 use Rattle.runs.proofs.Calls.First.{answered}
+use Rattle.answers.specs.declared.Refusal.{Refusal}
+use Rattle.answers.specs.Refusals.{number}
+use Rattle.answers.proofs.Refusals.{some_number}
 use Rattle.base.proofs.First.{first_none, first_some}
 use Rattle.run_state.specs.State.{world_of, state_refusal_under}
 use Rattle.run_state.proofs.Passed.{list_passed}
@@ -44,14 +47,13 @@ called b xs s c q h = record {
   later = λ i l. ap (λ (z : List ℕ). get_or z i 0) h ∙ (call_keeps b xs s c).later i l;
 }
 
-pub called_16 : (b xs s : List ℕ) (c : Call) (r : ℕ) → r ≡ state_refusal_under b xs s → (r ≡ 0 → ⊥)
-    → Called b xs s c r s
-called_16 b xs s c r q n = let w = refused_16 b xs s c (λ z. n (q ∙ z)) in called b xs s c (q ∙ w.0) w.1
+pub called_16 : (b xs s : List ℕ) (c : Call) (e : Refusal) → number e ≡ state_refusal_under b xs s
+    → Called b xs s c (number e) s
+called_16 b xs s c e q = let w = refused_16 b xs s c (λ z. some_number e (q ∙ z)) in called b xs s c (q ∙ w.0) w.1
 
-pub called_22 : (b xs s : List ℕ) (c : Call) → state_refusal_under b xs s ≡ 0 → (r : ℕ)
-    → r ≡ call_refusal b xs s c → (r ≡ 0 → ⊥)
-    → Called b xs s c r s
-called_22 b xs s c ok r q n = let w = refused_22 b xs s c ok (λ z. n (q ∙ z)) in called b xs s c (q ∙ w.0) w.1
+pub called_22 : (b xs s : List ℕ) (c : Call) → state_refusal_under b xs s ≡ 0 → (e : Refusal)
+    → number e ≡ call_refusal b xs s c → Called b xs s c (number e) s
+called_22 b xs s c ok e q = let w = refused_22 b xs s c ok (λ z. some_number e (q ∙ z)) in called b xs s c (q ∙ w.0) w.1
 
 pub called_0 : (b xs s : List ℕ) (c : Call) → state_refusal_under b xs s ≡ 0 → call_refusal b xs s c ≡ 0 → {s' : List ℕ}
     → s' ≡ after_all b s (events c) → Called b xs s c 0 s'

@@ -1,5 +1,6 @@
 -- `call` meets its contract. Assumes nothing.
-use mathlib.Core.Path.{◌≡◌, sym, ◌∙◌}
+use mathlib.Core.Path.{◌≡◌, refl, sym}
+use Rattle.std.proofs.lemmas.Result.{err_from_is_err_and}
 use Rattle.plan_check.proofs.Meaning.{kind_is}
 use Rattle.run_state.specs.State.{state_refusal_under}
 use Rattle.run_state.proofs.Passed as checks
@@ -8,51 +9,46 @@ use Rattle.run_refusals.proofs.Moves.{node_of_lem, task_event}
 use Rattle.run_refusals.proofs.Answers.{answer_task}
 use Rattle.run_monitor.proofs.Called.{called_16, called_22, called_0}
 use Rattle.run_monitor.proofs.call.Goals as goal
-use Rattle.run_monitor.proofs.call.Goals.{After-refused-q, Else-q-ne0, Else-r-ne0}
+use Rattle.run_monitor.proofs.call.Goals.{In_ok-standing, In_ok-refused}
 
-passed : (c : Else-r-ne0) → let a = c.args in
+passed : (c : In_ok-standing) → let a = c.args in
     state_refusal_under a.plan.now a.blocked.now a.state.now ≡ 0
-passed c = sym c.check_state-r.ensures.returns ∙ c.if-r-ne0.false
+passed c = sym c.in_ok-standing.ensures.returns
 
-refusal_is : (c : After-refused-q) → let a = c.args in
-    c.refused-q.result ≡ event_refusal a.plan.now a.blocked.now a.state.now (event_of a.m a.task)
-refusal_is c =
-    c.refused-q.ensures _ (sym c.check_state-r.ensures.returns ∙ c.if-r-ne0.false)
-    (c.check_state-r.ensures.standing c.if-r-ne0.false)
-
-none : (c : Else-q-ne0) → let a = c.args in
+none : (c : In_ok-refused) → let a = c.args in
     event_refusal a.plan.now a.blocked.now a.state.now (event_of a.m a.task) ≡ 0
 none c =
-    sym (c.refused-q.ensures _ (sym c.check_state-r.ensures.returns ∙ c.if-r-ne0.false)
-    (c.check_state-r.ensures.standing c.if-r-ne0.false))
-    ∙ c.if-q-ne0.false
+    let e = c.in_ok-standing.ensures in
+    sym (c.in_ok-refused.ensures _ (sym e.returns) (e.standing _ refl))
 
-pub returns-then-q-ne0 : goal.returns-then-q-ne0
-returns-then-q-ne0 c =
-    let p = goal.at.returns-then-q-ne0 c in
-    called_22 _ _ _ _ (passed p.Else-r-ne0) _ (refusal_is p.After-refused-q) c.if-q-ne0.true
+pub returns-in_err-standing : goal.returns-in_err-standing
+returns-in_err-standing c =
+    let r = err_from_is_err_and c.from_residual.result c.from_residual.ensures.1 in
+    rw (r.1, r.2) (called_16 _ _ _ _ _ c.in_err-standing.ensures.returns)
+
+pub refused-requires : goal.refused-requires
+refused-requires c = checks.passed _ _ _ (passed (goal.at.refused-requires c).In_ok-standing)
+
+pub returns-in_err-refused : goal.returns-in_err-refused
+returns-in_err-refused c =
+    let q = c.from_residual-in_err-refused in
+    let r = err_from_is_err_and q.result q.ensures.1 in
+    rw (r.1, r.2) (
+    let e = c.in_ok-standing.ensures in
+    called_22 _ _ _ _ (sym e.returns) _ (c.in_err-refused.ensures _ (sym e.returns) (e.standing _ refl)))
 
 pub write_move-requires : goal.write_move-requires
 write_move-requires c =
     let a = c.args in
     let p = goal.at.write_move-requires c in
-    let ok = passed p.Else-r-ne0 in
+    let ok = passed p.In_ok-standing in
     record {
       node = (kind_is _ _ 0 (answer_task _ _ _ ok a.task _ (node_of_lem a.m a.task) (task_event a.m a.task)
-          (none p.Else-q-ne0))).0;
+          (none p.In_ok-refused))).0;
       passed = checks.passed _ _ _ ok;
     }
 
 pub returns : goal.returns
 returns c =
     let p = goal.at.returns c in
-    called_0 _ _ _ _ (passed p.Else-r-ne0) (none p.Else-q-ne0) c.write_move.ensures
-
-pub check_state-r-requires : goal.check_state-r-requires
-check_state-r-requires c = c.all_nodes-standing.ensures
-
-pub returns-then-r-ne0 : goal.returns-then-r-ne0
-returns-then-r-ne0 c = called_16 _ _ _ _ _ c.check_state-r.ensures.returns c.if-r-ne0.true
-
-pub refused-q-requires : goal.refused-q-requires
-refused-q-requires c = checks.passed _ _ _ (passed (goal.at.refused-q-requires c).Else-r-ne0)
+    called_0 _ _ _ _ (passed p.In_ok-standing) (none p.In_ok-refused) c.write_move.ensures
