@@ -12,12 +12,14 @@ use Rattle.table_all.proofs.fill_items.Goals.{In-Some}
 
 pub loop-at-init-derived : goal.loop-at-init-derived
 loop-at-init-derived c =
-    rw (c.into_iter-at-iterator.ensures.into_iter_gives, c.enumerate-at-items.ensures.source, c.enumerate-at-items.ensures.count)
+    let e = c.enumerate-at-items.ensures in
+    rw (c.into_iter-at-iterator.ensures.into_iter_gives, e.source, e.count)
     ((((clean _ c.requires.0).fits, c.requires.1), tt, inl (omega arith)), tt)
 
 pub loop-at-init : goal.loop-at-init
 loop-at-init c =
-    rw (c.into_iter-at-iterator.ensures.into_iter_gives, c.enumerate-at-items.ensures.source, c.enumerate-at-items.ensures.count)
+    let e = c.enumerate-at-items.ensures in
+    rw (c.into_iter-at-iterator.ensures.into_iter_gives, e.source, e.count)
     (record {
       place = refl;
       low = omega arith;
@@ -36,7 +38,11 @@ pub put_item-requires : goal.put_item-requires
 put_item-requires c =
     let d = c.loop-at.invariant.drawn in
     let s = c.in-Some.ensures.steps in
-    (drawn_fits _ (clean _ c.requires.0) _ (is_item (goal.at.put_item-requires c).In-Some) (omega (arith, s.0.0, s.1, c.requires.1)), d.codes.long, d.words.long)
+    let e = is_item (goal.at.put_item-requires c).In-Some in (
+      drawn_fits _ (clean _ c.requires.0) _ e (omega (arith, s.0.0, s.1, c.requires.1)),
+      d.codes.long,
+      d.words.long,
+    )
 
 pub loop-at-preserved : goal.loop-at-preserved
 loop-at-preserved c =
