@@ -31,4 +31,5 @@ sign_at s = cond (eqb s 0) Clear Set
 -- what a value says; over 383 it is refused
 unfoldable pub parsed_of : ℕ → Option Condition
 parsed_of v =
-    cond (leb v 383) (Some (record { place = place_at (place_of v); sign = sign_at (sign_of v); flag = flag_of v })) None
+    cond (leb v 383)
+    (Some (record { place = place_at (place_of v); sign = sign_at (sign_of v); flag = flag_of v })) None

@@ -20,8 +20,8 @@ use Rattle.base.proofs.Booleans.{same, and_both, and_of}
 use Rattle.runs.proofs.Searches.{found_at, some_yes, some_same}
 use Rattle.plan_rules_later.specs.declared.Ask.{Ask}
 use Rattle.plan_rules_later.specs.declared.Ask.TheVariants.{Needs, Bars}
-use Rattle.plan_rules_later.specs.Passes.{child_step, slot_of, sign_step, post_step, written, refused_by, answers, judged}
-use Rattle.plan_rules_later.specs.Passes.{InOrder}
+use Rattle.plan_rules_later.specs.Passes.{child_step, slot_of, sign_step, post_step, written, refused_by}
+use Rattle.plan_rules_later.specs.Passes.{answers, judged, InOrder}
 use Rattle.plan_rules.proofs.Causes.{root_parent, parent_group, both_signs_lem, both_signs_of, PostOf, post_of_lem}
 use Rattle.plan_rules.proofs.Rising.{nodes_rise, comes_first}
 
@@ -185,8 +185,8 @@ module _ (b : List ℕ) (rising : cause10 b ≡ false) where
 
   pub signs : any_below (cond_count b) (judged (cond_count b) (sign_step b)) ≡ cause11 b
   unfolding cause11
-  signs = some_same (cond_count b) (judged (cond_count b) (sign_step b)) (λ i. any_below (cond_count b) (both_signs b i))
-      (λ i l. both_found b (cond_count b) i)
+  signs = some_same (cond_count b) (judged (cond_count b) (sign_step b))
+      (λ i. any_below (cond_count b) (both_signs b i)) (λ i l. both_found b (cond_count b) i)
 
   pub posts_in_order : InOrder (cond_count b) (post_step b)
   unfolding post_step place_of

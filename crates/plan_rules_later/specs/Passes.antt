@@ -1,6 +1,7 @@
 -- The rules that compare a place with later ones: what a pass over the nodes or the conditions does at each place, and
 -- what it finds.
-use Rattle.std.specs.Prelude.{ℕ, ◌+◌, ◌*◌, ◌≡◌, ◌<◌, ◌≤◌, Bool, true, false, not, ◌&&◌, List, eqb, Option, Some, None, is_some}
+use Rattle.std.specs.Prelude.{ℕ, ◌+◌, ◌*◌, ◌≡◌, ◌<◌, ◌≤◌, Bool, true, false, not, ◌&&◌, List}
+use Rattle.std.specs.Prelude.{eqb, Option, Some, None, is_some}
 use Rattle.std.specs.Bool.{then_some}
 use Rattle.runs.specs.Searches.{any_below}
 use Rattle.plan_codes.specs.Values.{flag_of, sign_of, place_of}
