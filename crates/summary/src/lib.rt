@@ -2,42 +2,31 @@
 #![tactic(auto)]
 
 ghost use Rattle.std.specs.Prelude.{◌≡◌, ◌/◌, ◌%◌, ◌^◌, ◌<◌, get_or};
-ghost use Rattle.node_sets.specs.Sets.{AllMarked};
+ghost use Rattle.answers.specs.Refusals.{returned};
 ghost use Rattle.plan_format.specs.Format.{node_count};
 ghost use Rattle.plan_rules.specs.Rules.{refusal};
 ghost use Rattle.summary.specs.Summary.{Summarised};
-ghost use Rattle.summary.specs.Inner.{UnderWords, Refused};
+ghost use Rattle.summary.specs.Inner.{UnderWords, Checked};
 
+use answers::Refusal;
 use marks_words::Marks;
-use node_sets::all_nodes;
 use plan_blocked::check_blocked;
 use plan_format::fields::{flags, nodes};
 use table_marks::node_marks;
 use tables::Nodes;
 
-// Refusals 1 to 14, 28, 29, 15 and 17, or 0, and then of the marks those of the nodes that stand.
-fn summary_refused(
-    plan: &[u8],
-    blocked: &[usize],
-    node: usize,
-    out: &[u8],
-    standing: &mut Nodes,
-) -> u32
-    requires { AllMarked standing.old }
-    ensures { Refused plan.now blocked.now node out.now result
-        standing.new }
+// Refuses a call (1 to 14, 28, 29, 15, 17), or hands over the marks of the nodes that stand.
+fn check_summary(plan: &[u8], blocked: &[usize], node: usize, out: &[u8]) -> Result<Nodes, Refusal>
+    ensures { Checked plan.now blocked.now node out.now result }
 {
-    let r = check_blocked(plan, blocked, standing);
-    if r != 0 {
-        return r;
-    }
+    let standing = check_blocked(plan, blocked)?;
     if out.len() < 16 * flags(plan) {
-        return 15;
+        return Err(Refusal::NoRoom);
     }
     if node >= nodes(plan) {
-        return 17;
+        return Err(Refusal::NoSuchNode);
     }
-    0
+    Ok(standing)
 }
 
 // The marks of a node: none, if it does not stand.
@@ -46,9 +35,10 @@ fn under_words(plan: &[u8], standing: &Nodes, node: usize) -> Marks
     ensures { UnderWords plan.now standing.now node result }
 {
     if standing[node] == 1 {
-        return node_marks(plan, standing, node);
+        node_marks(plan, standing, node)
+    } else {
+        [0; 16]
     }
-    [0u64; 16]
 }
 
 // Byte i of a summary: entry i / 8 is 2 f + sign.
@@ -56,27 +46,18 @@ fn mark_byte(words: &Marks, i: usize) -> u8
     requires { i < 1024 }
     ensures { result ≡ get_or words.now (i % 16) 0 / 2 ^ (i / 16) % 2 }
 {
-    let word = words[i % 16];
-    let flag = (i / 16) as u32;
-    ((word >> flag) % 2) as u8
+    ((words[i % 16] >> (i / 16)) % 2) as u8
 }
 
 // Writes the summary of a node; refused, nothing changes.
-pub fn summary(plan: &[u8], blocked: &[usize], node: usize, out: &mut [u8]) -> u32
-    ensures { Summarised plan.now blocked.now node out.old result
+pub fn summary(plan: &[u8], blocked: &[usize], node: usize, out: &mut [u8]) -> Result<(), Refusal>
+    ensures { Summarised plan.now blocked.now node out.old (returned result)
         out.new }
 {
-    let mut standing = all_nodes();
-    let r = summary_refused(plan, blocked, node, out, &mut standing);
-    if r != 0 {
-        return r;
-    }
+    let standing = check_summary(plan, blocked, node, out)?;
     let words = under_words(plan, &standing, node);
-    let n = 16 * flags(plan);
-    let mut i = 0;
-    while i < n {
+    for i in 0..16 * flags(plan) {
         out[i] = mark_byte(&words, i);
-        i += 1;
     }
-    0
+    Ok(())
 }

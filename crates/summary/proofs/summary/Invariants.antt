@@ -1,13 +1,8 @@
 -- `summary` meets its contract: the bytes below i are written. Assumes nothing.
 use mathlib.Core.Path.{◌≡◌}
-use Prim.Native.Nat.{◌-◌, ◌≤◌}
 use Rattle.base.specs.Answers.{overlay}
 use Rattle.summary.specs.Model.{summary_byte}
 use Rattle.summary.proofs.summary.Given as goal
 
 abbrev pub invariant-loop-i : goal.invariant-loop-i
-invariant-loop-i l = (l.i ≤ l.n)
-    × (l.out ≡ overlay (summary_byte l.plan l.blocked l.node) l.i l.initial.out)
-
-abbrev pub decreases-loop-i : goal.decreases-loop-i
-decreases-loop-i l = l.n - l.i
+invariant-loop-i l = l.out ≡ overlay (summary_byte l.plan l.blocked l.node) l.i l.initial.out

@@ -16,6 +16,6 @@ pub returns-then-standing-node-eq1 : goal.returns-then-standing-node-eq1
 returns-then-standing-node-eq1 c = let p = c.requires in
     stand_words _ _ p.0 _ p.1 c.if-standing-node-eq1.true c.node_marks.ensures
 
-pub returns : goal.returns
-returns c = let p = c.requires in
+pub returns-else-standing-node-eq1 : goal.returns-else-standing-node-eq1
+returns-else-standing-node-eq1 c = let p = c.requires in
     no_words _ _ p.0 _ p.1 c.if-standing-node-eq1.false (λ i l. get_or-replicate {A = ℕ} 16 i 0 0 l)
