@@ -5,11 +5,19 @@ use mathlib.Core.Bool.{Bool, true, false, not}
 use mathlib.Core.Option.{Option, none}
 use mathlib.Core.List.Memᴰ.{not-nil as among_none}
 use mathlib.Core.List.{List, [], Memᴰ as Among}
-use Prim.Native.Nat.{ℕ, ◌+◌, ◌*◌, ◌^◌, ◌%◌, ◌≤◌, ◌<◌}
+use Prim.Native.Nat.{ℕ, ◌+◌, ◌-◌, ◌*◌, ◌^◌, ◌%◌, ◌≤◌, ◌<◌}
 use native.Mathlib.Omega.{arith}
-use lib.Bits.{bit_or, bit_xor, or_shifted}
+use lib.Bits.{bit_or, or_shifted}
 use lib.Pow.{pow_mono, shl_exact}
 use lib.ListN.{get_or}
+use Rattle.std.specs.declared.option.Option as answer
+use Rattle.std.specs.declared.option.Option.TheVariants.{Some, None}
+use Rattle.std.specs.declared.result.Result.{Result}
+use Rattle.std.specs.declared.result.Result.TheVariants.{Ok, Err}
+use Rattle.answers.specs.declared.Refusal.{Refusal}
+use Rattle.answers.specs.declared.Refusal.TheVariants.{NoSequence}
+use Rattle.answers.specs.Refusals.{number}
+use Rattle.answers.proofs.Refusals.{some_number, not_ok}
 use Rattle.base.specs.Words.{ones, Says}
 use Rattle.base.proofs.Bits.{bit_none}
 use Rattle.base.proofs.Count.{count_same}
@@ -26,6 +34,7 @@ use Rattle.runs.proofs.Reflect.{clash}
 use Rattle.tables.specs.declared.Segment.{Segment}
 use Rattle.tables.specs.Represents.{before_code, code}
 use Rattle.marks_row.specs.Columns.{may_clobber}
+use Rattle.marks_row.proofs.Nots.{not_is}
 use Rattle.marks_words.specs.Words.{StartWord}
 use Rattle.sequences.specs.Sequences.{Sought}
 use Rattle.sequences.specs.Model.{Calm, MayBeTrue}
@@ -37,38 +46,31 @@ use Rattle.sequences.proofs.Search.{Searched, first_clear, calm_searched, restle
 use Rattle.sequences.proofs.Search.{searched_sought, sought}
 use Rattle.sequences.proofs.Word.{read_back}
 use Rattle.sequence_search.specs.declared.Reach.{Reach}
-use Rattle.sequence_search.specs.declared.Ending.{Ending}
 use Rattle.sequence_search.specs.Search.{count, child_at, InRange, Tabled, flags_for, ComeTo}
 use Rattle.sequence_search.specs.Search.{Carries, nothing, nodes, Finds}
 use Rattle.sequence_search.proofs.Places.{place_in, child_small, is_child_lem, place_of_lem}
-use Rattle.sequence.specs.declared.Finding.{Finding}
-use Rattle.sequence.specs.declared.Finding.TheVariants as finding
 use Rattle.sequence.specs.Sequence.{sequence_answer, Exact, Sequenced}
 use Rattle.sequence.specs.Inner.{MasksOf, CalmIn, Below, Answers, AnswersOf}
 use Rattle.sequence.proofs.Counted.{passes_23}
 
-kept : (b : Bool) → not b ≡ false → b ≡ true
-kept true e = refl
-kept false e = clash cc
+-- a refusal is no word
+pub refused_exact : (e : Refusal) → Exact (Err e)
+refused_exact e w q = absurd (not_ok q)
 
--- a number is no word
-pub refused_exact : (n : ℕ) → Exact (finding.Refused n)
-refused_exact n w e = clash cc
-
-abbrev word : Finding → ℕ
-word (finding.Refused n) = 0
-word (finding.Found w) = w
+abbrev word : Result ℕ Refusal → ℕ
+word (Err e) = 0
+word (Ok w) = w
 
 -- where a search begins
 abbrev pub outset : ℕ → ℕ → Reach
-outset n start = record { left = n; seen = 0; set = start; clear = bit_xor start ones }
+outset n start = record { left = n; seen = 0; set = start; clear = ones - start }
 
 module _ {p : Plan} {kids order rows : List ℕ} {s : Segment} (g : InRange kids s) (b : Below p kids s order rows) where
   -- 24 from the search, and where a child may clobber
-  none_found : {F : ℕ → Bool} → Searched p b.well_formed F none → Answers p F (finding.Refused 24)
+  none_found : {F : ℕ → Bool} → Searched p b.well_formed F none → Answers p F (Err NoSequence)
   none_found {F} x = record {
     sought = searched_sought p b.well_formed F (passes_23 b.well_formed b.root b.root_all_of g.few) x;
-    exact = refused_exact 24;
+    exact = refused_exact NoSequence;
   }
 
   is_calm : {r : Bool} → CalmIn rows kids s r → (r ≡ true) ↔ Calm p
@@ -90,11 +92,12 @@ module _ {p : Plan} {kids order rows : List ℕ} {s : Segment} (g : InRange kids
           (b.root.children.child _).1 (record { at = i; position = q; is = refl }) in
           k _ h f v (((b.right _ h).says (may_clobber v) f l).to x))
 
-  pub restless : {F : ℕ → Bool} {r : Bool} → CalmIn rows kids s r → not r ≡ true → Answers p F (finding.Refused 24)
+  pub restless : {F : ℕ → Bool} {r : Bool} → CalmIn rows kids s r → r ≡ false → Answers p F (Err NoSequence)
   restless {F} c e = none_found (restless_searched p b.well_formed F b.root_all_of
-      (λ k. let x = ap not ((is_calm c).1 k) in clash cc))
+      (λ k. let x = (is_calm c).1 k in clash cc))
 
-  module _ {F : ℕ → Bool} {start : ℕ} (st : StartWord F start) {masks : List ℕ} (ms : MasksOf order kids s masks) where
+  module _ {F : ℕ → Bool} {start : ℕ} (st : StartWord F start) (wide : start < 2 ^ 64) {masks : List ℕ}
+      (ms : MasksOf order kids s masks) where
     tabled : Tabled p rows kids s masks
     tabled = record {
       well_formed = b.well_formed;
@@ -129,7 +132,7 @@ module _ {p : Plan} {kids order rows : List ℕ} {s : Segment} (g : InRange kids
           where
             from_start : (v : Bool) → (F f ≡ v) ↔ MayBeTrue p F f v []
             from_start v = ((true_start p b.well_formed F).1, (true_start p b.well_formed F).0)
-        may_be false f l = says_map (to, from) (says_not l refl (st.says f l))
+        may_be false f l = says_map (to, from) (says_not l (not_is start wide) (st.says f l))
           where
             to : ¬ (F f ≡ true) → MayBeTrue p F f false []
             to k = (true_start p b.well_formed F).1 ((opposite (F f)).0 k)
@@ -137,41 +140,43 @@ module _ {p : Plan} {kids order rows : List ℕ} {s : Segment} (g : InRange kids
             from : MayBeTrue p F f false [] → ¬ (F f ≡ true)
             from x = (opposite (F f)).1 ((true_start p b.well_formed F).0 x)
 
-    module _ {r : Bool} (c : CalmIn rows kids s r) (passed : not r ≡ false) {z : Ending}
+    module _ {r : Bool} (c : CalmIn rows kids s r) (passed : r ≡ true) {z : answer.Option ℕ}
         (fi : Finds rows kids s masks (outset (count s) start) z) where
       found_first : (o : Option (List ℕ)) × Searched p b.well_formed F o × Carries (count s) z o
       found_first = let (o, fr, h) = fi p F [] tabled begins in
-          (o, calm_searched p b.well_formed F b.root_all_of ((is_calm c).0 (kept r passed)) fr, h)
+          (o, calm_searched p b.well_formed F b.root_all_of ((is_calm c).0 passed) fr, h)
 
-      pub unfound : not z.found ≡ true → Answers p F (finding.Refused 24)
+      pub unfound : z ≡ None → Answers p F (Err NoSequence)
       unfound e = let (o, x, h) = found_first in at x h
         where
           at : {o : Option (List ℕ)} → Searched p b.well_formed F o → Carries (count s) z o
-              → Answers p F (finding.Refused 24)
+              → Answers p F (Err NoSequence)
           at x (nothing q) = none_found x
-          at x (nodes q y l m) = let k = ap not q in clash cc
+          at x (nodes q l m) = clash cc
 
       -- the word: the number of nodes above the nodes
-      pub found : {w : ℕ} → not z.found ≡ false → w ≡ bit_or ((count s * 2 ^ 56) % 2 ^ 64) z.word
-          → Answers p F (finding.Found w)
-      found {w} e q = let (o, x, h) = found_first in at x h
+      pub found : {w x : ℕ} → z ≡ Some x → w ≡ bit_or ((count s * 2 ^ 56) % 2 ^ 64) x → Answers p F (Ok w)
+      found {w} {x} e q = let (o, y, h) = found_first in at y h
         where
           at : {o : Option (List ℕ)} → Searched p b.well_formed F o → Carries (count s) z o
-              → Answers p F (finding.Found w)
-          at x (nothing k) = let j = ap not k in clash cc
-          at (first_clear {xs = xs} fc) (nodes k y l m) = record {
+              → Answers p F (Ok w)
+          at y (nothing k) = clash cc
+          at (first_clear {xs = xs} fc) (nodes k l m) = record {
             sought = rw back (searched_sought p b.well_formed F
                 (passes_23 b.well_formed b.root b.root_all_of g.few) (first_clear fc));
             exact = exact;
           }
             where
+              rest_is : x ≡ packed xs
+              rest_is = let k : Some x ≡ Some (packed xs) = cc in cc
+
               small : packed xs < 2 ^ 56
               small =
                   let le : 2 ^ (8 * count s) ≤ 2 ^ 56 = pow_mono {i = 8 * count s} {j = 56} (omega (arith, g.few)) in
                   omega (arith, m, le)
 
               is_word : w ≡ sequence_word xs
-              is_word = q ∙ ap (λ (v : ℕ). bit_or ((count s * 2 ^ 56) % 2 ^ 64) v) y
+              is_word = q ∙ ap (λ (v : ℕ). bit_or ((count s * 2 ^ 56) % 2 ^ 64) v) rest_is
                   ∙ ap (λ (v : ℕ). bit_or v (packed xs))
                   (shl_exact {a = count s} 3 56 64 (omega (arith, g.few)) (omega arith))
                   ∙ or_shifted (count s) 56 (packed xs) small
@@ -185,7 +190,7 @@ module _ {p : Plan} {kids order rows : List ℕ} {s : Segment} (g : InRange kids
               back : sequence_in w ≡ xs
               back = ap sequence_in is_word ∙ read_back xs bytes (omega (arith, l, g.few))
 
-              exact : Exact (finding.Found w)
+              exact : Exact (Ok w)
               exact v r = ap word (sym r) ∙ is_word ∙ ap sequence_word (sym back)
                   ∙ ap (λ (u : ℕ). sequence_word (sequence_in u)) (ap word r)
 
@@ -199,8 +204,8 @@ sought_is : (b : List ℕ) {a : ℕ ⊎ List ℕ} → refusal b ≡ 0 → Sought
 unfolding sequence_answer
 sought_is b ok x = sought_only x (sought (plan_of b) (means_well_formed b ok) (start_of b)) ∙ else_none (refusal b) _ ok
 
-pub answered_refused : (b : List ℕ) {r : ℕ} → r ≡ refusal b → (r ≡ 0 → ⊥) → Sequenced b (finding.Refused r)
-answered_refused b e k = record {
+pub answered_refused : (b : List ℕ) {r : Refusal} → number r ≡ refusal b → Sequenced b (Err r)
+answered_refused b {r} e = record {
   returns = refusal_is b e k;
   sought = record {
     refused = λ n. ap inl e;
@@ -211,10 +216,13 @@ answered_refused b e k = record {
     sized = λ xs q. clash cc;
     nodes = λ xs q. clash cc;
   };
-  exact = refused_exact _;
+  exact = refused_exact r;
 }
+  where
+    k : number r ≡ 0 → ⊥
+    k z = some_number r z
 
-pub answered : (b : List ℕ) {r : Finding} → refusal b ≡ 0 → AnswersOf b r → Sequenced b r
+pub answered : (b : List ℕ) {r : Result ℕ Refusal} → refusal b ≡ 0 → AnswersOf b r → Sequenced b r
 answered b ok a = record {
   returns = sought_is b ok a.sought;
   sought = record {

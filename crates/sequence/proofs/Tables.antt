@@ -4,6 +4,8 @@ use mathlib.Core.List.{List, []}
 use Prim.Native.Nat.{ℕ, ◌≤◌, ◌<◌}
 use native.Mathlib.Omega.{arith}
 use lib.ListN.{get_or}
+use Rattle.std.specs.declared.result.Result.TheVariants.{Err}
+use Rattle.answers.specs.declared.Refusal.TheVariants.{UnfitRoot}
 use Rattle.node_sets.specs.Sets.{AllMarked}
 use Rattle.plan_format.specs.Format.{node_count}
 use Rattle.plan_rules.specs.Rules.{refusal}
@@ -26,7 +28,6 @@ use Rattle.table_children.proofs.Whole.{whole_tree}
 use Rattle.table_all.specs.Filled.{AmongOf}
 use Rattle.sequences.specs.Sequences.{not_all_of, refused_23}
 use Rattle.sequence_search.specs.Search.{CHILDREN, count, InRange, RootChildren}
-use Rattle.sequence.specs.declared.Finding.TheVariants as finding
 use Rattle.sequence.specs.Inner.{Below, AnswersOf}
 use Rattle.sequence.proofs.Counted.{too_many_places}
 use Rattle.sequence.proofs.Answers.{refused_exact}
@@ -43,10 +44,10 @@ module _ {b standing kind from kids order conds : List ℕ} (ok : refusal b ≡ 
   pub at_root : {n : ℕ} → n ≡ node_count b → AtGroup from kids n 0
   at_root e = record { shaped = rw e t.children.shaped; below = rw e (clean b ok).fits.limits.some_node }
 
-  pub not_all : ¬ (get_or kind 0 0 ≡ 1) → AnswersOf b (finding.Refused 23)
+  pub not_all : ¬ (get_or kind 0 0 ≡ 1) → AnswersOf b (Err UnfitRoot)
   not_all k = record {
     sought = refused_23 (not_all_of (λ e. k (represents.kinds.is 0 well.root_node ∙ ap kind_number e)));
-    exact = refused_exact 23;
+    exact = refused_exact UnfitRoot;
   }
 
   -- the segment of the root
@@ -65,8 +66,8 @@ module _ {b standing kind from kids order conds : List ℕ} (ok : refusal b ≡ 
           rising = λ i j. tree.rising 0 i j (clean b ok).fits.limits.some_node;
         })
 
-    pub too_many : CHILDREN < count s → AnswersOf b (finding.Refused 23)
-    too_many l = record { sought = refused_23 (too_many_places well root l); exact = refused_exact 23 }
+    pub too_many : CHILDREN < count s → AnswersOf b (Err UnfitRoot)
+    too_many l = record { sought = refused_23 (too_many_places well root l); exact = refused_exact UnfitRoot }
 
     pub below : {n : ℕ} {rows : List ℕ} → get_or kind 0 0 ≡ 1 → n ≡ node_count b
         → BelowFilled kind from kids order conds rows n → Below (plan_of b) kids s order rows

@@ -3,6 +3,10 @@
 use Rattle.std.specs.Prelude.{◌≡◌, ◌≢◌, ◌⊎◌, ◌↔◌, ℕ, ◌≤◌, ◌<◌, length}
 use Rattle.std.proofs.Common.{inl, inr}
 use mathlib.Core.List.{List, Memᴰ as Among}
+use Rattle.std.specs.declared.result.Result.{Result}
+use Rattle.std.specs.declared.result.Result.TheVariants.{Ok, Err}
+use Rattle.answers.specs.declared.Refusal.{Refusal}
+use Rattle.answers.specs.Refusals.{number}
 use Rattle.base.specs.Answers.{refused_else}
 use Rattle.plan_format.specs.Format.{node_count}
 use Rattle.plan_rules.specs.Rules.{refusal}
@@ -10,13 +14,11 @@ use Rattle.plan_check.specs.Meaning.{plan_of, start_of}
 use Rattle.sequences.specs.Sequences.{Refused23, SerialClear, FirstClear, Sought}
 use Rattle.sequences.specs.Model.{sequence_of}
 use Rattle.sequences.specs.Word.{sequence_word, sequence_in}
-use Rattle.sequence.specs.declared.Finding.{Finding}
-use Rattle.sequence.specs.declared.Finding.TheVariants.{Refused, Found}
 
 -- 02's number, or the nodes one after another, for each case
-abbrev pub found_in : Finding → ℕ ⊎ List ℕ
-found_in (Refused n) = inl n
-found_in (Found w) = inr (sequence_in w)
+abbrev pub found_in : Result ℕ Refusal → ℕ ⊎ List ℕ
+found_in (Err e) = inl (number e)
+found_in (Ok w) = inr (sequence_in w)
 
 -- the answer computed
 unfoldable pub sequence_answer : List ℕ → ℕ ⊎ List ℕ
@@ -37,10 +39,10 @@ pub record SoughtOf (b : List ℕ) (a : ℕ ⊎ List ℕ) : Type 0 where
   pub nodes : (xs : List ℕ) → a ≡ inr xs → (c : ℕ) → Among c xs → c < node_count b
 
 -- the word of a sequence has nothing but the sequence
-abbrev pub Exact : Finding → Type 0
-Exact r = (w : ℕ) → r ≡ Found w → w ≡ sequence_word (sequence_in w)
+abbrev pub Exact : Result ℕ Refusal → Type 0
+Exact r = (w : ℕ) → r ≡ Ok w → w ≡ sequence_word (sequence_in w)
 
-pub record Sequenced (b : List ℕ) (r : Finding) : Type 0 where
+pub record Sequenced (b : List ℕ) (r : Result ℕ Refusal) : Type 0 where
   pub returns : found_in r ≡ sequence_answer b
   pub sought : SoughtOf b (found_in r)
   pub exact : Exact r

@@ -8,8 +8,8 @@ ghost use Rattle.sequence_search.specs.Search.{count, InRange};
 ghost use Rattle.sequence.specs.Sequence.{Sequenced};
 ghost use Rattle.sequence.specs.Inner.{MaskOf, MasksOf, CalmIn, AnswersFrom, AnswersOf};
 
+use answers::Refusal;
 use base::kinds::ALL_OF;
-use base::ALL;
 use marks_row::columns::MAY_CLOBBER;
 use marks_row::{Rows, word_at};
 use marks_tree::rows_below;
@@ -20,17 +20,8 @@ use plan_format::fields::nodes;
 use sequence_search::{CHILDREN, Masks, Reach, search};
 use table_all::fill_among;
 use tables::codes::BEFORE;
-use tables::{
-    NODES, Nodes, Orders, Segment, children, no_conditions, no_nodes, no_orders, no_starts,
-};
+use tables::{CONDITIONS, NODES, Nodes, Orders, PAIRS, STARTS, Segment, children};
 use verdict::start_word;
-
-// A refusal, or a sequence as a word: how many nodes in the highest byte, the nodes below, the first in the lowest.
-#[derive(Drop)]
-pub enum Finding {
-    Refused(u32),
-    Found(u64),
-}
 
 // The places of the children that stand before the one at place i.
 fn before_mask(order: &Orders, kids: &Nodes, segment: Segment, i: usize) -> u64
@@ -38,15 +29,12 @@ fn before_mask(order: &Orders, kids: &Nodes, segment: Segment, i: usize) -> u64
     ensures { MaskOf order.now kids.now segment i result }
 {
     let later = usize::from(kids[segment.start + i]);
-    let count = segment.end - segment.start;
-    let mut mask = 0u64;
-    let mut j = 0;
-    while j < count {
+    let mut mask = 0;
+    for j in 0..segment.end - segment.start {
         let earlier = usize::from(kids[segment.start + j]);
         if order[earlier * NODES + later] == BEFORE {
-            mask = mask | (1u64 << j);
+            mask |= 1u64 << j;
         }
-        j += 1;
     }
     mask
 }
@@ -56,12 +44,9 @@ fn before_masks(order: &Orders, kids: &Nodes, segment: Segment) -> Masks
     requires { InRange kids.now segment }
     ensures { MasksOf order.now kids.now segment result }
 {
-    let count = segment.end - segment.start;
-    let mut masks = [0u64; CHILDREN];
-    let mut i = 0;
-    while i < count {
+    let mut masks = [0; CHILDREN];
+    for i in 0..segment.end - segment.start {
         masks[i] = before_mask(order, kids, segment, i);
-        i += 1;
     }
     masks
 }
@@ -71,24 +56,25 @@ fn calm(rows: &Rows, kids: &Nodes, segment: Segment) -> bool
     requires { InRange kids.now segment }
     ensures { CalmIn rows.now kids.now segment result }
 {
-    let mut i = segment.start;
-    while i < segment.end {
-        let child = usize::from(kids[i]);
-        if word_at(rows, child, MAY_CLOBBER) | word_at(rows, child, MAY_CLOBBER + 1) != 0 {
-            return false;
-        }
-        i += 1;
-    }
-    true
+    kids[segment.start..segment.end].iter().all(|kid| {
+        let child = usize::from(*kid);
+        word_at(rows, child, MAY_CLOBBER) | word_at(rows, child, MAY_CLOBBER + 1) == 0
+    })
 }
 
 // The first sequence of the children in a segment, from their rows and relation codes and the flags set at the start.
-fn first_among(kids: &Nodes, segment: Segment, order: &Orders, rows: &Rows, start: u64) -> Finding
+fn first_among(
+    kids: &Nodes,
+    segment: Segment,
+    order: &Orders,
+    rows: &Rows,
+    start: u64,
+) -> Result<u64, Refusal>
     requires { InRange kids.now segment }
     ensures { AnswersFrom kids.now segment order.now rows.now start result }
 {
     if !calm(rows, kids, segment) {
-        return Finding::Refused(24);
+        return Err(Refusal::NoSequence);
     }
     let count = segment.end - segment.start;
     let before = before_masks(order, kids, segment);
@@ -96,35 +82,30 @@ fn first_among(kids: &Nodes, segment: Segment, order: &Orders, rows: &Rows, star
         left: count,
         seen: 0,
         set: start,
-        clear: start ^ ALL,
+        clear: !start,
     };
-    let rest = search(rows, kids, segment, &before, reach);
-    if !rest.found {
-        return Finding::Refused(24);
-    }
-    Finding::Found(((count as u64) << 56) | rest.word)
+    let rest = search(rows, kids, segment, &before, reach).ok_or(Refusal::NoSequence)?;
+    Ok(((count as u64) << 56) | rest)
 }
 
-// The answer for an accepted plan: 23, 24 or a sequence. The rows below the root are worked out once.
-fn first_sequence(plan: &[u8]) -> Finding
+// The answer for an accepted plan: 23, 24 or a sequence as a word, how many nodes in the highest byte, the nodes below,
+// the first in the lowest. The rows below the root are worked out once.
+fn first_sequence(plan: &[u8]) -> Result<u64, Refusal>
     requires { refusal plan.now ≡ 0 }
     ensures { AnswersOf plan.now result }
 {
     let standing = all_nodes();
-    let mut kind = no_nodes();
-    let mut from = no_starts();
-    let mut kids = no_nodes();
-    let mut order = no_orders();
-    let mut conds = no_conditions();
+    let mut kind = [0; NODES];
+    let mut from = [0; STARTS];
+    let mut kids = [0; NODES];
+    let mut order = [0; PAIRS];
+    let mut conds = [0; CONDITIONS];
     fill_among(
         plan, &standing, &mut kind, &mut from, &mut kids, &mut order, &mut conds,
     );
     let segment = children(&from, 0);
-    if kind[0] != ALL_OF {
-        return Finding::Refused(23);
-    }
-    if segment.end - segment.start > CHILDREN {
-        return Finding::Refused(23);
+    if kind[0] != ALL_OF || segment.end - segment.start > CHILDREN {
+        return Err(Refusal::UnfitRoot);
     }
     let n = nodes(plan);
     let mut rows = no_rows();
@@ -135,12 +116,9 @@ fn first_sequence(plan: &[u8]) -> Finding
 
 // A refusal, 1 to 14, 23 or 24, or the first sequence, in dictionary order, of all the root's children under which the
 // answer is CLEAR.
-pub fn sequence(plan: &[u8]) -> Finding
+pub fn sequence(plan: &[u8]) -> Result<u64, Refusal>
     ensures { Sequenced plan.now result }
 {
-    let r = check(plan);
-    if r != 0 {
-        return Finding::Refused(r);
-    }
+    check(plan)?;
     first_sequence(plan)
 }

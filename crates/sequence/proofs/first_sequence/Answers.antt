@@ -1,20 +1,37 @@
 -- `first_sequence` meets its contract. Assumes nothing.
+use Rattle.base.proofs.Zeros.{zeros}
 use Rattle.plan_check.proofs.Accepted.{clean}
+use Rattle.tables.specs.Sizes.{NODES, STARTS, PAIRS, CONDITIONS}
 use Rattle.sequence.proofs.Tables.{at_root, not_all, in_order, in_range, too_many, below}
 use Rattle.sequence.proofs.first_sequence.Goals as goal
+use Rattle.sequence.proofs.first_sequence.Goals.{then-kind-ne-ALL_OF-via-then-kind-ne-ALL_OF}
+use Rattle.sequence.proofs.first_sequence.Goals.{then-kind-ne-ALL_OF-via-else-kind-ne-ALL_OF+then-segment-gt-CHILDREN}
 
-pub returns-then-kind-ne-ALL_OF : goal.returns-then-kind-ne-ALL_OF
-returns-then-kind-ne-ALL_OF c =
-    not_all c.requires c.all_nodes-standing.ensures c.fill_among.ensures c.if-kind-ne-ALL_OF.true
+pub fill_among-requires : goal.fill_among-requires
+fill_among-requires c = (
+  c.requires,
+  record {
+    no_kinds = zeros NODES;
+    no_starts = zeros STARTS;
+    no_kids = zeros NODES;
+    no_order = zeros PAIRS;
+    no_conditions = zeros CONDITIONS;
+  },
+)
 
 pub overflow_sub-segment : goal.overflow_sub-segment
 overflow_sub-segment c =
     in_order c.requires c.all_nodes-standing.ensures c.fill_among.ensures c.children-segment.ensures
 
-pub returns-then-segment-gt-CHILDREN : goal.returns-then-segment-gt-CHILDREN
-returns-then-segment-gt-CHILDREN c =
-    too_many c.requires c.all_nodes-standing.ensures c.fill_among.ensures c.children-segment.ensures
-    c.if-segment-gt-CHILDREN.true
+pub returns-then-kind-ne-ALL_OF : goal.returns-then-kind-ne-ALL_OF
+returns-then-kind-ne-ALL_OF c =
+    elim c.then-kind-ne-ALL_OF.branch [
+      | then-kind-ne-ALL_OF-via-then-kind-ne-ALL_OF w ↦
+          not_all c.requires c.all_nodes-standing.ensures c.fill_among.ensures w.if-kind-ne-ALL_OF.true
+      | then-kind-ne-ALL_OF-via-else-kind-ne-ALL_OF+then-segment-gt-CHILDREN w ↦
+          too_many c.requires c.all_nodes-standing.ensures c.fill_among.ensures c.children-segment.ensures
+          w.if-segment-gt-CHILDREN.true
+    ]
 
 pub nodes-n-requires : goal.nodes-n-requires
 nodes-n-requires c = (clean _ c.requires).fits.limits.long
