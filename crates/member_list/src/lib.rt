@@ -2,6 +2,7 @@
 #![tactic(auto)]
 
 ghost use Rattle.std.specs.Prelude.{◌≡◌, ◌≤◌, ◌<◌, length};
+ghost use Rattle.answers.specs.Refusals.{returned};
 ghost use Rattle.plan_format.specs.Format.{node_count};
 ghost use Rattle.plan_rules.specs.Rules.{refusal};
 ghost use Rattle.plan_check.specs.Meaning.{plan_of};
@@ -12,16 +13,17 @@ ghost use Rattle.members.specs.Model.{outsider};
 ghost use Rattle.member_list.specs.Members.{member_in};
 ghost use Rattle.member_list.specs.Model.{bad_member, members_refusal};
 
+use answers::Refusal;
 use plan_check::check;
 use plan_format::fields::{nodes, parent};
-use tables::{Nodes, no_nodes};
+use tables::{NODES, Nodes};
 
 // The node is a child of the root.
 pub fn root_child(plan: &[u8], i: usize) -> bool
     requires { (refusal plan.now ≡ 0) × (i < node_count plan.now) }
     ensures { result ≡ child_b (plan_of plan.now) 0 i }
 {
-    (i != 0) & (parent(plan, i) == 0)
+    i != 0 && parent(plan, i) == 0
 }
 
 // A byte over 1, or a 1 at a node that is no child of the root.
@@ -31,7 +33,7 @@ fn byte_bad(plan: &[u8], members: &[u8], i: usize) -> bool
     ensures { result ≡ bad_member plan.now members.now i }
 {
     let byte = members[i];
-    (byte > 1) | ((byte == 1) & !root_child(plan, i))
+    byte > 1 || (byte == 1 && !root_child(plan, i))
 }
 
 // 16: some byte of the first N is wrong.
@@ -40,32 +42,21 @@ fn list_bad(plan: &[u8], members: &[u8]) -> bool
     ensures { result ≡ any_below (node_count plan.now)
         (bad_member plan.now members.now) }
 {
-    let n = nodes(plan);
-    let mut i = 0;
-    while i < n {
-        if byte_bad(plan, members, i) {
-            return true;
-        }
-        i += 1;
-    }
-    false
+    (0..nodes(plan)).any(|i| byte_bad(plan, members, i))
 }
 
-// Refusals 1 to 16, or 0.
-pub fn check_members(plan: &[u8], members: &[u8]) -> u32
-    ensures { result ≡ members_refusal plan.now members.now }
+// Refuses a plan, 1 to 14, or its list of members, 15 and 16.
+pub fn check_members(plan: &[u8], members: &[u8]) -> Result<(), Refusal>
+    ensures { returned result ≡ members_refusal plan.now members.now }
 {
-    let r = check(plan);
-    if r != 0 {
-        return r;
-    }
+    check(plan)?;
     if members.len() < nodes(plan) {
-        return 15;
+        return Err(Refusal::NoRoom);
     }
     if list_bad(plan, members) {
-        return 16;
+        return Err(Refusal::Malformed);
     }
-    0
+    Ok(())
 }
 
 // Marks the nodes that stand: the root, its members, and below these each node whose parent stands.
@@ -74,18 +65,11 @@ pub fn mark_members(plan: &[u8], members: &[u8]) -> Nodes
     ensures { Standing plan.now
         (outsider (plan_of plan.now) (member_in plan.now members.now)) result }
 {
-    let n = nodes(plan);
-    let mut standing = no_nodes();
+    let mut standing = [0; NODES];
     standing[0] = 1;
-    let mut c = 1;
-    while c < n {
+    for c in 1..nodes(plan) {
         let g = usize::from(parent(plan, c));
-        if g == 0 {
-            standing[c] = members[c];
-        } else {
-            standing[c] = standing[g];
-        }
-        c += 1;
+        standing[c] = if g == 0 { members[c] } else { standing[g] };
     }
     standing
 }

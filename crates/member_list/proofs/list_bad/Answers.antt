@@ -1,25 +1,16 @@
 -- `list_bad` meets its contract. Assumes nothing.
-use native.Mathlib.Omega.{arith}
+use mathlib.Core.Path.{refl, sym}
+use borrow.Author.Rules.{rules}
+use borrow.Author.Tests.{tests}
 use Rattle.plan_check.proofs.Accepted.{clean}
-use Rattle.runs.proofs.Searches.{search_starts, search_finds, search_goes_on, search_ends}
+use Rattle.searches.proofs.Any.{any_numbers}
+use Rattle.member_list.specs.Model.{bad_member}
 use Rattle.member_list.proofs.list_bad.Goals as goal
 
-pub nodes-n-requires : goal.nodes-n-requires
-nodes-n-requires c = (clean _ c.requires.0).fits.limits.long
-
-pub loop-i-init : goal.loop-i-init
-loop-i-init c = search_starts
-
-pub byte_bad-requires : goal.byte_bad-requires
-byte_bad-requires c = let p = c.requires in (p.0, omega arith, p.1)
-
-pub returns-then-byte_bad : goal.returns-then-byte_bad
-returns-then-byte_bad c = search_finds c.loop-i.invariant (omega arith) c.byte_bad.ensures
-    c.if-byte_bad.true
-
-pub loop-i-preserved : goal.loop-i-preserved
-loop-i-preserved c = search_goes_on c.loop-i.invariant (omega arith) c.byte_bad.ensures
-    c.if-byte_bad.false
+pub nodes-requires : goal.nodes-requires
+nodes-requires c = (clean _ c.requires.0).fits.limits.long
 
 pub returns : goal.returns
-returns c = search_ends c.loop-i.invariant (omega arith)
+returns c =
+    rw (sym c.nodes.ensures) (any_numbers _ (bad_member c.args.plan.now c.args.members.now) refl c.any.ensures.ran
+    (λ x b q k. search (rules, tests)))

@@ -2,20 +2,22 @@
 use mathlib.Core.Path.{◌≡◌, ◌∙◌}
 use Prim.Native.Nat.{◌<◌}
 use native.Mathlib.Omega.{arith}
+use Rattle.base.proofs.Zeros.{zeros}
 use Rattle.plan_format.specs.Format.{node_count, parent_of}
 use Rattle.plan_check.proofs.Accepted.{clean}
+use Rattle.tables.specs.Sizes.{NODES}
 use Rattle.plan_blocked.proofs.Standing.{parent_lower}
 use Rattle.member_list.proofs.Standing.{placed_first, placed_member, placed_below, placed_all}
 use Rattle.member_list.proofs.mark_members.Goals as goal
 use Rattle.member_list.proofs.mark_members.Goals.{After-from-g, then-g-eq0, else-g-eq0}
 
-pub nodes-n-requires : goal.nodes-n-requires
-nodes-n-requires c = (clean _ c.requires.0).fits.limits.long
+pub nodes-c-end-requires : goal.nodes-c-end-requires
+nodes-c-end-requires c = (clean _ c.requires.0).fits.limits.long
 
 pub loop-c-init : goal.loop-c-init
 loop-c-init c =
     let p = c.requires in
-    (omega arith, (clean _ p.0).fits.limits.some_node, placed_first _ _ p.0 c.no_nodes-standing.ensures)
+    (omega arith, (clean _ p.0).fits.limits.some_node, placed_first _ _ p.0 (zeros NODES))
 
 pub parent-requires : goal.parent-requires
 parent-requires c = (omega arith, (clean _ c.requires.0).fits)
@@ -25,9 +27,6 @@ bounds-members-c c = omega (arith, c.requires.1)
 
 pub bounds-standing-c : goal.bounds-standing-c
 bounds-standing-c c = omega (arith, (clean _ c.requires.0).fits.limits.nodes)
-
-pub bounds-standing-c-else-g-eq0 : goal.bounds-standing-c-else-g-eq0
-bounds-standing-c-else-g-eq0 c = omega (arith, (clean _ c.requires.0).fits.limits.nodes)
 
 parent_is : (c : After-from-g) → c.from-g.result ≡ parent_of c.args.plan.now c.loop-c.c
 parent_is c = c.from-g.ensures ∙ c.parent.ensures
