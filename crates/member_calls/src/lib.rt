@@ -3,6 +3,7 @@
 #![tactic(auto)]
 
 ghost use Rattle.std.specs.Prelude.{◌≡◌, ◌≤◌, length};
+ghost use Rattle.answers.specs.Refusals.{returned};
 ghost use Rattle.plan_format.specs.Format.{node_count};
 ghost use Rattle.plan_rules.specs.Rules.{refusal};
 ghost use Rattle.plan_check.specs.Meaning.{plan_of};
@@ -13,30 +14,28 @@ ghost use Rattle.member_calls.specs.Calls.{MemberCalled};
 ghost use Rattle.member_calls.specs.Model.{member_call_refusal};
 ghost use Rattle.member_calls.specs.Inner.{member_call, OfList};
 
+use answers::Refusal;
 use base::kinds::ALL_OF;
 use member_list::{check_members, mark_members, root_child};
 use plan_format::fields::{is_kind, nodes};
 use table_marks::marks_among;
-use verdict::{Answer, Verdict, of_words, start_word};
+use verdict::{Verdict, of_words, start_word};
 
-// Refusals 1 to 16, 17, 31 and 32 of a call after which the node is to be a member or not, or 0.
-fn refused(plan: &[u8], members: &[u8], node: usize, joins: bool) -> u32
-    ensures { result ≡ member_call_refusal plan.now members.now (member_call node joins) }
+// Refuses a call after which the node is to be a member or not: 1 to 16, 17, 31 and 32.
+fn check_call(plan: &[u8], members: &[u8], node: usize, joins: bool) -> Result<(), Refusal>
+    ensures { returned result ≡ member_call_refusal plan.now members.now (member_call node joins) }
 {
-    let r = check_members(plan, members);
-    if r != 0 {
-        return r;
+    check_members(plan, members)?;
+    if node >= nodes(plan) {
+        return Err(Refusal::NoSuchNode);
     }
-    if nodes(plan) <= node {
-        return 17;
-    }
-    if !(is_kind(plan, 0, ALL_OF) & root_child(plan, node)) {
-        return 31;
+    if !(is_kind(plan, 0, ALL_OF) && root_child(plan, node)) {
+        return Err(Refusal::NoMember);
     }
     if (members[node] == 1) == joins {
-        return 32;
+        return Err(Refusal::SameMembers);
     }
-    0
+    Ok(())
 }
 
 // The verdict for the members of a list.
@@ -52,21 +51,18 @@ fn judge(plan: &[u8], members: &[u8]) -> Verdict
 }
 
 // Writes the byte of the node if nothing is refused, and answers for the members after it.
-fn change(plan: &[u8], members: &mut [u8], node: usize, joins: bool) -> Answer
+fn change(plan: &[u8], members: &mut [u8], node: usize, joins: bool) -> Result<Verdict, Refusal>
     ensures { MemberCalled plan.now members.old (member_call node joins) (said result)
         members.new }
 {
-    let r = refused(plan, members, node, joins);
-    if r != 0 {
-        return Answer::Refused(r);
-    }
-    members[node] = joins as u8;
-    Answer::Judged(judge(plan, members))
+    check_call(plan, members, node, joins)?;
+    members[node] = u8::from(joins);
+    Ok(judge(plan, members))
 }
 
 // Makes the child a member and writes 1 at its byte: the verdict for the members after it, or a refusal, 1 to 17, 31 or
 // 32.
-pub fn include(plan: &[u8], members: &mut [u8], node: usize) -> Answer
+pub fn include(plan: &[u8], members: &mut [u8], node: usize) -> Result<Verdict, Refusal>
     ensures { MemberCalled plan.now members.old (include node) (said result)
         members.new }
 {
@@ -74,7 +70,7 @@ pub fn include(plan: &[u8], members: &mut [u8], node: usize) -> Answer
 }
 
 // The same with the child no member, and 0.
-pub fn exclude(plan: &[u8], members: &mut [u8], node: usize) -> Answer
+pub fn exclude(plan: &[u8], members: &mut [u8], node: usize) -> Result<Verdict, Refusal>
     ensures { MemberCalled plan.now members.old (exclude node) (said result)
         members.new }
 {
