@@ -1,6 +1,6 @@
 -- The chain of refusals 1 to 16, forwards and backwards. Assumes nothing.
 use mathlib.Core.Path.{◌≡◌, refl, sym, ◌∙◌}
-use mathlib.Core.Bool.{Bool, true, false, cond, ◌&&◌, ◌||◌}
+use mathlib.Core.Bool.{Bool, true, false, ◌&&◌, ◌||◌}
 use mathlib.Core.List.{List}
 use Prim.Native.Nat.{ℕ, ◌+◌, ◌*◌, ◌<◌, ◌≤◌}
 use lib.ListN.{length, take}
@@ -11,7 +11,6 @@ use Rattle.answers.specs.declared.Refusal.{Refusal}
 use Rattle.answers.specs.declared.Refusal.TheVariants.{NoRoom, Malformed}
 use Rattle.answers.specs.Refusals.{number}
 use Rattle.answers.proofs.Refusals.{some_number, not_ok, same_ok}
-use Rattle.base.specs.Answers.{first}
 use Rattle.base.proofs.First.{first_some, both_none, check_passed}
 use Rattle.run_flags.specs.Flags.{flag_in}
 use Rattle.run_flags.proofs.EachFlag.{in_first}
@@ -65,11 +64,13 @@ module _ (b xs s : List ℕ) where
   unfolding room_refusal_under too_short
   room_short e l = refused NoRoom (simp (e, lt-ltb _ _ l))
 
+  pub room_enough : refusal_under b xs ≡ 0 → 8 + 3 * node_count b ≤ length s → 0 ≡ room_refusal_under b xs s
+  unfolding room_refusal_under too_short
+  room_enough e l = simp (e, le-ltb _ _ l)
+
   pub room_long : {table : List ℕ} → refusal_under b xs ≡ 0 → 8 + 3 * node_count b ≤ length s
       → Standing b (listed xs) table → StateChecked b xs (room_refusal_under b xs s) (Ok table)
-  unfolding room_refusal_under too_short
-  room_long e l h = let z : 0 ≡ first (refusal_under b xs) (cond (too_short b s) 15 0) = simp (e, le-ltb _ _ l) in
-      passes z h
+  room_long e l h = passes (room_enough e l) h
 
   pub state_refused : (e : Refusal) → number e ≡ room_refusal_under b xs s
       → StateChecked b xs (state_refusal_under b xs s) (Err e)

@@ -57,13 +57,13 @@ slice_bounds-copy_from_slice-end-2 c =
 
 pub slice_bounds-copy_from_slice-end-3 : goal.slice_bounds-copy_from_slice-end-3
 slice_bounds-copy_from_slice-end-3 c =
-    (enough (goal.at.slice_bounds-copy_from_slice-end-3 c).In_ok-check_room).plan.fits.limits.long
+    omega (arith, (enough (goal.at.slice_bounds-copy_from_slice-end-3 c).In_ok-check_room).plan.fits.limits.long)
 
 pub copy_from_slice-requires : goal.copy_from_slice-requires
 copy_from_slice-requires c =
     let r = enough (goal.at.copy_from_slice-requires c).In_ok-check_room in
-    length-take-le 8 c.args.state.now (omega (arith, r.room)) ∙ sym (length-take-le 8 (drop 8 c.args.plan.now)
-    (omega (arith, r.plan.fits.limits.long, length-drop 8 c.args.plan.now)))
+    length-take-le 8 c.args.state.now (omega (arith, r.room))
+    ∙ sym (length-take-le 8 _ (omega (arith, r.plan.fits.limits.long, length-drop 8 c.args.plan.now)))
 
 pub slice_bounds-fill-end : goal.slice_bounds-fill-end
 slice_bounds-fill-end c =
