@@ -6,6 +6,9 @@ use Prim.Native.Nat.{ℕ, suc, ◌+◌, ◌*◌, ◌<◌}
 use native.Mathlib.Omega.{arith}
 use lib.ListN.{length, get_or, replicate, length-replicate}
 use borrow.Author.Tests.{lt-ltb}
+use Rattle.std.specs.declared.result.Result.{Result}
+use Rattle.std.specs.declared.result.Result.TheVariants.{Ok}
+use Rattle.answers.specs.declared.Refusal.{Refusal}
 use Rattle.plan_format.specs.Format.{node_count}
 use Rattle.plan_blocked.specs.Blocked.{plan_under, refusal_under}
 use Rattle.plan_blocked.proofs.Refused.{plan_accepted, blocks}
@@ -15,8 +18,7 @@ use Rattle.plan_check.proofs.Meaning.{means_well_formed}
 use Rattle.runs.specs.Verdict.{Verdict, CLEAR, DOOMED, OPEN}
 use Rattle.runs.specs.Model.Verdicts.{verdict}
 use Rattle.verdict.specs.declared.Verdict.TheVariants.{Clear, Doomed, Open}
-use Rattle.verdict.specs.declared.Answer.{Answer}
-use Rattle.verdict.specs.declared.Answer.TheVariants.{Judged as Given}
+use Rattle.verdict.specs.declared.Verdict.{Verdict as Answer}
 use Rattle.verdict.specs.Verdict.{Assessed}
 use Rattle.verdict.proofs.Judging.{assessed}
 use Rattle.runs.specs.Calls.{Call, World, accepted_starts}
@@ -47,10 +49,11 @@ module _ (b xs : List ℕ) (h : Bytes b) (acc : refusal_under b xs ≡ 0) where
       g s cs m.0 m.1 m.2 n (rw (on_plans.unique w f.worked).0 at x)
 
   -- the case of the enum for a verdict
-  assessment : (v : Verdict) → v ≡ verdict (plan_under b xs) (start_of b) → (r : Answer) × Assessed b xs r
-  assessment CLEAR e = (Given Clear, assessed b xs Clear acc e)
-  assessment DOOMED e = (Given Doomed, assessed b xs Doomed acc e)
-  assessment OPEN e = (Given Open, assessed b xs Open acc e)
+  assessment : (v : Verdict) → v ≡ verdict (plan_under b xs) (start_of b)
+      → (r : Result Answer Refusal) × Assessed b xs r
+  assessment CLEAR e = (Ok Clear, assessed b xs Clear acc e)
+  assessment DOOMED e = (Ok Doomed, assessed b xs Doomed acc e)
+  assessment OPEN e = (Ok Open, assessed b xs Open acc e)
 
   -- the ordinals in the bytes are those of the states worked out
   positions : (s : List ℕ) (cs : List Call) (rs z : List ℕ) → ListMade b xs s cs rs z → (n : ℕ) → n < node_count b
