@@ -21,8 +21,12 @@ abbrev pub word_of : Progress → Word
 word_of Complete = COMPLETE
 word_of Unfinished = UNFINISHED
 
+-- a refusal, or whether the root is complete
+abbrev pub Report : Type 0
+Report = Result Progress Refusal
+
 -- 01's number or word for each case
-abbrev pub reported : Result Progress Refusal → ℕ ⊎ Word
+abbrev pub reported : Report → ℕ ⊎ Word
 reported (Err e) = inl (number e)
 reported (Ok p) = inr (word_of p)
 
@@ -36,7 +40,7 @@ status_answer b xs s = refused_or (state_refusal_under b xs s)
 
 -- what `status` answers with the list xs of blocked nodes: COMPLETE exactly if the state passes the checks up to 16 and
 -- shows the root complete, of what is left of the plan
-pub record Told (b xs s : List ℕ) (r : Result Progress Refusal) : Type 0 where
+pub record Told (b xs s : List ℕ) (r : Report) : Type 0 where
   pub returns : reported r ≡ status_answer b xs s
   pub complete : (reported r ≡ inr COMPLETE)
       ↔ ((state_refusal_under b xs s ≡ 0) × execution.Complete (plan_under b xs) (status_in b s) 0)
