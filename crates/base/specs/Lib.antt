@@ -6,3 +6,4 @@ pub mod Answers
 pub mod Bytes
 pub mod Each
 pub mod Zeros
+pub mod Kinds

@@ -1,9 +1,8 @@
-// The numbers of the kinds of nodes, 01's and 02's.
-pub const TASK: u8 = 0;
-
-pub const ALL_OF: u8 = 1;
-
-pub const ANY_OF: u8 = 2;
-
-// 02's perhaps group.
-pub const OPTIONAL: u8 = 3;
+// The kinds of nodes by their numbers in a plan's bytes.
+#[derive(Clone, Copy, Debug, PartialEq, Eq)]
+pub enum Kind {
+    Task,
+    AllOf,
+    AnyOf,
+    Optional,
+}

@@ -1,6 +1,7 @@
-// 01's bytes of a state for a task; 02: DONE also for a skipped group.
-pub const WAITING: u8 = 0;
-
-pub const RUNNING: u8 = 1;
-
-pub const DONE: u8 = 2;
+// The statuses of a task by their numbers in a state's bytes; a skipped optional group is done.
+#[derive(Clone, Copy, Debug, PartialEq, Eq)]
+pub enum Status {
+    Waiting,
+    Running,
+    Done,
+}

@@ -13,7 +13,7 @@ ghost use Rattle.marks_between.specs.Passing.{PassingWord};
 use marks_row::columns::{ASSERTS, AVOID};
 use marks_row::{Rows, neither, word_at};
 use marks_siblings::narrowed;
-use tables::codes::{AFTER, BEFORE};
+use tables::codes::Relation;
 use tables::{NODES, Nodes, Orders, Segment};
 
 // Flags of one sign: 0 clear, 1 set.
@@ -49,7 +49,7 @@ fn stands_between(order: &Orders, b: usize, c: usize, d: usize) -> bool
     requires { (b < NODES) × ((c < NODES) × (d < NODES)) }
     ensures { T result ↔ StandsBetween order.now b c d }
 {
-    order[d * NODES + b] == BEFORE && order[b * NODES + c] == BEFORE
+    order[d * NODES + b] == Relation::Before as u8 && order[b * NODES + c] == Relation::Before as u8
 }
 
 // b is neither c nor d, and stands neither before d nor after c.
@@ -57,7 +57,7 @@ fn disturbs(order: &Orders, b: usize, c: usize, d: usize) -> bool
     requires { (b < NODES) × ((c < NODES) × (d < NODES)) }
     ensures { T result ↔ Disturbs order.now b c d }
 {
-    b != c && b != d && order[b * NODES + d] != BEFORE && order[b * NODES + c] != AFTER
+    b != c && b != d && order[b * NODES + d] != Relation::Before as u8 && order[b * NODES + c] != Relation::After as u8
 }
 
 // The child b is one of those that the flags have to pass.

@@ -11,7 +11,7 @@ ghost use Rattle.marks_group.specs.Masks.{mask_of};
 ghost use Rattle.marks_group.specs.Empty.{with_empty};
 
 use base::ALL;
-use base::kinds::OPTIONAL;
+use base::kinds::Kind;
 use marks_row::columns::{AVOID, COVERED, END, MUST_INC};
 use marks_row::{COLUMNS, Rows, Words, word_at};
 use marks_siblings::{Siblings, all_siblings};
@@ -113,7 +113,7 @@ pub fn any_words(kind: u8, kids: &Nodes, segment: Segment, rows: &Rows) -> Words
         let next = merged(every, words, rows, usize::from(kids[i]), mask);
         words = next;
     }
-    if kind == OPTIONAL {
+    if kind == Kind::Optional as u8 {
         with_empty(words)
     } else {
         words

@@ -11,7 +11,7 @@ ghost use Rattle.marks_must_pairs.specs.MustPairs.{MustPair, WithChildWord, Must
 use base::ALL;
 use marks_between::{OfSign, Partners, ToPass, passing};
 use marks_row::{Rows, must_post, must_pre};
-use tables::codes::AFTER;
+use tables::codes::Relation;
 use tables::{NODES, Nodes, Orders, Segment};
 
 // The wanted flags of one sign that a child and its partner must clobber.
@@ -32,7 +32,7 @@ fn must_pair_word(
     let j = partners.at;
     let d = usize::from(kids[j]);
     let sign = wanted.sign;
-    if order[c * NODES + d] == AFTER {
+    if order[c * NODES + d] == Relation::After as u8 {
         let shared = wanted.flags & (must_post(rows, d, 1 - sign) & must_pre(rows, c, sign));
         if shared == 0 {
             return 0;

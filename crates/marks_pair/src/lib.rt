@@ -12,7 +12,7 @@ use marks_between::{OfSign, Partners, ToPass, passing};
 use marks_row::columns::{ASSERTS, MAY_POST, MAY_PRE, POSTS, REQUIRES};
 use marks_row::{Rows, word_at};
 use marks_siblings::apart;
-use tables::codes::BEFORE;
+use tables::codes::Relation;
 use tables::{NODES, Nodes, Orders, Segment};
 
 // Literals: the flags wanted clear, the flags wanted set.
@@ -39,7 +39,7 @@ fn pair_word(
     let j = partners.at;
     let d = usize::from(kids[j]);
     let sign = wanted.sign;
-    if order[d * NODES + c] == BEFORE {
+    if order[d * NODES + c] == Relation::Before as u8 {
         let passed = word_at(rows, d, MAY_POST + (1 - sign)) & word_at(rows, c, MAY_PRE + sign);
         let shared = wanted.flags & passed;
         if shared == 0 {

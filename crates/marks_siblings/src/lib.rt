@@ -10,7 +10,7 @@ ghost use Rattle.marks_siblings.specs.Siblings.{Apart, Narrows, Narrowed, Siblin
 use base::ALL;
 use marks_row::columns::{ASSERTS, AVOID, QUIET};
 use marks_row::{Rows, neither, word_at};
-use tables::codes::{AFTER, BEFORE};
+use tables::codes::Relation;
 use tables::{NODES, Nodes, Orders, Segment};
 
 // What the siblings of a child in an all-of group allow: those before it avoid the flag, are quiet for its clear and
@@ -30,7 +30,7 @@ pub fn apart(order: &Orders, a: usize, b: usize) -> bool
     ensures { T result ↔ Apart order.now a b }
 {
     let code = order[a * NODES + b];
-    code != BEFORE && code != AFTER && a != b
+    code != Relation::Before as u8 && code != Relation::After as u8 && a != b
 }
 
 // Where it applies, the word with only the flags of the other.
@@ -45,14 +45,14 @@ fn with_sibling(order: &Orders, rows: &Rows, child: usize, sibling: usize, s: Si
     ensures { Narrowed order.now rows.now child sibling s result }
 {
     let stands = order[sibling * NODES + child];
-    if stands == BEFORE {
+    if stands == Relation::Before as u8 {
         Siblings {
             avoid_before: s.avoid_before & word_at(rows, sibling, AVOID),
             clear_before: s.clear_before & word_at(rows, sibling, QUIET),
             set_before: s.set_before & word_at(rows, sibling, QUIET + 1),
             ..s
         }
-    } else if stands == AFTER {
+    } else if stands == Relation::After as u8 {
         Siblings {
             avoid_after: s.avoid_after & word_at(rows, sibling, AVOID),
             ..s

@@ -12,7 +12,7 @@ ghost use Rattle.tables.specs.Sizes.{NODES};
 ghost use Rattle.marks_tree.specs.Clobbers.{AllOfRow, OpenLiterals, clobber_of, Ored};
 ghost use Rattle.marks_tree.specs.Filled.{OfAny, ChildrenTo, Filled, TasksFilled, AllFilled, BelowFilled};
 
-use base::kinds::{ALL_OF, TASK};
+use base::kinds::Kind;
 use marks_between::OfSign;
 use marks_group::{all_words, any_words};
 use marks_may_pairs::clobbering_pairs;
@@ -91,9 +91,9 @@ fn group(
         rows.old rows.new n node }
 {
     let k = kind[node];
-    if k == ALL_OF {
+    if k == Kind::AllOf as u8 {
         all_of(kind, from, kids, order, rows, n, node);
-    } else if k != TASK {
+    } else if k != Kind::Task as u8 {
         any_of(kind, from, kids, order, rows, n, node);
     }
 }
@@ -168,7 +168,7 @@ fn task_rows(kind: &Nodes, conds: &Conditions, rows: &mut Rows, n: usize)
     ensures { TasksFilled kind.now conds.now rows.new n }
 {
     for i in 0..n {
-        if kind[i] == TASK {
+        if kind[i] == Kind::Task as u8 {
             let words = task_words(conds, i);
             write_row(rows, i, words);
         }

@@ -12,7 +12,7 @@ ghost use Rattle.plan_blocked.specs.Inner.{Standing, ListChecked};
 ghost use Rattle.plan_blocked.specs.Branches.{WithBranch, emptied_at};
 
 use answers::Refusal;
-use base::kinds::{ANY_OF, OPTIONAL};
+use base::kinds::Kind;
 use node_sets::{all_nodes, mark_all, rises};
 use plan_check::check;
 use plan_format::fields::{is_kind, nodes, parent};
@@ -30,7 +30,7 @@ fn unblockable(plan: &[u8], s: usize) -> bool
         return true;
     }
     let g = usize::from(parent(plan, s));
-    !(is_kind(plan, g, ANY_OF) | is_kind(plan, g, OPTIONAL))
+    !(is_kind(plan, g, Kind::AnyOf) | is_kind(plan, g, Kind::Optional))
 }
 
 // 28: the list does not strictly rise, or some number of it cannot be blocked. The list is read up to the first, so of
@@ -67,7 +67,7 @@ fn emptied(plan: &[u8], standing: &Nodes, marks: &Nodes, s: usize) -> bool
     ensures { result ≡ emptied_at plan.now standing.now marks.now s }
 {
     let g = usize::from(parent(plan, s));
-    (standing[g] == 1) & is_kind(plan, g, ANY_OF) & (marks[g] != 1)
+    (standing[g] == 1) & is_kind(plan, g, Kind::AnyOf) & (marks[g] != 1)
 }
 
 // 29: some group has lost all its branches. Only the parents of blocked nodes need be asked.

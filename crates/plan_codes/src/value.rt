@@ -3,17 +3,16 @@ ghost use Rattle.std.specs.Prelude.{◌≡◌, ◌≤◌};
 ghost use Rattle.plan_codes.specs.Values.{place_of, sign_of, flag_of, value_bad};
 ghost use Rattle.plan_codes.specs.Cases.{parsed_of, place_num, sign_num};
 
-use base::places::{INC, POST, PRE};
 
 // 01: need, hold, leaving
-#[derive(Clone, Copy)]
+#[derive(Clone, Copy, Debug, PartialEq, Eq)]
 pub enum Place {
     Pre,
     Inc,
     Post,
 }
 
-#[derive(Clone, Copy)]
+#[derive(Clone, Copy, Debug, PartialEq, Eq)]
 pub enum Sign {
     Clear,
     Set,
@@ -31,11 +30,7 @@ impl From<Place> for u16 {
     ghost from_gives = { λ p n. n ≡ place_num p };
 
     fn from(place: Place) -> u16 {
-        match place {
-            Place::Pre => PRE,
-            Place::Inc => INC,
-            Place::Post => POST,
-        }
+        place as u16
     }
 }
 
@@ -43,10 +38,7 @@ impl From<Sign> for u16 {
     ghost from_gives = { λ s n. n ≡ sign_num s };
 
     fn from(sign: Sign) -> u16 {
-        match sign {
-            Sign::Clear => 0,
-            Sign::Set => 1,
-        }
+        sign as u16
     }
 }
 

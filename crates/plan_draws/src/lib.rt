@@ -6,7 +6,7 @@ ghost use Rattle.plan_draws.specs.Drawn.{Allowed};
 ghost use Rattle.plan_draws.specs.Model.{kind_in, minutes_in, value_in};
 ghost use Rattle.plan_draws.specs.Inner.{GROUPS, DRAWS, Drew, OrdersFound};
 
-use base::kinds::{ALL_OF, TASK};
+use base::kinds::Kind;
 
 // What a plan is generated from: 02's seed, g and t.
 #[derive(Clone, Copy)]
@@ -64,12 +64,12 @@ pub fn kind_of(recipe: Recipe, draws: &DrawTable, node: usize) -> u8
     ensures { result ≡ kind_in recipe node }
 {
     if node == 0 {
-        return ALL_OF;
+        return Kind::AllOf as u8;
     }
     if node <= recipe.groups {
-        return ALL_OF + (draws[node - 1] % 2) as u8;
+        return Kind::AllOf as u8 + (draws[node - 1] % 2) as u8;
     }
-    TASK
+    Kind::Task as u8
 }
 
 // The minutes of a node: a task's are drawn.

@@ -1,11 +1,12 @@
 // The fields of a plan by position.
 ghost use Rattle.std.specs.Prelude.{◌≡◌, ◌+◌, ◌*◌, ◌<◌, ◌≤◌, length};
+ghost use Rattle.base.specs.Kinds.{kind_code};
 ghost use Rattle.plan_format.specs.Format.{u16_at, node_count, cond_count, order_count, flag_count, start_flag};
 ghost use Rattle.plan_format.specs.Format.{name_char, entry_at, parent_of, kind_of, minutes_of, cond_node, cond_value};
 ghost use Rattle.plan_format.specs.Format.{earlier_of, later_of, is_kind, is_group};
 ghost use Rattle.plan_format.specs.Whole.{Whole};
 
-use base::kinds::{ALL_OF, ANY_OF, OPTIONAL};
+use base::kinds::Kind;
 
 pub fn u16_at(plan: &[u8], at: usize) -> u16
     requires { at + 1 < length plan.now }
@@ -121,23 +122,20 @@ pub fn later(plan: &[u8], j: usize) -> u8
 }
 
 // Node n is one of the plan, of this kind.
-pub fn is_kind(plan: &[u8], n: usize, k: u8) -> bool
+#[tactic(auto, unfolding(crate::specs::Format::is_kind))]
+pub fn is_kind(plan: &[u8], n: usize, k: Kind) -> bool
     requires { Whole plan.now }
-    ensures { result ≡ is_kind plan.now n k }
+    ensures { result ≡ is_kind plan.now n (kind_code k) }
 {
-    if n < nodes(plan) {
-        return kind(plan, n) == k;
-    }
-    false
+    n < nodes(plan) && kind(plan, n) == k as u8
 }
 
+#[tactic(auto, unfolding(crate::specs::Format::is_group))]
 pub fn is_group(plan: &[u8], n: usize) -> bool
     requires { Whole plan.now }
     ensures { result ≡ is_group plan.now n }
 {
-    if n < nodes(plan) {
-        let k = kind(plan, n);
-        return (k == ALL_OF) | (k == ANY_OF) | (k == OPTIONAL);
-    }
-    false
+    is_kind(plan, n, Kind::AllOf)
+        || is_kind(plan, n, Kind::AnyOf)
+        || is_kind(plan, n, Kind::Optional)
 }

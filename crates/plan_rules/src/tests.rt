@@ -6,7 +6,7 @@ ghost use Rattle.plan_format.specs.Whole.{Whole};
 ghost use Rattle.plan_rules.specs.Rules.{bad_start, bad_char, bad_entry, bad_parent, bad_condition, not_below};
 ghost use Rattle.plan_rules.specs.Rules.{not_rising, is_child, bad_pair, bad_order};
 
-use base::kinds::{ALL_OF, OPTIONAL, TASK};
+use base::kinds::Kind;
 use plan_codes::names::allowed;
 use plan_codes::value::value_bad;
 use plan_format::fields::{
@@ -14,11 +14,12 @@ use plan_format::fields::{
     name_char, nodes, parent, start_flag,
 };
 
+#[tactic(auto, unfolding(crate::specs::Rules::bad_start))]
 pub fn bad_start(plan: &[u8], f: usize) -> bool
     requires { (f < 64) × Whole plan.now }
     ensures { result ≡ bad_start plan.now f }
 {
-    (flags(plan) <= f) & start_flag(plan, f)
+    flags(plan) <= f && start_flag(plan, f)
 }
 
 pub fn bad_char(plan: &[u8], k: usize) -> bool
@@ -28,39 +29,45 @@ pub fn bad_char(plan: &[u8], k: usize) -> bool
     !allowed(name_char(plan, k))
 }
 
+#[tactic(auto, unfolding(crate::specs::Rules::bad_entry))]
 pub fn bad_entry(plan: &[u8], n: usize) -> bool
     requires { (n < node_count plan.now) × Whole plan.now }
     ensures { result ≡ bad_entry plan.now n }
 {
     let m = minutes(plan, n);
-    ((OPTIONAL < kind(plan, n)) | (is_group(plan, n) & (0 < m)))
-        | (is_kind(plan, n, TASK) & (10080 < m))
+    kind(plan, n) > Kind::Optional as u8
+        || (is_group(plan, n) && m > 0)
+        || (is_kind(plan, n, Kind::Task) && m > 10080)
 }
 
+#[tactic(auto, unfolding(crate::specs::Rules::bad_parent))]
 pub fn bad_parent(plan: &[u8], n: usize) -> bool
     requires { (n < node_count plan.now) × Whole plan.now }
     ensures { result ≡ bad_parent plan.now n }
 {
     let p = usize::from(parent(plan, n));
     if n == 0 {
-        return p != 255;
+        p != 255
+    } else {
+        !(p < n && is_group(plan, p))
     }
-    !((p < n) & is_group(plan, p))
 }
 
+#[tactic(auto, unfolding(crate::specs::Rules::bad_condition))]
 pub fn bad_condition(plan: &[u8], i: usize) -> bool
     requires { (i < cond_count plan.now) × Whole plan.now }
     ensures { result ≡ bad_condition plan.now i }
 {
-    let task = is_kind(plan, usize::from(condition_node(plan, i)), TASK);
-    !task | value_bad(condition_value(plan, i), flags(plan))
+    !is_kind(plan, usize::from(condition_node(plan, i)), Kind::Task)
+        || value_bad(condition_value(plan, i), flags(plan))
 }
 
 // Not a lower first part, nor the same with a lower second part.
+#[tactic(auto, unfolding(crate::specs::Rules::not_below))]
 fn not_below(x: u8, y: u16, x2: u8, y2: u16) -> bool
     ensures { result ≡ not_below x y x2 y2 }
 {
-    !((x < x2) | ((x == x2) & (y < y2)))
+    !(x < x2 || (x == x2 && y < y2))
 }
 
 pub fn conditions_fall(plan: &[u8], i: usize) -> bool
@@ -88,19 +95,15 @@ pub fn orders_fall(plan: &[u8], j: usize) -> bool
 }
 
 // Node n is a child of g.
+#[tactic(auto, unfolding(crate::specs::Rules::is_child))]
 fn is_child(plan: &[u8], g: usize, n: usize) -> bool
     requires { Whole plan.now }
     ensures { result ≡ is_child plan.now g n }
 {
-    if n < 1 {
-        return false;
-    }
-    if n < nodes(plan) {
-        return usize::from(parent(plan, n)) == g;
-    }
-    false
+    n > 0 && n < nodes(plan) && usize::from(parent(plan, n)) == g
 }
 
+#[tactic(auto, unfolding(crate::specs::Rules::bad_pair, crate::specs::Rules::is_child))]
 fn bad_pair(plan: &[u8], x: usize, y: usize) -> bool
     requires { Whole plan.now }
     ensures { result ≡ bad_pair plan.now x y }
@@ -109,8 +112,8 @@ fn bad_pair(plan: &[u8], x: usize, y: usize) -> bool
         return true;
     }
     let g = usize::from(parent(plan, x));
-    let siblings = is_kind(plan, g, ALL_OF) & is_child(plan, g, x) & is_child(plan, g, y);
-    !siblings | !(x < y)
+    let siblings = is_kind(plan, g, Kind::AllOf) && is_child(plan, g, x) && is_child(plan, g, y);
+    !siblings || x >= y
 }
 
 pub fn bad_order(plan: &[u8], j: usize) -> bool

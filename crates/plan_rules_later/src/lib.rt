@@ -7,8 +7,7 @@ ghost use Rattle.plan_format.specs.Whole.{Whole};
 ghost use Rattle.plan_rules.specs.Rules.{cause7, cause8, cause9, cause10, cause11, cause12};
 ghost use Rattle.plan_rules_later.specs.Passes.{child_step, sign_step, post_step, asked, refused_by, Finds};
 
-use base::places::{INC, POST};
-use plan_codes::value::{flag_of, place_of, sign_of};
+use plan_codes::value::{Place, flag_of, place_of, sign_of};
 use plan_format::fields::{condition_node, condition_value, conditions, is_group, nodes, parent};
 
 // What a place asks of an entry of the table: that it is the place's mark, or that it is not.
@@ -62,8 +61,8 @@ fn post_step(plan: &[u8], i: usize) -> Step
     let place = place_of(v);
     let flag = flag_of(v) as u8;
     Step {
-        asks: (place == INC).then_some(Ask::Needs(flag)),
-        writes: (place == POST).then_some(flag),
+        asks: (place == Place::Inc as u16).then_some(Ask::Needs(flag)),
+        writes: (place == Place::Post as u16).then_some(flag),
         mark: condition_node(plan, i) + 1,
     }
 }

@@ -11,8 +11,8 @@ ghost use Rattle.run_state.specs.Inner.{state_refusal};
 ghost use Rattle.run_progress.specs.Progress.{counted_at, children_counted, Counted};
 ghost use Rattle.tables.specs.Sizes.{NODES};
 
-use base::kinds::ALL_OF;
-use base::statuses::{DONE, WAITING};
+use base::kinds::Kind;
+use base::statuses::Status;
 use plan_format::fields::{is_kind, nodes, parent};
 use tables::{Nodes, no_nodes};
 
@@ -32,10 +32,10 @@ pub fn is_complete(plan: &[u8], state: &[u8], ends: &Nodes, n: usize) -> bool
     ensures { result ≡ complete_b (plan_of plan.now)
         (status_in plan.now state.now) n }
 {
-    if is_kind(plan, n, ALL_OF) {
+    if is_kind(plan, n, Kind::AllOf) {
         ends[n] == 0
     } else {
-        ends[n] != 0 || state[8 + n] == DONE
+        ends[n] != 0 || state[8 + n] == Status::Done as u8
     }
 }
 
@@ -45,7 +45,7 @@ pub fn is_begun(plan: &[u8], state: &[u8], begun: &Nodes, n: usize) -> bool
         × (get_or begun.now n 0 ≡ children_counted Tally.Begun plan.now state.now n)) }
     ensures { result ≡ begun_b (plan_of plan.now) (status_in plan.now state.now) n }
 {
-    state[8 + n] != WAITING || begun[n] != 0
+    state[8 + n] != Status::Waiting as u8 || begun[n] != 0
 }
 
 // A node and its parent.
@@ -64,7 +64,7 @@ fn is_counted(plan: &[u8], state: &[u8], tally: Tally, table: &Nodes, link: Link
 {
     match tally {
         Tally::Begun => is_begun(plan, state, table, link.node),
-        Tally::Ends => is_kind(plan, link.parent, ALL_OF)
+        Tally::Ends => is_kind(plan, link.parent, Kind::AllOf)
             != is_complete(plan, state, table, link.node),
     }
 }

@@ -10,8 +10,8 @@ ghost use Rattle.run_starts.specs.Inner.{StateFits, with_ordinal};
 ghost use Rattle.run_starts.specs.Starts.{holders, misnumbered};
 ghost use Rattle.tables.specs.Sizes.{STARTS};
 
-use base::kinds::TASK;
-use base::statuses::WAITING;
+use base::kinds::Kind;
+use base::statuses::Status;
 use plan_format::fields::{is_kind, nodes, u16_at};
 use tables::{STARTS, no_starts};
 
@@ -38,7 +38,7 @@ fn is_started(plan: &[u8], state: &[u8], n: usize) -> bool
     requires { (n < node_count plan.now) × StateFits plan.now state.now }
     ensures { result ≡ started_in plan.now state.now n }
 {
-    is_kind(plan, n, TASK) && state[8 + n] != WAITING
+    is_kind(plan, n, Kind::Task) && state[8 + n] != Status::Waiting as u8
 }
 
 // Node n has an ordinal and has not been started.

@@ -10,8 +10,8 @@ ghost use Rattle.run_starts.specs.Starts.{node_byte};
 ghost use Rattle.node_sets.specs.Sets.{Each};
 ghost use Rattle.tables.specs.Sizes.{NODES};
 
-use base::kinds::TASK;
-use base::statuses::RUNNING;
+use base::kinds::Kind;
+use base::statuses::Status;
 use node_sets::rises;
 use plan_format::fields::is_kind;
 
@@ -29,7 +29,7 @@ pub fn no_task(plan: &[u8], tasks: &[usize]) -> bool
     requires { Whole plan.now }
     ensures { result ≡ any_in tasks.now (λ t. not (is_kind plan.now t 0)) }
 {
-    tasks.iter().any(|t| !is_kind(plan, *t, TASK))
+    tasks.iter().any(|t| !is_kind(plan, *t, Kind::Task))
 }
 
 // 18: some task is not running.
@@ -37,5 +37,5 @@ pub fn not_running(state: &[u8], tasks: &[usize]) -> bool
     requires { Each tasks.now (λ t. (t < NODES) × (8 + t < length state.now)) }
     ensures { result ≡ any_in tasks.now (λ t. not (eqb (node_byte state.now t) 1)) }
 {
-    tasks.iter().any(|t| state[8 + *t] != RUNNING)
+    tasks.iter().any(|t| state[8 + *t] != Status::Running as u8)
 }

@@ -9,7 +9,7 @@ ghost use Rattle.table_orders.specs.Links.{Unlinked, Linked, Leading};
 ghost use Rattle.table_orders.specs.Among.{OrdersAmong};
 
 use plan_format::fields::{earlier, later, orders};
-use tables::codes::{AFTER, BEFORE};
+use tables::codes::Relation;
 use tables::{NODES, Nodes, Orders};
 
 // Puts a before c.
@@ -17,8 +17,8 @@ fn link(order: &mut Orders, a: usize, c: usize)
     requires { (a < c) × (c < NODES) × (length order.old ≡ PAIRS) }
     ensures { Linked order.old order.new c (λ z. z ≡ a) }
 {
-    order[a * NODES + c] = BEFORE;
-    order[c * NODES + a] = AFTER;
+    order[a * NODES + c] = Relation::Before as u8;
+    order[c * NODES + a] = Relation::After as u8;
 }
 
 // Puts a, and all that the table has before a, before b. Orders rise by (earlier, later), and earlier is the lower
@@ -28,7 +28,7 @@ pub fn link_all(order: &mut Orders, a: usize, b: usize)
     ensures { Linked order.old order.new b (Leading order.old a) }
 {
     for c in 0..a {
-        if order[c * NODES + a] == BEFORE {
+        if order[c * NODES + a] == Relation::Before as u8 {
             link(order, c, b);
         }
     }

@@ -1,4 +1,7 @@
-// The codes of the table of orders: how one node stands to another (specs/Represents.antt).
-pub const BEFORE: u8 = 1;
-
-pub const AFTER: u8 = 2;
+// How one node stands to another by the codes in the table of orders (specs/Represents.antt).
+#[derive(Clone, Copy, Debug, PartialEq, Eq)]
+pub enum Relation {
+    Apart,
+    Before,
+    After,
+}

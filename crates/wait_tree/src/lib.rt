@@ -13,7 +13,7 @@ ghost use Rattle.tables.specs.Sizes.{NODES};
 ghost use Rattle.tables.specs.Segments.{segment_of};
 ghost use Rattle.wait_tree.specs.Filled.{LengthsTo, LengthsUnder, AllWorked, WaitsWithin, Longest};
 
-use base::kinds::{ALL_OF, TASK};
+use base::kinds::Kind;
 use plan_format::fields::{kind, minutes, nodes, parent};
 use tables::{Nodes, Starts, Times, children, no_times};
 use wait_group::{longest_child, spread};
@@ -37,9 +37,9 @@ fn groups_under(
     for i in segment.start..segment.end {
         let child = usize::from(kids[i]);
         let k = kind(plan, child);
-        if k == ALL_OF {
+        if k == Kind::AllOf as u8 {
             all_length(plan, from, kids, lengths, waits, child);
-        } else if k != TASK {
+        } else if k != Kind::Task as u8 {
             any_length(plan, from, kids, lengths, waits, child);
         }
     }
@@ -89,7 +89,7 @@ fn task_lengths(plan: &[u8], lengths: &mut Times, waits: &Times)
     ensures { Tables plan.now lengths.new waits.now }
 {
     for t in 0..nodes(plan) {
-        if kind(plan, t) == TASK {
+        if kind(plan, t) == Kind::Task as u8 {
             lengths[t] = u32::from(minutes(plan, t));
         }
     }
@@ -103,9 +103,9 @@ fn work_out(plan: &[u8], from: &Starts, kids: &Nodes, lengths: &mut Times, waits
 {
     task_lengths(plan, lengths, waits);
     let root = kind(plan, 0);
-    if root == ALL_OF {
+    if root == Kind::AllOf as u8 {
         all_length(plan, from, kids, lengths, waits, 0);
-    } else if root != TASK {
+    } else if root != Kind::Task as u8 {
         any_length(plan, from, kids, lengths, waits, 0);
     }
 }

@@ -18,15 +18,15 @@ loop-i-preserved c =
     λ p n g. joined_more e low c.merged-next.ensures
     (child_row g e (record { low = low; high = c.loop-i-test.true })).says unmasked (c.loop-i.invariant p n g)
 
-pub returns-then-kind-eq-OPTIONAL : goal.returns-then-kind-eq-OPTIONAL
-returns-then-kind-eq-OPTIONAL c =
+pub returns-then-kind : goal.returns-then-kind
+returns-then-kind c =
     let last : c.loop-i.i ≡ c.args.segment.end = omega arith in
-    λ p n g m e. optional_row g (kind_inj (p.tree.kind n) optional (sym e ∙ c.if-kind-eq-OPTIONAL.true))
+    λ p n g m e. optional_row g (kind_inj (p.tree.kind n) optional (sym e ∙ c.if-kind.true))
     (rw last at (c.loop-i.invariant p n g)) c.with_empty.ensures
 
-pub returns-else-kind-eq-OPTIONAL : goal.returns-else-kind-eq-OPTIONAL
-returns-else-kind-eq-OPTIONAL c =
+pub returns-else-kind : goal.returns-else-kind
+returns-else-kind c =
     let last : c.loop-i.i ≡ c.args.segment.end = omega arith in
     λ p n g m e. any_row g
-    (picks_other (p.tree.kind n) (λ q. c.if-kind-eq-OPTIONAL.false (e ∙ ap kind_number q)) m)
+    (picks_other (p.tree.kind n) (λ q. c.if-kind.false (e ∙ ap kind_number q)) m)
     (rw last at (c.loop-i.invariant p n g))

@@ -6,13 +6,13 @@ use Rattle.marks_pair.proofs.pair_word.Goals as goal
 
 pub returns-then-shared-eq0 : goal.returns-then-shared-eq0
 returns-then-shared-eq0 c = pair_kid c.from-d.ensures
-    (none_shared _ _ _ c.if-order-d-eq-BEFORE.true c.word_at.ensures
-    c.word_at-then-order-d-eq-BEFORE.ensures c.if-shared-eq0.true)
+    (none_shared _ _ _ c.if-order-d.true c.word_at.ensures
+    c.word_at-then-order-d.ensures c.if-shared-eq0.true)
 
 pub returns-else-shared-eq0 : goal.returns-else-shared-eq0
 returns-else-shared-eq0 c = let e = c.from-d.ensures in
-    pair_kid e (shared_passes _ _ _ c.if-order-d-eq-BEFORE.true
-    c.word_at.ensures c.word_at-then-order-d-eq-BEFORE.ensures
+    pair_kid e (shared_passes _ _ _ c.if-order-d.true
+    c.word_at.ensures c.word_at-then-order-d.ensures
     (passing_kid e c.passing.ensures))
 
 pub returns-then-apart : goal.returns-then-apart
@@ -24,4 +24,4 @@ returns-then-apart c =
 
 pub returns-else-apart : goal.returns-else-apart
 returns-else-apart c = pair_kid c.from-d.ensures
-    (neither_rule _ c.if-order-d-eq-BEFORE.false (λ u. rw c.if-apart.false at (c.apart.ensures.1 u)))
+    (neither_rule _ c.if-order-d.false (λ u. rw c.if-apart.false at (c.apart.ensures.1 u)))

@@ -9,15 +9,15 @@ use Rattle.marks_tree.proofs.Children.{any_kind, task_filled, all_filled, any_fi
 use Rattle.marks_tree.proofs.+all_of_any_of_group_groups_under.Goals as goal
 
 -- ---- a node
-pub group-returns-then-k-eq-ALL_OF : goal.group-returns-then-k-eq-ALL_OF
-group-returns-then-k-eq-ALL_OF t c = any_kind (is_all _ _ c.if-k-eq-ALL_OF.true) c.all_of.ensures
+pub group-returns-then-k : goal.group-returns-then-k
+group-returns-then-k t c = any_kind (is_all _ _ c.if-k.true) c.all_of.ensures
 
-pub group-returns-then-k-ne-TASK : goal.group-returns-then-k-ne-TASK
-group-returns-then-k-ne-TASK t c =
-    any_kind (is_choice_lem _ _ c.if-k-eq-ALL_OF.false c.if-k-ne-TASK.true) c.any_of.ensures
+pub group-returns-then-k-2 : goal.group-returns-then-k-2
+group-returns-then-k-2 t c =
+    any_kind (is_choice_lem _ _ c.if-k.false c.if-k-2.true) c.any_of.ensures
 
-pub group-returns-else-k-ne-TASK : goal.group-returns-else-k-ne-TASK
-group-returns-else-k-ne-TASK t c = any_kind (is_task _ _ c.if-k-ne-TASK.false) (task_filled c.requires.1)
+pub group-returns-else-k-2 : goal.group-returns-else-k-2
+group-returns-else-k-2 t c = any_kind (is_task _ _ c.if-k-2.false) (task_filled c.requires.1)
 
 -- ---- an all_of group
 pub all_of-returns : goal.all_of-returns

@@ -35,11 +35,11 @@ begun c =
     ap (λ (x : ℕ). not (eqb (node_byte c.args.state.now c.args.n) 0) || not (eqb x 0)) c.requires.1.1
     ∙ node_begun c.args.plan.now c.args.state.now c.requires.1.0 c.args.n c.requires.0
 
-pub returns-then-state-n-ne-WAITING : goal.returns-then-state-n-ne-WAITING
-returns-then-state-n-ne-WAITING c =
-    let e = ne_eqb _ 0 c.if-state-n-ne-WAITING.true in
-    rw e (rw e at (begun (goal.at.returns-then-state-n-ne-WAITING c).Start))
+pub returns-then-state-n : goal.returns-then-state-n
+returns-then-state-n c =
+    let e = ne_eqb _ 0 c.if-state-n.true in
+    rw e (rw e at (begun (goal.at.returns-then-state-n c).Start))
 
-pub returns-else-state-n-ne-WAITING : goal.returns-else-state-n-ne-WAITING
-returns-else-state-n-ne-WAITING c =
-    rw (eq-eqb _ 0 c.if-state-n-ne-WAITING.false) at (begun (goal.at.returns-else-state-n-ne-WAITING c).Start)
+pub returns-else-state-n : goal.returns-else-state-n
+returns-else-state-n c =
+    rw (eq-eqb _ 0 c.if-state-n.false) at (begun (goal.at.returns-else-state-n c).Start)

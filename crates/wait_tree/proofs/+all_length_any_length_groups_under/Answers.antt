@@ -11,9 +11,9 @@ use Rattle.wait_tree.proofs.Groups.{any_worked}
 use Rattle.wait_tree.proofs.+all_length_any_length_groups_under.Goals as goal
 use Rattle.wait_tree.proofs.+all_length_any_length_groups_under.Goals.{
   groups_under-After-from-child,
-  groups_under-then-k-eq-ALL_OF,
-  groups_under-else-k-eq-ALL_OF+then-k-ne-TASK,
-  groups_under-else-k-eq-ALL_OF+else-k-ne-TASK,
+  groups_under-then-k,
+  groups_under-else-k+then-k-2,
+  groups_under-else-k+else-k-2,
 }
 
 -- ---- an all-of group
@@ -52,7 +52,7 @@ groups_under-all_length-requires t c =
     let l = later t (goal.at.groups_under-all_length-requires t c).After-from-child in (
       omega (arith, c.decreases, nearer refl l),
       (
-        all_group c.requires.0.accepted c.requires.0.tree l.1 c.kind-k.ensures c.if-k-eq-ALL_OF.true,
+        all_group c.requires.0.accepted c.requires.0.tree l.1 c.kind-k.ensures c.if-k.true,
         c.loop-i.invariant.tables,
       ),
     )
@@ -62,8 +62,8 @@ groups_under-any_length-requires t c =
     let l = later t (goal.at.groups_under-any_length-requires t c).After-from-child in (
       omega (arith, c.decreases, nearer refl l),
       (
-        any_group c.requires.0.accepted c.requires.0.tree l.1 c.kind-k.ensures c.if-k-eq-ALL_OF.false
-            c.if-k-ne-TASK.true,
+        any_group c.requires.0.accepted c.requires.0.tree l.1 c.kind-k.ensures c.if-k.false
+            c.if-k-2.true,
         c.loop-i.invariant.tables,
       ),
     )
@@ -74,10 +74,10 @@ groups_under-loop-i-preserved t c =
     let turn = (goal.at.groups_under-loop-i-preserved t c).After-from-child in
     let p = at t turn in
     let e = c.from-child.ensures in
-    elim c.if-k-eq-ALL_OF.branch [
-      | groups_under-then-k-eq-ALL_OF w ↦ child_more e p s w.lengths-is w.waits-is w.all_length.ensures
-      | groups_under-else-k-eq-ALL_OF+then-k-ne-TASK w ↦ child_more e p s w.lengths-is w.waits-is w.any_length.ensures
-      | groups_under-else-k-eq-ALL_OF+else-k-ne-TASK w ↦
+    elim c.if-k.branch [
+      | groups_under-then-k w ↦ child_more e p s w.lengths-is w.waits-is w.all_length.ensures
+      | groups_under-else-k+then-k-2 w ↦ child_more e p s w.lengths-is w.waits-is w.any_length.ensures
+      | groups_under-else-k+else-k-2 w ↦
           child_more e p s w.lengths-is w.waits-is
-          (task_worked c.requires.0.accepted (later t turn).1 (sym c.kind-k.ensures ∙ w.if-k-ne-TASK.false) s.tables)
+          (task_worked c.requires.0.accepted (later t turn).1 (sym c.kind-k.ensures ∙ w.if-k-2.false) s.tables)
     ]

@@ -4,7 +4,7 @@ use Rattle.plan_check.proofs.Accepted.{clean}
 use Rattle.wait_tree.proofs.Tasks.{tasks_none, tasks_more, tasks_skip, tasks_all}
 use native.Mathlib.Omega.{arith}
 use Rattle.wait_tree.proofs.task_lengths.Goals as goal
-use Rattle.wait_tree.proofs.task_lengths.Goals.{else-kind-eq-TASK, then-kind-eq-TASK}
+use Rattle.wait_tree.proofs.task_lengths.Goals.{else-kind, then-kind}
 
 pub nodes-t-end-requires : goal.nodes-t-end-requires
 nodes-t-end-requires c = (clean _ c.requires.0).fits.limits.long
@@ -27,10 +27,10 @@ bounds-lengths-t c = omega (arith, (clean _ c.requires.0).fits.limits.nodes, c.n
 pub loop-t-preserved : goal.loop-t-preserved
 loop-t-preserved c =
     let ok = clean _ c.requires.0 in
-    elim c.if-kind-eq-TASK.branch [
-      | then-kind-eq-TASK w ↦ tasks_more ok (omega arith) (sym c.kind.ensures ∙ w.if-kind-eq-TASK.true)
+    elim c.if-kind.branch [
+      | then-kind w ↦ tasks_more ok (omega arith) (sym c.kind.ensures ∙ w.if-kind.true)
           (w.from.ensures ∙ w.minutes.ensures) w.lengths-is c.loop-t.invariant
-      | else-kind-eq-TASK w ↦ tasks_skip (λ z. w.if-kind-eq-TASK.false (c.kind.ensures ∙ z)) w.lengths-is
+      | else-kind w ↦ tasks_skip (λ z. w.if-kind.false (c.kind.ensures ∙ z)) w.lengths-is
           c.loop-t.invariant
     ]
 

@@ -11,23 +11,23 @@ kind-root-requires c = let ok = clean _ c.requires.0 in
 pub all_length-requires : goal.all_length-requires
 all_length-requires c = (
   all_group c.requires.0 c.requires.1 (clean _ c.requires.0).fits.limits.some_node
-      c.kind-root.ensures c.if-root-eq-ALL_OF.true,
+      c.kind-root.ensures c.if-root.true,
   c.task_lengths.ensures,
 )
 
 pub any_length-requires : goal.any_length-requires
 any_length-requires c = (
   any_group c.requires.0 c.requires.1 (clean _ c.requires.0).fits.limits.some_node
-      c.kind-root.ensures c.if-root-eq-ALL_OF.false c.if-root-ne-TASK.true,
+      c.kind-root.ensures c.if-root.false c.if-root-2.true,
   c.task_lengths.ensures,
 )
 
-pub returns-then-root-eq-ALL_OF : goal.returns-then-root-eq-ALL_OF
-returns-then-root-eq-ALL_OF c = root_worked c.requires.0 c.all_length.ensures
+pub returns-then-root : goal.returns-then-root
+returns-then-root c = root_worked c.requires.0 c.all_length.ensures
 
-pub returns-then-root-ne-TASK : goal.returns-then-root-ne-TASK
-returns-then-root-ne-TASK c = root_worked c.requires.0 c.any_length.ensures
+pub returns-then-root-2 : goal.returns-then-root-2
+returns-then-root-2 c = root_worked c.requires.0 c.any_length.ensures
 
-pub returns-else-root-ne-TASK : goal.returns-else-root-ne-TASK
-returns-else-root-ne-TASK c =
-    root_task c.requires.0 c.task_lengths.ensures (sym c.kind-root.ensures ∙ c.if-root-ne-TASK.false)
+pub returns-else-root-2 : goal.returns-else-root-2
+returns-else-root-2 c =
+    root_task c.requires.0 c.task_lengths.ensures (sym c.kind-root.ensures ∙ c.if-root-2.false)
