@@ -120,5 +120,9 @@ pub fn bad_order(plan: &[u8], j: usize) -> bool
     requires { (j < order_count plan.now) × Whole plan.now }
     ensures { result ≡ bad_order plan.now j }
 {
-    bad_pair(plan, usize::from(earlier(plan, j)), usize::from(later(plan, j)))
+    bad_pair(
+        plan,
+        usize::from(earlier(plan, j)),
+        usize::from(later(plan, j)),
+    )
 }
