@@ -23,7 +23,7 @@ returns-then-stands-2 c =
       avoid_before = narrows_kept (λ q. omega (arith, e, q)) refl;
       clear_before = narrows_kept (λ q. omega (arith, e, q)) refl;
       set_before = narrows_kept (λ q. omega (arith, e, q)) refl;
-      avoid_after = narrows_taken e c.word_at-then-stands-2.ensures refl;
+      avoid_after = narrows_taken e c.word_at-then-stands-2-2.ensures refl;
       silent_apart = narrows_kept (λ a. a.not_after e) refl;
     }
 
