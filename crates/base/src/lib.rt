@@ -2,7 +2,6 @@
 #![tactic(auto)]
 
 pub mod kinds;
-pub mod places;
 pub mod statuses;
 
 // The word with every bit set.

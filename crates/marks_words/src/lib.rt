@@ -56,12 +56,6 @@ pub fn mark_words(rows: &Rows, node: usize) -> Marks
     array::from_fn(|k| mark_word(rows, node, k))
 }
 
-pub fn no_rows() -> Rows
-    ensures { length result ≡ ROWS }
-{
-    [0u64; ROWS]
-}
-
 // The words of a node, from any tables that represent a plan: the rows of all nodes, then the words of one.
 pub fn node_words(
     kind: &Nodes,
@@ -76,7 +70,7 @@ pub fn node_words(
     ensures { NodeWords kind.now from.now kids.now order.now
         conds.now n node result }
 {
-    let mut rows = no_rows();
+    let mut rows = [0; ROWS];
     node_rows(kind, from, kids, order, conds, &mut rows, n);
     mark_words(&rows, node)
 }

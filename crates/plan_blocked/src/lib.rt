@@ -16,7 +16,7 @@ use base::kinds::Kind;
 use node_sets::{all_nodes, mark_all, rises};
 use plan_check::check;
 use plan_format::fields::{is_kind, nodes, parent};
-use tables::{Nodes, no_nodes};
+use tables::{NODES, Nodes};
 
 // The number is that of the root, of no node, or of one whose parent is neither any-of nor optional.
 fn unblockable(plan: &[u8], s: usize) -> bool
@@ -49,7 +49,7 @@ fn mark_standing(plan: &[u8], blocked: &Nodes, standing: &mut Nodes) -> Nodes
     ensures { Standing plan.now (marked blocked.now) standing.new
         × WithBranch plan.now (marked blocked.now) result }
 {
-    let mut marks = no_nodes();
+    let mut marks = [0; NODES];
     for c in 1..nodes(plan) {
         let g = usize::from(parent(plan, c));
         if (blocked[c] == 1) | (standing[g] != 1) {

@@ -12,7 +12,7 @@ ghost use Rattle.plan_merge.specs.Inner.{Mergeable};
 ghost use Rattle.plan_merge.specs.Calls.{Merges};
 
 use answers::Refusal;
-use base::kinds::ALL_OF;
+use base::kinds::Kind;
 use plan_check::check;
 use plan_format::fields::{flags, start_flag};
 use plan_layout::{Part, Sizes, plan_length, size_byte, write_parts};
@@ -63,7 +63,7 @@ fn new_byte(first: &[u8], second: &[u8], sizes: Sizes, part: Part) -> u8
         }
         Part::Name(k) => b"HULL"[k],
         Part::Parent(_) => 255,
-        Part::Kind(_) => ALL_OF,
+        Part::Kind(_) => Kind::AllOf as u8,
         Part::MinutesLow(_) | Part::MinutesHigh(_) => 0,
         Part::Task(_)
         | Part::ValueLow(_)

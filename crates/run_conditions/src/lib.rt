@@ -14,9 +14,8 @@ ghost use Rattle.run_state.specs.Made.{is_of, set_at, made};
 ghost use Rattle.node_sets.specs.Sets.{marked};
 ghost use Rattle.run_conditions.specs.Conditions.{unmet_at, broken_at};
 
-use base::places::INC;
-use base::statuses::RUNNING;
-use plan_codes::value::{flag_of, place_of, sign_of};
+use base::statuses::Status;
+use plan_codes::value::{Place, flag_of, place_of, sign_of};
 use plan_format::fields::{condition_node, condition_value, conditions};
 use run_flags::Flags;
 use tables::Nodes;
@@ -114,7 +113,7 @@ fn broken_at(plan: &[u8], state: &[u8], after: Images, tasks: &Nodes, i: usize) 
     } else {
         after.clear.has(f)
     };
-    is_at(plan, INC, i) & (tasks[node] != 1) & (state[8 + node] == RUNNING) & differs(sign, kept)
+    is_at(plan, Place::Inc as u16, i) & (tasks[node] != 1) & (state[8 + node] == Status::Running as u8) & differs(sign, kept)
 }
 
 // 22: making the literals of the marked tasks at the place true breaks an incondition of another running task.

@@ -17,11 +17,11 @@ ghost use Rattle.run_progress.specs.declared.Tally.TheVariants.{Begun, Ends};
 ghost use Rattle.run_enabled.specs.Enabling.{rival_at, open_at};
 ghost use Rattle.tables.specs.Sizes.{NODES};
 
-use base::kinds::ALL_OF;
-use base::statuses::DONE;
+use base::kinds::Kind;
+use base::statuses::Status;
 use plan_format::fields::{earlier, is_kind, later, orders, parent};
 use run_progress::{is_begun, is_complete};
-use tables::{Nodes, no_nodes};
+use tables::{NODES, Nodes};
 
 // The parent g of node n is an any-of or optional group, and another branch of it than n is begun; a skip begins the
 // one without tasks. The begun children of g are counted, n with them.
@@ -32,8 +32,8 @@ fn rival_begun(plan: &[u8], state: &[u8], begun: &Nodes, g: usize, n: usize) -> 
     requires counted { Counted Begun plan.now state.now begun.now }
     ensures { result ≡ rival_at plan.now state.now g n }
 {
-    let skipped = state[8 + g] == DONE;
-    !is_kind(plan, g, ALL_OF) && (skipped || u8::from(is_begun(plan, state, begun, n)) < begun[g])
+    let skipped = state[8 + g] == Status::Done as u8;
+    !is_kind(plan, g, Kind::AllOf) && (skipped || u8::from(is_begun(plan, state, begun, n)) < begun[g])
 }
 
 // 19: walks up from the node. A `while`: the walk ends at the root.
@@ -60,7 +60,7 @@ pub fn path(plan: &[u8], node: usize) -> Nodes
     ensures { (length result ≡ NODES) × ((a : ℕ) → a < NODES
         → get_or result a 0 ≡ num (under_b (plan_of plan.now) a node)) }
 {
-    let mut marks = no_nodes();
+    let mut marks = [0; NODES];
     let mut n = node;
     marks[n] = 1;
     while 0 < n {

@@ -10,7 +10,7 @@ ghost use Rattle.run_monitor.specs.Status.{Told};
 ghost use Rattle.run_monitor.specs.Events.{Called};
 
 use answers::Refusal;
-use base::statuses::DONE;
+use base::statuses::Status;
 use run_progress::{Tally, children, is_complete};
 use run_refusals::{Move, refused, skip_refused, together_refused};
 use run_state::check_state;
@@ -76,7 +76,7 @@ pub fn skip(plan: &[u8], blocked: &[usize], state: &mut [u8], group: usize) -> R
 {
     let standing = check_state(plan, blocked, state)?;
     skip_refused(plan, state, &standing, group)?;
-    state[8 + group] = DONE;
+    state[8 + group] = Status::Done as u8;
     Ok(())
 }
 

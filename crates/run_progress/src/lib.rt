@@ -14,7 +14,7 @@ ghost use Rattle.tables.specs.Sizes.{NODES};
 use base::kinds::Kind;
 use base::statuses::Status;
 use plan_format::fields::{is_kind, nodes, parent};
-use tables::{Nodes, no_nodes};
+use tables::{NODES, Nodes};
 
 // Which children of a group are counted: those that are begun; or, for an all-of group those that are not complete, for
 // another the complete ones.
@@ -74,7 +74,7 @@ pub fn children(plan: &[u8], state: &[u8], tally: Tally) -> Nodes
     requires { state_refusal plan.now state.now ≡ 0 }
     ensures { (length result ≡ NODES) × Counted tally plan.now state.now result }
 {
-    let mut table = no_nodes();
+    let mut table = [0; NODES];
     for c in (1..nodes(plan)).rev() {
         let g = usize::from(parent(plan, c));
         let link = Link { parent: g, node: c };

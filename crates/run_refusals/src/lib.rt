@@ -16,10 +16,10 @@ ghost use Rattle.node_sets.specs.Sets.{marked};
 ghost use Rattle.run_refusals.specs.Parts.{tree_refusal, begin_refusal};
 
 use answers::Refusal;
-use base::kinds::{OPTIONAL, TASK};
-use base::places::{INC, POST, PRE};
-use base::statuses::{RUNNING, WAITING};
+use base::kinds::Kind;
+use base::statuses::Status;
 use node_sets::{mark_all, mark_one};
+use plan_codes::value::Place;
 use plan_format::fields::is_kind;
 use run_conditions::{inc_broken, unmet, with_literals};
 use run_enabled::{branch_begun, order_open, path};
@@ -40,8 +40,8 @@ pub fn asserted_place(m: Move) -> u16
     ensures { result ≡ place_number (event_place (event_of m 0)) }
 {
     match m {
-        Move::Start => INC,
-        Move::Finish => POST,
+        Move::Start => Place::Inc as u16,
+        Move::Finish => Place::Post as u16,
     }
 }
 
@@ -50,8 +50,8 @@ fn asked(m: Move) -> u8
     ensures { result ≡ status_byte (asks (event_of m 0)) }
 {
     match m {
-        Move::Start => WAITING,
-        Move::Finish => RUNNING,
+        Move::Start => Status::Waiting as u8,
+        Move::Finish => Status::Running as u8,
     }
 }
 
@@ -88,7 +88,7 @@ fn start_refused(plan: &[u8], state: &[u8], standing: &Nodes, task: usize) -> Re
     let begun = children(plan, state, Tally::Begun);
     tree_refused(plan, state, standing, &begun, task)?;
     let own = mark_one(task);
-    if unmet(plan, PRE, &own, load(state)) {
+    if unmet(plan, Place::Pre as u16, &own, load(state)) {
         Err(Refusal::Unmet)
     } else {
         Ok(())
@@ -125,7 +125,7 @@ pub fn refused(
     ensures { RefusesEvent plan.now state.now standing.now
         (event_of m task) (returned result) }
 {
-    if !is_kind(plan, task, TASK) {
+    if !is_kind(plan, task, Kind::Task) {
         return Err(Refusal::NoSuchNode);
     }
     if state[8 + task] != asked(m) {
@@ -150,7 +150,7 @@ pub fn skip_refused(
     ensures { RefusesEvent plan.now state.now standing.now
         (execution.skip group) (returned result) }
 {
-    if !is_kind(plan, group, OPTIONAL) {
+    if !is_kind(plan, group, Kind::Optional) {
         return Err(Refusal::NotOptional);
     }
     let begun = children(plan, state, Tally::Begun);
@@ -177,11 +177,11 @@ pub fn together_refused(plan: &[u8], state: &[u8], tasks: &[usize]) -> Result<()
         return Err(Refusal::WrongStatus);
     }
     let marks = mark_all(tasks);
-    let next = with_literals(plan, POST, &marks, load(state));
-    if unmet(plan, POST, &marks, next) {
+    let next = with_literals(plan, Place::Post as u16, &marks, load(state));
+    if unmet(plan, Place::Post as u16, &marks, next) {
         return Err(Refusal::Opposed);
     }
-    if inc_broken(plan, state, POST, &marks) {
+    if inc_broken(plan, state, Place::Post as u16, &marks) {
         return Err(Refusal::Broken);
     }
     Ok(())

@@ -13,7 +13,7 @@ ghost use Rattle.tables.specs.Sizes.{STARTS};
 use base::kinds::Kind;
 use base::statuses::Status;
 use plan_format::fields::{is_kind, nodes, u16_at};
-use tables::{STARTS, no_starts};
+use tables::STARTS;
 
 // Where the ordinal of node n stands.
 #[tactic(auto, unfolding(crate::specs::Starts::ordinal_at))]
@@ -69,7 +69,7 @@ fn holders(plan: &[u8], state: &[u8]) -> Counts
     ensures { (length result ≡ STARTS) × ((k : ℕ) → k < STARTS
         → get_or result k 0 ≡ holders plan.now state.now k) }
 {
-    let mut table = no_starts();
+    let mut table = [0; STARTS];
     for n in 0..nodes(plan) {
         let k = ordinal(plan, state, n);
         if is_started(plan, state, n) && k < STARTS {

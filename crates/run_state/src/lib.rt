@@ -11,8 +11,8 @@ ghost use Rattle.run_state.specs.Inner.{bad_byte_in, bad_node_in, StateChecked};
 ghost use Rattle.run_state.specs.Fresh.{Freshened};
 
 use answers::Refusal;
-use base::kinds::{OPTIONAL, TASK};
-use base::statuses::{DONE, WAITING};
+use base::kinds::Kind;
+use base::statuses::Status;
 use plan_blocked::check_blocked;
 use plan_format::fields::{flags, is_kind, nodes};
 use run_flags::load;
@@ -35,16 +35,16 @@ fn byte_bad(plan: &[u8], state: &[u8], standing: &Nodes, n: usize) -> bool
     ensures { result ≡ bad_byte_in plan.now standing.now state.now n }
 {
     let x = state[8 + n];
-    if x == WAITING {
+    if x == Status::Waiting as u8 {
         return false;
     }
     if standing[n] != 1 {
         return true;
     }
-    if is_kind(plan, n, TASK) {
-        return DONE < x;
+    if is_kind(plan, n, Kind::Task) {
+        return x > Status::Done as u8;
     }
-    !(is_kind(plan, n, OPTIONAL) && x == DONE)
+    !(is_kind(plan, n, Kind::Optional) && x == Status::Done as u8)
 }
 
 // The byte of node n is bad, or it has an ordinal and has not been started.

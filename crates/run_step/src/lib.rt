@@ -8,9 +8,9 @@ ghost use Rattle.run_refusals.specs.Inner.{event_of};
 ghost use Rattle.run_step.specs.Steps.{with_event, after_event, after_all};
 ghost use Rattle.run_step.specs.Inner.{Finishing};
 
-use base::places::POST;
-use base::statuses::{DONE, RUNNING};
+use base::statuses::Status;
 use node_sets::{mark_all, mark_one};
+use plan_codes::value::Place;
 use run_conditions::with_literals;
 use run_flags::{load, store};
 use run_refusals::{Move, asserted_place};
@@ -35,10 +35,10 @@ pub fn write_move(plan: &[u8], state: &mut [u8], m: Move, task: usize)
     match m {
         Move::Start => {
             let k = started(plan, state) + 1;
-            write_event(plan, state, asserted_place(m), task, RUNNING);
+            write_event(plan, state, asserted_place(m), task, Status::Running as u8);
             write_ordinal(plan, state, task, k);
         }
-        Move::Finish => write_event(plan, state, asserted_place(m), task, DONE),
+        Move::Finish => write_event(plan, state, asserted_place(m), task, Status::Done as u8),
     }
 }
 
@@ -49,9 +49,9 @@ pub fn write_finishes(plan: &[u8], state: &mut [u8], tasks: &[usize])
         (finishes tasks.now) }
 {
     let marks = mark_all(tasks);
-    let next = with_literals(plan, POST, &marks, load(state));
+    let next = with_literals(plan, Place::Post as u16, &marks, load(state));
     store(state, next);
     for t in tasks {
-        state[8 + *t] = DONE;
+        state[8 + *t] = Status::Done as u8;
     }
 }

@@ -13,7 +13,7 @@ ghost use Rattle.text_listing.specs.Model.{text_of};
 
 use node_sets::all_nodes;
 use table_marks::marks_and_children;
-use tables::{Nodes, Starts, no_nodes, no_starts, no_times};
+use tables::{NODES, Nodes, STARTS, Starts};
 use text_decimals::write_bytes;
 use text_lines::{end_line, write_lines};
 use text_order::rank;
@@ -38,9 +38,9 @@ fn write_text(plan: &[u8], from: &Starts, kids: &Nodes, verdict: Verdict, out: &
         × (2048 ≤ length out.old) × TreeOf plan.now from.now kids.now }
     ensures { Wrote out.old 0 (text_of plan.now) result out.new }
 {
-    let mut waits = no_times();
+    let mut waits = [0; NODES];
     let root = longest_waits(plan, from, kids, &mut waits);
-    let mut ranked = no_nodes();
+    let mut ranked = [0; NODES];
     let k = rank(plan, &waits, &mut ranked);
     let a = write_word(out, 0, verdict);
     let b = end_line(out, a, root);
@@ -53,8 +53,8 @@ pub fn write_listing(plan: &[u8], out: &mut [u8]) -> usize
     ensures { Wrote out.old 0 (text_of plan.now) result out.new }
 {
     let standing = all_nodes();
-    let mut from = no_starts();
-    let mut kids = no_nodes();
+    let mut from = [0; STARTS];
+    let mut kids = [0; NODES];
     let words = marks_and_children(plan, &standing, false, &mut from, &mut kids, 0);
     let start = start_word(plan);
     let verdict = of_words(&words, start);

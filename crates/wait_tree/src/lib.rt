@@ -15,7 +15,7 @@ ghost use Rattle.wait_tree.specs.Filled.{LengthsTo, LengthsUnder, AllWorked, Wai
 
 use base::kinds::Kind;
 use plan_format::fields::{kind, minutes, nodes, parent};
-use tables::{Nodes, Starts, Times, children, no_times};
+use tables::{NODES, Nodes, Starts, Times, children};
 use wait_group::{longest_child, spread};
 
 // Works out all groups under a group, child by child.
@@ -127,7 +127,7 @@ pub fn longest_waits(plan: &[u8], from: &Starts, kids: &Nodes, waits: &mut Times
     requires { (refusal plan.now ≡ 0) × TreeOf plan.now from.now kids.now × Zeros NODES waits.old }
     ensures { Longest plan.now waits.new × (result ≡ length_of plan.now 0) }
 {
-    let mut lengths = no_times();
+    let mut lengths = [0; NODES];
     work_out(plan, from, kids, &mut lengths, waits);
     add_waits(plan, waits);
     lengths[0]

@@ -1,4 +1,6 @@
 -- `mark_members` meets its contract: the nodes below c are marked if they stand. Assumes nothing.
+use Rattle.base.proofs.Zeros.{zeros}
+use Rattle.tables.specs.Sizes.{NODES}
 use mathlib.Core.Path.{◌≡◌, ◌∙◌}
 use Prim.Native.Nat.{◌<◌}
 use native.Mathlib.Omega.{arith}

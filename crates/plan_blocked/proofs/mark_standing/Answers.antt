@@ -1,4 +1,6 @@
 -- `plan_blocked::mark_standing` meets its contract. Assumes nothing.
+use Rattle.base.proofs.Zeros.{zeros}
+use Rattle.tables.specs.Sizes.{NODES}
 use mathlib.Core.Path.{◌≡◌, ◌∙◌}
 use Prim.Native.Nat.{◌<◌}
 use Rattle.node_sets.specs.Sets.{marked}
@@ -16,7 +18,7 @@ loop-c-init c = (
   omega arith,
   (
     (clean _ c.requires.0).fits.limits.some_node,
-    (stood_first _ c.requires.0 _ c.requires.1.0 c.requires.1.1, partly_first _ _ c.no_nodes-marks.ensures),
+    (stood_first _ c.requires.0 _ c.requires.1.0 c.requires.1.1, partly_first _ _ (zeros NODES)),
   ),
 )
 

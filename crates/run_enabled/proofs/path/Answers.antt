@@ -1,4 +1,6 @@
 -- `run_enabled::path` meets its contract. Assumes nothing.
+use Rattle.base.proofs.Zeros.{zeros}
+use Rattle.tables.specs.Sizes.{NODES}
 use mathlib.Core.Path.{◌≡◌, ◌∙◌}
 use Prim.Native.Nat.{◌<◌}
 use Rattle.plan_check.proofs.Accepted.{clean}
@@ -16,7 +18,7 @@ loop-n-init c = (
   itself,
   (
     c.requires.0,
-    first_mark _ _ c.no_nodes-marks.result c.no_nodes-marks.ensures (node_small (goal.at.loop-n-init c).Start),
+    first_mark _ _ _ (zeros NODES) (node_small (goal.at.loop-n-init c).Start),
   ),
 )
 

@@ -1,4 +1,6 @@
 -- `run_progress::children` meets its contract. Assumes nothing.
+use Rattle.base.proofs.Zeros.{zeros}
+use Rattle.tables.specs.Sizes.{NODES}
 use mathlib.Core.Path.{◌≡◌, refl, sym, ◌∙◌}
 use Prim.Native.Nat.{◌+◌, ◌-◌, ◌<◌}
 use native.Mathlib.Omega.{arith}
@@ -19,7 +21,7 @@ pub loop-c-init : goal.loop-c-init
 loop-c-init c =
     let e : node_count c.args.plan.now - c.nodes-c.result ≡ 0 = omega arith in (
       omega (arith, (plan_clean (goal.at.loop-c-init c).Start).fits.limits.some_node),
-      rw e (none_yet _ _ _ c.no_nodes-table.result c.no_nodes-table.ensures),
+      rw e (none_yet _ _ _ _ (zeros NODES)),
     )
 
 pub parent-requires : goal.parent-requires

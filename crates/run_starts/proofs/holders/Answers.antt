@@ -1,4 +1,6 @@
 -- `holders` meets its contract. Assumes nothing.
+use Rattle.base.proofs.Zeros.{zeros}
+use Rattle.tables.specs.Sizes.{STARTS}
 use mathlib.Core.Path.{◌≡◌, sym, ap, ◌∙◌}
 use Prim.Native.Nat.{ℕ}
 use mathlib.Core.Bool.{true≢false}
@@ -15,7 +17,7 @@ use Rattle.run_starts.proofs.holders.Goals.{else-is_started-via-then-is_started+
 use Rattle.run_starts.proofs.holders.Goals.{else-is_started-via-else-is_started}
 
 pub loop-n-init : goal.loop-n-init
-loop-n-init c = tally_start _ 129 _ c.no_starts-table.ensures
+loop-n-init c = tally_start _ 129 _ (zeros STARTS)
 
 pub overflow_add-table : goal.overflow_add-table
 overflow_add-table c = omega (

@@ -7,9 +7,9 @@ use Rattle.run_state.specs.State.{bad_byte}
 use Rattle.run_state.specs.Inner.{bad_byte_in}
 use Rattle.run_state.proofs.byte_bad.Goals as goal
 
-pub returns-then-x-eq-WAITING : goal.returns-then-x-eq-WAITING
+pub returns-then-x : goal.returns-then-x
 unfolding bad_byte_in bad_byte marked node_byte
-returns-then-x-eq-WAITING c = grind (arith, common_steps)
+returns-then-x c = grind (arith, common_steps)
 
 pub returns-then-standing-n-ne1 : goal.returns-then-standing-n-ne1
 unfolding bad_byte_in bad_byte marked node_byte

@@ -1,4 +1,6 @@
 -- `write_listing` meets its contract: every node is marked, so what is left is the whole plan. Assumes nothing.
+use Rattle.base.proofs.Zeros.{zeros}
+use Rattle.tables.specs.Sizes.{NODES, STARTS}
 use mathlib.Core.Path.{refl}
 use Rattle.plan_check.proofs.Accepted.{clean}
 use Rattle.table_children.proofs.Whole.{whole_tree}
@@ -8,7 +10,7 @@ use Rattle.text_listing.proofs.write_listing.Goals as goal
 pub marks_and_children-words-requires : goal.marks_and_children-words-requires
 marks_and_children-words-requires c =
     let p = c.requires in
-    (p.0, (clean _ p.0).fits.limits.some_node, c.no_starts-from.ensures, c.no_nodes-kids.ensures)
+    (p.0, (clean _ p.0).fits.limits.some_node, (zeros STARTS), (zeros NODES))
 
 pub write_text-requires : goal.write_text-requires
 write_text-requires c =

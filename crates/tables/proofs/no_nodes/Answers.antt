@@ -1,6 +1,0 @@
--- `no_nodes` meets its contract. Assumes nothing.
-use Rattle.base.proofs.Zeros.{zeros}
-use Rattle.tables.proofs.no_nodes.Goals as goal
-
-pub returns : goal.returns
-returns c = zeros 128
