@@ -57,7 +57,10 @@ fn disturbs(order: &Orders, b: usize, c: usize, d: usize) -> bool
     requires { (b < NODES) × ((c < NODES) × (d < NODES)) }
     ensures { T result ↔ Disturbs order.now b c d }
 {
-    b != c && b != d && order[b * NODES + d] != Relation::Before as u8 && order[b * NODES + c] != Relation::After as u8
+    b != c
+        && b != d
+        && order[b * NODES + d] != Relation::Before as u8
+        && order[b * NODES + c] != Relation::After as u8
 }
 
 // The child b is one of those that the flags have to pass.

@@ -15,7 +15,7 @@ ghost use Rattle.member_calls.specs.Model.{member_call_refusal};
 ghost use Rattle.member_calls.specs.Inner.{member_call, OfList};
 
 use answers::Refusal;
-use base::kinds::ALL_OF;
+use base::kinds::Kind;
 use member_list::{check_members, mark_members, root_child};
 use plan_format::fields::{is_kind, nodes};
 use table_marks::marks_among;
@@ -29,7 +29,7 @@ fn check_call(plan: &[u8], members: &[u8], node: usize, joins: bool) -> Result<(
     if node >= nodes(plan) {
         return Err(Refusal::NoSuchNode);
     }
-    if !(is_kind(plan, 0, ALL_OF) && root_child(plan, node)) {
+    if !(is_kind(plan, 0, Kind::AllOf) && root_child(plan, node)) {
         return Err(Refusal::NoMember);
     }
     if (members[node] == 1) == joins {

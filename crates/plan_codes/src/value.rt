@@ -3,7 +3,6 @@ ghost use Rattle.std.specs.Prelude.{◌≡◌, ◌≤◌};
 ghost use Rattle.plan_codes.specs.Values.{place_of, sign_of, flag_of, value_bad};
 ghost use Rattle.plan_codes.specs.Cases.{parsed_of, place_num, sign_num};
 
-
 // 01: need, hold, leaving
 #[derive(Clone, Copy, Debug, PartialEq, Eq)]
 pub enum Place {

@@ -113,7 +113,10 @@ fn broken_at(plan: &[u8], state: &[u8], after: Images, tasks: &Nodes, i: usize) 
     } else {
         after.clear.has(f)
     };
-    is_at(plan, Place::Inc as u16, i) & (tasks[node] != 1) & (state[8 + node] == Status::Running as u8) & differs(sign, kept)
+    is_at(plan, Place::Inc as u16, i)
+        & (tasks[node] != 1)
+        & (state[8 + node] == Status::Running as u8)
+        & differs(sign, kept)
 }
 
 // 22: making the literals of the marked tasks at the place true breaks an incondition of another running task.

@@ -33,7 +33,8 @@ fn rival_begun(plan: &[u8], state: &[u8], begun: &Nodes, g: usize, n: usize) -> 
     ensures { result ≡ rival_at plan.now state.now g n }
 {
     let skipped = state[8 + g] == Status::Done as u8;
-    !is_kind(plan, g, Kind::AllOf) && (skipped || u8::from(is_begun(plan, state, begun, n)) < begun[g])
+    !is_kind(plan, g, Kind::AllOf)
+        && (skipped || u8::from(is_begun(plan, state, begun, n)) < begun[g])
 }
 
 // 19: walks up from the node. A `while`: the walk ends at the root.

@@ -9,17 +9,16 @@ ghost use Rattle.sequence.specs.Sequence.{Sequenced};
 ghost use Rattle.sequence.specs.Inner.{MaskOf, MasksOf, CalmIn, AnswersFrom, AnswersOf};
 
 use answers::Refusal;
-use base::kinds::ALL_OF;
+use base::kinds::Kind;
 use marks_row::columns::MAY_CLOBBER;
-use marks_row::{Rows, word_at};
+use marks_row::{ROWS, Rows, word_at};
 use marks_tree::rows_below;
-use marks_words::no_rows;
 use node_sets::all_nodes;
 use plan_check::check;
 use plan_format::fields::nodes;
 use sequence_search::{CHILDREN, Masks, Reach, search};
 use table_all::fill_among;
-use tables::codes::BEFORE;
+use tables::codes::Relation;
 use tables::{CONDITIONS, NODES, Nodes, Orders, PAIRS, STARTS, Segment, children};
 use verdict::start_word;
 
@@ -32,7 +31,7 @@ fn before_mask(order: &Orders, kids: &Nodes, segment: Segment, i: usize) -> u64
     let mut mask = 0;
     for j in 0..segment.end - segment.start {
         let earlier = usize::from(kids[segment.start + j]);
-        if order[earlier * NODES + later] == BEFORE {
+        if order[earlier * NODES + later] == Relation::Before as u8 {
             mask |= 1u64 << j;
         }
     }
@@ -104,11 +103,11 @@ fn first_sequence(plan: &[u8]) -> Result<u64, Refusal>
         plan, &standing, &mut kind, &mut from, &mut kids, &mut order, &mut conds,
     );
     let segment = children(&from, 0);
-    if kind[0] != ALL_OF || segment.end - segment.start > CHILDREN {
+    if kind[0] != Kind::AllOf as u8 || segment.end - segment.start > CHILDREN {
         return Err(Refusal::UnfitRoot);
     }
     let n = nodes(plan);
-    let mut rows = no_rows();
+    let mut rows = [0; ROWS];
     rows_below(&kind, &from, &kids, &order, &conds, &mut rows, n);
     let start = start_word(plan);
     first_among(&kids, segment, &order, &rows, start)

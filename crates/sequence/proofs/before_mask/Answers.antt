@@ -6,7 +6,7 @@ use Rattle.base.proofs.Bits.{one_shl}
 use Rattle.sequence_search.proofs.Places.{place_small}
 use Rattle.sequence.proofs.Masks.{mask_none, mask_set, mask_skip, mask_whole}
 use Rattle.sequence.proofs.before_mask.Goals as goal
-use Rattle.sequence.proofs.before_mask.Goals.{else-order-earlier-eq-BEFORE, then-order-earlier-eq-BEFORE}
+use Rattle.sequence.proofs.before_mask.Goals.{else-order-earlier, then-order-earlier}
 
 pub loop-j-init : goal.loop-j-init
 loop-j-init c = mask_none
@@ -17,10 +17,10 @@ loop-j-preserved c =
     let to = c.loop-j.invariant in
     let e = c.from-earlier.ensures in
     let l = c.from-later.ensures in
-    elim c.if-order-earlier-eq-BEFORE.branch [
-      | then-order-earlier-eq-BEFORE w ↦
-          mask_set to e l w.if-order-earlier-eq-BEFORE.true (w.mask-is ∙ ap (bit_or c.loop-j.mask) own)
-      | else-order-earlier-eq-BEFORE w ↦ rw w.mask-is (mask_skip to e l w.if-order-earlier-eq-BEFORE.false)
+    elim c.if-order-earlier.branch [
+      | then-order-earlier w ↦
+          mask_set to e l w.if-order-earlier.true (w.mask-is ∙ ap (bit_or c.loop-j.mask) own)
+      | else-order-earlier w ↦ rw w.mask-is (mask_skip to e l w.if-order-earlier.false)
     ]
 
 pub returns : goal.returns

@@ -1,11 +1,12 @@
 -- `first_sequence` meets its contract. Assumes nothing.
 use Rattle.base.proofs.Zeros.{zeros}
+use Rattle.marks_row.specs.Columns.{ROWS}
 use Rattle.plan_check.proofs.Accepted.{clean}
 use Rattle.tables.specs.Sizes.{NODES, STARTS, PAIRS, CONDITIONS}
 use Rattle.sequence.proofs.Tables.{at_root, not_all, in_order, in_range, too_many, below}
 use Rattle.sequence.proofs.first_sequence.Goals as goal
-use Rattle.sequence.proofs.first_sequence.Goals.{then-kind-ne-ALL_OF-via-then-kind-ne-ALL_OF}
-use Rattle.sequence.proofs.first_sequence.Goals.{then-kind-ne-ALL_OF-via-else-kind-ne-ALL_OF+then-segment-gt-CHILDREN}
+use Rattle.sequence.proofs.first_sequence.Goals.{then-kind-via-then-kind}
+use Rattle.sequence.proofs.first_sequence.Goals.{then-kind-via-else-kind+then-segment-gt-CHILDREN}
 
 pub fill_among-requires : goal.fill_among-requires
 fill_among-requires c = (
@@ -23,12 +24,12 @@ pub overflow_sub-segment : goal.overflow_sub-segment
 overflow_sub-segment c =
     in_order c.requires c.all_nodes-standing.ensures c.fill_among.ensures c.children-segment.ensures
 
-pub returns-then-kind-ne-ALL_OF : goal.returns-then-kind-ne-ALL_OF
-returns-then-kind-ne-ALL_OF c =
-    elim c.then-kind-ne-ALL_OF.branch [
-      | then-kind-ne-ALL_OF-via-then-kind-ne-ALL_OF w ↦
-          not_all c.requires c.all_nodes-standing.ensures c.fill_among.ensures w.if-kind-ne-ALL_OF.true
-      | then-kind-ne-ALL_OF-via-else-kind-ne-ALL_OF+then-segment-gt-CHILDREN w ↦
+pub returns-then-kind : goal.returns-then-kind
+returns-then-kind c =
+    elim c.then-kind.branch [
+      | then-kind-via-then-kind w ↦
+          not_all c.requires c.all_nodes-standing.ensures c.fill_among.ensures w.if-kind.true
+      | then-kind-via-else-kind+then-segment-gt-CHILDREN w ↦
           too_many c.requires c.all_nodes-standing.ensures c.fill_among.ensures c.children-segment.ensures
           w.if-segment-gt-CHILDREN.true
     ]
@@ -39,7 +40,7 @@ nodes-n-requires c = (clean _ c.requires).fits.limits.long
 pub rows_below-requires : goal.rows_below-requires
 rows_below-requires c = (
   at_root c.requires c.all_nodes-standing.ensures c.fill_among.ensures c.nodes-n.ensures,
-  c.no_rows-rows.ensures,
+  (zeros ROWS).long,
 )
 
 pub first_among-requires : goal.first_among-requires
@@ -50,5 +51,5 @@ first_among-requires c =
 pub returns : goal.returns
 returns c =
     c.first_among.ensures _ _ (below c.requires c.all_nodes-standing.ensures c.fill_among.ensures
-    c.children-segment.ensures c.if-kind-ne-ALL_OF.false c.nodes-n.ensures c.rows_below.ensures)
+    c.children-segment.ensures c.if-kind.false c.nodes-n.ensures c.rows_below.ensures)
     c.start_word-start.ensures
