@@ -4,11 +4,13 @@ use Rattle.std.proofs.Common.{inl, inr}
 use Rattle.std.specs.declared.result.Result.{Result}
 use Rattle.std.specs.declared.result.Result.TheVariants.{Ok, Err}
 use Rattle.answers.specs.declared.Refusal.{Refusal}
-use Rattle.answers.specs.declared.Refusal.TheVariants.{TooShort, BadSizes, WrongLength, BadStart, BadName, BadEntry, BadParent}
-use Rattle.answers.specs.declared.Refusal.TheVariants.{Childless, BadCondition, ConditionsFall, BothSigns, NoPostcondition, BadOrder, OrdersFall}
-use Rattle.answers.specs.declared.Refusal.TheVariants.{NoRoom, Malformed, NoSuchNode, WrongStatus, OtherBranch, OrderOpen, Unmet}
-use Rattle.answers.specs.declared.Refusal.TheVariants.{Broken, UnfitRoot, NoSequence, TasksFall, Opposed, NotOptional, BadBlocked}
-use Rattle.answers.specs.declared.Refusal.TheVariants.{NoBranch, BadRecipe, NoMember, SameMembers, MergedSizes, StartsApart}
+use Rattle.answers.specs.declared.Refusal.TheVariants.{TooShort, BadSizes, WrongLength, BadStart, BadName, BadEntry}
+use Rattle.answers.specs.declared.Refusal.TheVariants.{BadParent, Childless, BadCondition, ConditionsFall, BothSigns}
+use Rattle.answers.specs.declared.Refusal.TheVariants.{NoPostcondition, BadOrder, OrdersFall, NoRoom, Malformed}
+use Rattle.answers.specs.declared.Refusal.TheVariants.{NoSuchNode, WrongStatus, OtherBranch, OrderOpen, Unmet, Broken}
+use Rattle.answers.specs.declared.Refusal.TheVariants.{UnfitRoot, NoSequence, TasksFall, Opposed, NotOptional}
+use Rattle.answers.specs.declared.Refusal.TheVariants.{BadBlocked, NoBranch, BadRecipe, NoMember, SameMembers}
+use Rattle.answers.specs.declared.Refusal.TheVariants.{MergedSizes, StartsApart}
 
 abbrev pub number : Refusal → ℕ
 number TooShort = 1

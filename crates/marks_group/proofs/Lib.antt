@@ -1,5 +1,4 @@
--- Laws of the words of a group, and of an array that is made by a function.
-pub mod FromFn
+-- Laws of the words of a group.
 pub mod Any
 pub mod All
 pub mod Masks

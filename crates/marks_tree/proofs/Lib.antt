@@ -1,5 +1,4 @@
 -- Laws of the rows of all nodes.
 pub mod Open
-pub mod FromFn
 pub mod AllRow
 pub mod Children

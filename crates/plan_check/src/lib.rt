@@ -34,6 +34,7 @@ fn whole_length(plan: &[u8]) -> usize
     16 + 8 * nodes(plan) + 3 * conditions(plan) + 2 * orders(plan)
 }
 
+#[tactic(auto, unfolding(crate::specs::Parts::from_orders))]
 fn check_orders(plan: &[u8]) -> Result<(), Refusal>
     requires { Whole plan.now }
     ensures { returned result ≡ from_orders plan.now }
@@ -47,6 +48,7 @@ fn check_orders(plan: &[u8]) -> Result<(), Refusal>
     Ok(())
 }
 
+#[tactic(auto, unfolding(crate::specs::Parts::from_conditions))]
 fn check_conditions(plan: &[u8]) -> Result<(), Refusal>
     requires { Whole plan.now }
     ensures { returned result ≡ from_conditions plan.now }
@@ -66,6 +68,7 @@ fn check_conditions(plan: &[u8]) -> Result<(), Refusal>
     check_orders(plan)
 }
 
+#[tactic(auto, unfolding(crate::specs::Parts::from_nodes))]
 fn check_nodes(plan: &[u8]) -> Result<(), Refusal>
     requires { Whole plan.now }
     ensures { returned result ≡ from_nodes plan.now }

@@ -41,16 +41,7 @@ settle false n p w = sym (none_all n p (λ k l.
     let v : get_or (range_with_len 0 n) k 0 ≡ k = get_or-range_with_len 0 n k 0 l ∙ omega arith in
     rw v at (w k 0 (omega arith) m)))
 
--- over the numbers below n
-pub any_numbers : {F : Type 0} {g : Mut F (ℕ × Unit {0}) Bool} {s u : Range ℕ} {f : F} {r : Bool} (n : ℕ) (p : ℕ → Bool)
-    → s ≡ record { start = 0; end = n }
-    → (xs : List ℕ) × (o : Option ℕ) × (j : F) × YieldsThen nat_range_steps s xs o u × FoldsTo (λ p x q. Called g p (x, tt) false q) f xs j × MatchOption o (r ≡ false) (λ x. (r ≡ true) × ((h : F) × Called g j (x, tt) true h))
-    → ((x : ℕ) (b : Bool) (q : F) → Called g f (x, tt) b q → (q ≡ f) × (b ≡ p x))
-    → r ≡ any_below n p
-any_numbers {r = r} n p e h k = settle r n p (cases_from_any _ _ _ (λ x. p x ≡ true) (λ x. p x ≡ false) h
-    (YieldsList-from_range 0 n n e (omega arith)) (λ x q c. sym (k x true q c).1) (λ x q c. ((k x false q c).0, sym (k x false q c).1)))
-
--- ---- over a list
+-- the library's search in a list is that of `runs`
 either_or : (a b : Bool) → a || b ≡ either a (λ u. b)
 unfolding either
 either_or true b = refl
@@ -62,12 +53,26 @@ list_any_in [] p = refl
 list_any_in (x ∷ xs) p = either_or (p x) (list_any p xs)
     ∙ ap (λ (b : Bool). either (p x) (λ u. b)) (list_any_in xs p)
 
-pub any_listed : {F : Type 0} {g : Mut F (Bor ℕ × Unit {0}) Bool} {s u : Iter ℕ} {f : F} {r : Bool} (l : List ℕ) (p : ℕ → Bool)
-    → iter_rest s ≡ l
-    → (xs : List (Bor ℕ)) × (o : Option (Bor ℕ)) × (j : F) × YieldsThen fronts s xs o u × FoldsTo (λ p x q. Called g p (x, tt) false q) f xs j × MatchOption o (r ≡ false) (λ x. (r ≡ true) × ((h : F) × Called g j (x, tt) true h))
-    → ((x : Bor ℕ) (b : Bool) (q : F) → Called g f (x, tt) b q → (q ≡ f) × (b ≡ p x.now))
-    → r ≡ any_in l p
-any_listed {r = r} l p e h k = any_from_yields_List p _ _ _ h (YieldsList-from_slice l e) k ∙ list_any_in l p
+-- what `any` answered, by its clause `ran`: it stopped at the first item on which the closure said yes
+abbrev pub AnyRan : {F A S : Type 0} → Mut F (A × Unit {0}) Bool → (S → Option A → S → Type 0) → F → S → S → Bool → Type 0
+AnyRan {F} {A} g steps f s u r = (xs : List A) × (o : Option A) × (j : F) × YieldsThen steps s xs o u
+    × FoldsTo (λ p x q. Called g p (x, tt) false q) f xs j
+    × MatchOption o (r ≡ false) (λ x. (r ≡ true) × ((h : F) × Called g j (x, tt) true h))
+
+module _ {F : Type 0} {f : F} {r : Bool} where
+  -- over the numbers below n
+  pub any_numbers : {g : Mut F (ℕ × Unit {0}) Bool} {s u : Range ℕ} (n : ℕ) (p : ℕ → Bool)
+      → s ≡ record { start = 0; end = n } → AnyRan g nat_range_steps f s u r
+      → ((x : ℕ) (b : Bool) (q : F) → Called g f (x, tt) b q → (q ≡ f) × (b ≡ p x)) → r ≡ any_below n p
+  any_numbers n p e h k = settle r n p (cases_from_any _ _ _ (λ x. p x ≡ true) (λ x. p x ≡ false) h
+      (YieldsList-from_range 0 n n e (omega arith)) (λ x q c. sym (k x true q c).1)
+      (λ x q c. ((k x false q c).0, sym (k x false q c).1)))
+
+  -- over a list
+  pub any_listed : {g : Mut F (Bor ℕ × Unit {0}) Bool} {s u : Iter ℕ} (l : List ℕ) (p : ℕ → Bool)
+      → iter_rest s ≡ l → AnyRan g fronts f s u r
+      → ((x : Bor ℕ) (b : Bool) (q : F) → Called g f (x, tt) b q → (q ≡ f) × (b ≡ p x.now)) → r ≡ any_in l p
+  any_listed l p e h k = any_from_yields_List p _ _ _ h (YieldsList-from_slice l e) k ∙ list_any_in l p
 
 -- what stands in a list is one of its numbers
 pub listed_at : (l : List ℕ) {x : ℕ} (k : ℕ) → k < length l → x ≡ get_or l k x → Among x l

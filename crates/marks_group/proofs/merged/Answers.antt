@@ -3,13 +3,13 @@ use borrow.Author.Rules.{rules}
 use lib.ListN.{get_or}
 use Rattle.marks_row.specs.Columns.{word_at}
 use Rattle.marks_group.specs.Groups.{JoinedWord}
-use Rattle.marks_group.proofs.FromFn.{each_from}
+use Rattle.base.proofs.FromFn.{made}
 use Rattle.marks_group.proofs.merged.Goals as goal
 
 pub returns : goal.returns
 returns c = record {
-  words = each_from _ _
+  words = made
       (λ k r. JoinedWord c.args.every.first c.args.every.last k (get_or c.args.words k 0)
       (word_at c.args.rows.now c.args.child k) (get_or c.args.mask k 0) r)
-      (λ k y q r. search rules) c.from_fn.ensures.items;
+      c.from_fn.ensures.items (λ k y q r. search rules);
 }

@@ -3,7 +3,7 @@ use mathlib.Core.Path.{◌≡◌}
 use lib.Bits.{bit_or}
 use lib.ListN.{get_or}
 use borrow.Author.Rules.{rules}
-use Rattle.marks_tree.proofs.FromFn.{made}
+use Rattle.base.proofs.FromFn.{made}
 use Rattle.marks_tree.proofs.ored.Goals as goal
 
 pub returns : goal.returns

@@ -3,7 +3,7 @@ use mathlib.Core.Path.{refl}
 use native.Mathlib.Omega.{arith}
 use borrow.Author.Rules.{rules}
 use Rattle.runs.proofs.Plan.Numbers.{sign_small}
-use Rattle.marks_tree.proofs.FromFn.{made}
+use Rattle.base.proofs.FromFn.{made}
 use Rattle.marks_words.specs.Words.{WordIs, word_index}
 use Rattle.marks_words.proofs.WordColumns.{mark_small}
 use Rattle.marks_words.proofs.mark_words.Goals as goal

@@ -15,5 +15,5 @@ any-requires-clause-callable c = serves_from_places (YieldsList-from_slice c.arg
     search rules)
 
 pub returns : goal.returns
-returns c = any_listed _ (emptied_at c.args.plan.now c.args.standing.now c.args.marks.now) c.iter.ensures.rest c.any.ensures.ran
-    (λ x b q k. search (rules, tests))
+returns c = any_listed _ (emptied_at c.args.plan.now c.args.standing.now c.args.marks.now) c.iter.ensures.rest
+    c.any.ensures.ran (λ x b q k. search (rules, tests))

@@ -14,5 +14,6 @@ returns-then-not-rises c =
 
 pub returns-else-not-rises : goal.returns-else-not-rises
 returns-else-not-rises c =
-    any_listed _ (unblockable_b (plan_of c.args.plan.now)) c.iter.ensures.rest c.any.ensures.ran (λ x b q k. search (rules, tests))
+    any_listed _ (unblockable_b (plan_of c.args.plan.now)) c.iter.ensures.rest c.any.ensures.ran
+    (λ x b q k. search (rules, tests))
     ∙ rising_28 _ _ (sym c.rises.ensures ∙ c.if-not-rises.false)

@@ -11,4 +11,5 @@ unfolding cause10
 returns c =
     let e : c.saturating_sub.result ≡ c.conditions.result - 1 = search rules in
     rw (sym c.conditions.ensures, sym e)
-    (any_numbers _ (not_rising (cond_node c.args.plan.now) (cond_value c.args.plan.now)) refl c.any.ensures.ran (λ x b q k. search (rules, tests)))
+    (any_numbers _ (not_rising (cond_node c.args.plan.now) (cond_value c.args.plan.now)) refl c.any.ensures.ran
+    (λ x b q k. search (rules, tests)))

@@ -11,4 +11,5 @@ unfolding cause14
 returns c =
     let e : c.saturating_sub.result ≡ c.orders.result - 1 = search rules in
     rw (sym c.orders.ensures, sym e)
-    (any_numbers _ (not_rising (earlier_of c.args.plan.now) (later_of c.args.plan.now)) refl c.any.ensures.ran (λ x b q k. search (rules, tests)))
+    (any_numbers _ (not_rising (earlier_of c.args.plan.now) (later_of c.args.plan.now)) refl c.any.ensures.ran
+    (λ x b q k. search (rules, tests)))

@@ -18,7 +18,8 @@ at c = turn c.args.from.now c.args.node c.children-segment.ensures (omega arith)
 
 pub overflow_add-child_end : goal.overflow_add-child_end
 overflow_add-child_end c =
-    let e = spread_end c.requires.0 refl c.from-child.ensures (at (goal.at.overflow_add-child_end c).After-from-child) c.loop-i.invariant c.requires.2 in
+    let e = spread_end c.requires.0 refl c.from-child.ensures (at (goal.at.overflow_add-child_end c).After-from-child)
+    c.loop-i.invariant c.requires.2 in
     omega (arith, e.0, e.1)
 
 pub raise-requires : goal.raise-requires
