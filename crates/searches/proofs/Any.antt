@@ -54,7 +54,8 @@ list_any_in (x ∷ xs) p = either_or (p x) (list_any p xs)
     ∙ ap (λ (b : Bool). either (p x) (λ u. b)) (list_any_in xs p)
 
 -- what `any` answered, by its clause `ran`: it stopped at the first item on which the closure said yes
-abbrev pub AnyRan : {F A S : Type 0} → Mut F (A × Unit {0}) Bool → (S → Option A → S → Type 0) → F → S → S → Bool → Type 0
+abbrev pub AnyRan : {F A S : Type 0} → Mut F (A × Unit {0}) Bool → (S → Option A → S → Type 0) → F → S → S → Bool
+    → Type 0
 AnyRan {F} {A} g steps f s u r = (xs : List A) × (o : Option A) × (j : F) × YieldsThen steps s xs o u
     × FoldsTo (λ p x q. Called g p (x, tt) false q) f xs j
     × MatchOption o (r ≡ false) (λ x. (r ≡ true) × ((h : F) × Called g j (x, tt) true h))
