@@ -12,7 +12,6 @@ use lib.Pow.{pow_mono, shl_exact}
 use lib.ListN.{get_or}
 use Rattle.std.specs.declared.option.Option as answer
 use Rattle.std.specs.declared.option.Option.TheVariants.{Some, None}
-use Rattle.std.specs.declared.result.Result.{Result}
 use Rattle.std.specs.declared.result.Result.TheVariants.{Ok, Err}
 use Rattle.answers.specs.declared.Refusal.{Refusal}
 use Rattle.answers.specs.declared.Refusal.TheVariants.{NoSequence}
@@ -49,7 +48,7 @@ use Rattle.sequence_search.specs.declared.Reach.{Reach}
 use Rattle.sequence_search.specs.Search.{count, child_at, InRange, Tabled, flags_for, ComeTo}
 use Rattle.sequence_search.specs.Search.{Carries, nothing, nodes, Finds}
 use Rattle.sequence_search.proofs.Places.{place_in, child_small, is_child_lem, place_of_lem}
-use Rattle.sequence.specs.Sequence.{sequence_answer, Exact, Sequenced}
+use Rattle.sequence.specs.Sequence.{Finding, sequence_answer, Exact, Sequenced}
 use Rattle.sequence.specs.Inner.{MasksOf, CalmIn, Below, Answers, AnswersOf}
 use Rattle.sequence.proofs.Counted.{passes_23}
 
@@ -57,7 +56,7 @@ use Rattle.sequence.proofs.Counted.{passes_23}
 pub refused_exact : (e : Refusal) → Exact (Err e)
 refused_exact e w q = absurd (not_ok q)
 
-abbrev word : Result ℕ Refusal → ℕ
+abbrev word : Finding → ℕ
 word (Err e) = 0
 word (Ok w) = w
 
@@ -222,7 +221,7 @@ answered_refused b {r} e = record {
     k : number r ≡ 0 → ⊥
     k z = some_number r z
 
-pub answered : (b : List ℕ) {r : Result ℕ Refusal} → refusal b ≡ 0 → AnswersOf b r → Sequenced b r
+pub answered : (b : List ℕ) {r : Finding} → refusal b ≡ 0 → AnswersOf b r → Sequenced b r
 answered b ok a = record {
   returns = sought_is b ok a.sought;
   sought = record {

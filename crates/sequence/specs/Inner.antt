@@ -1,8 +1,6 @@
 -- Inner contracts: the words that a search is given, and what is answered before the bytes are asked for their plan.
 -- Definitions only.
 use Rattle.std.specs.Prelude.{◌≡◌, ◌↔◌, Bool, true, List, ℕ, ◌≤◌, ◌<◌, T, get_or}
-use Rattle.std.specs.declared.result.Result.{Result}
-use Rattle.answers.specs.declared.Refusal.{Refusal}
 use Rattle.base.specs.Bits.{bit}
 use Rattle.base.specs.Words.{Says}
 use Rattle.runs.specs.Plan.{all_of, Plan, Child}
@@ -15,7 +13,7 @@ use Rattle.marks_row.specs.Columns.{may_clobber, word_in, Right}
 use Rattle.marks_words.specs.Words.{StartWord}
 use Rattle.sequences.specs.Sequences.{Sought}
 use Rattle.sequence_search.specs.Search.{count, child_at, RootChildren}
-use Rattle.sequence.specs.Sequence.{found_in, Exact}
+use Rattle.sequence.specs.Sequence.{Finding, found_in, Exact}
 
 -- the bits of a mask are the places of the children whose code says that they stand before the one at place i
 pub record MaskOf (order kids : List ℕ) (s : Segment) (i mask : ℕ) : Type 0 where
@@ -39,14 +37,14 @@ pub record Below (p : Plan) (kids : List ℕ) (s : Segment) (order rows : List �
   pub right : (c : ℕ) → Child p 0 c → Right p rows c
 
 -- what is sought, and as a word that has nothing else
-pub record Answers (p : Plan) (F : ℕ → Bool) (r : Result ℕ Refusal) : Type 0 where
+pub record Answers (p : Plan) (F : ℕ → Bool) (r : Finding) : Type 0 where
   pub sought : Sought p F (found_in r)
   pub exact : Exact r
 
 -- of every such plan, whatever flags a word says to be set at the start; of an accepted plan
-abbrev pub AnswersFrom : List ℕ → Segment → List ℕ → List ℕ → ℕ → Result ℕ Refusal → Type 0
+abbrev pub AnswersFrom : List ℕ → Segment → List ℕ → List ℕ → ℕ → Finding → Type 0
 AnswersFrom kids s order rows start r =
     (p : Plan) (F : ℕ → Bool) → Below p kids s order rows → StartWord F start → Answers p F r
 
-abbrev pub AnswersOf : List ℕ → Result ℕ Refusal → Type 0
+abbrev pub AnswersOf : List ℕ → Finding → Type 0
 AnswersOf b r = Answers (plan_of b) (start_of b) r

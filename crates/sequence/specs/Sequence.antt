@@ -15,8 +15,12 @@ use Rattle.sequences.specs.Sequences.{Refused23, SerialClear, FirstClear, Sought
 use Rattle.sequences.specs.Model.{sequence_of}
 use Rattle.sequences.specs.Word.{sequence_word, sequence_in}
 
+-- a refusal, or a sequence as a word
+abbrev pub Finding : Type 0
+Finding = Result ℕ Refusal
+
 -- 02's number, or the nodes one after another, for each case
-abbrev pub found_in : Result ℕ Refusal → ℕ ⊎ List ℕ
+abbrev pub found_in : Finding → ℕ ⊎ List ℕ
 found_in (Err e) = inl (number e)
 found_in (Ok w) = inr (sequence_in w)
 
@@ -39,10 +43,10 @@ pub record SoughtOf (b : List ℕ) (a : ℕ ⊎ List ℕ) : Type 0 where
   pub nodes : (xs : List ℕ) → a ≡ inr xs → (c : ℕ) → Among c xs → c < node_count b
 
 -- the word of a sequence has nothing but the sequence
-abbrev pub Exact : Result ℕ Refusal → Type 0
+abbrev pub Exact : Finding → Type 0
 Exact r = (w : ℕ) → r ≡ Ok w → w ≡ sequence_word (sequence_in w)
 
-pub record Sequenced (b : List ℕ) (r : Result ℕ Refusal) : Type 0 where
+pub record Sequenced (b : List ℕ) (r : Finding) : Type 0 where
   pub returns : found_in r ≡ sequence_answer b
   pub sought : SoughtOf b (found_in r)
   pub exact : Exact r

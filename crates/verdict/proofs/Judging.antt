@@ -6,7 +6,6 @@ use mathlib.Core.Bool.{Bool}
 use mathlib.Core.List.{List, []}
 use Prim.Native.Nat.{ℕ, suc, ◌^◌, ◌<◌, ◌≤◌}
 use native.Mathlib.Omega.{arith}
-use Rattle.std.specs.declared.result.Result.{Result}
 use Rattle.std.specs.declared.result.Result.TheVariants.{Ok, Err}
 use Rattle.answers.specs.declared.Refusal.{Refusal}
 use Rattle.answers.specs.Refusals.{number}
@@ -41,7 +40,7 @@ use Rattle.runs.proofs.Calls.Demand3.{demand3}
 use Rattle.marks_words.specs.Words.{MarkWords, StartWord, FailsWord}
 use Rattle.table_marks.specs.Marks.{LeftWords}
 use Rattle.verdict.specs.declared.Verdict.{Verdict}
-use Rattle.verdict.specs.Verdict.{word_of, said, answer_of, Assessed}
+use Rattle.verdict.specs.Verdict.{Answer, word_of, said, answer_of, Assessed}
 use Rattle.verdict.specs.Inner.{OfWords, OfStanding}
 
 -- ---- a word without bits: no literal fails
@@ -121,7 +120,7 @@ word_in other (inr v) = v
 
 module _ (b xs : List ℕ) where
   -- 28 and 29
-  numbers : (a : Result Verdict Refusal) → said a ≡ answer_of b xs → (k : ℕ) → refusal b ≡ 0
+  numbers : (a : Answer) → said a ≡ answer_of b xs → (k : ℕ) → refusal b ≡ 0
       → (said a ≡ inl (suc k)) ↔ (blocked_refusal (plan_of b) xs ≡ suc k)
   unfolding answer_of refusal_under
   numbers a e k ok = let z = first_none (refusal b) (blocked_refusal (plan_of b) xs) ok in

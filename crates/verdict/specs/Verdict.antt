@@ -24,15 +24,19 @@ word_of Clear = CLEAR
 word_of Doomed = DOOMED
 word_of Open = OPEN
 
+-- a refusal or a verdict
+abbrev pub Answer : Type 0
+Answer = Result Verdict Refusal
+
 -- 01's number or word for each case
-abbrev pub said : Result Verdict Refusal → ℕ ⊎ verdicts.Verdict
+abbrev pub said : Answer → ℕ ⊎ verdicts.Verdict
 said (Err e) = inl (number e)
 said (Ok v) = inr (word_of v)
 
 unfoldable pub answer_of : List ℕ → List ℕ → ℕ ⊎ verdicts.Verdict
 answer_of b xs = refused_or (refusal_under b xs) (verdict (plan_under b xs) (start_of b))
 
-pub record Assessed (b xs : List ℕ) (a : Result Verdict Refusal) : Type 0 where
+pub record Assessed (b xs : List ℕ) (a : Answer) : Type 0 where
   pub returns : said a ≡ answer_of b xs
   -- of an accepted plan: 28 and 29 in 02's words
   pub refused_28 : refusal b ≡ 0 → (said a ≡ inl 28) ↔ Refused28 (plan_of b) xs
