@@ -24,8 +24,7 @@ use Rattle.runs.specs.Calls.{empty}
 use Rattle.runs.specs.Verdict.{Verdict, CLEAR, Judged}
 use Rattle.runs.proofs.Reflect.{clash}
 use Rattle.runs.proofs.Blocked.Branches.{blocks_nothing}
-use Rattle.verdict.specs.declared.Answer.{Answer}
-use Rattle.verdict.specs.Verdict.{said, Assessed}
+use Rattle.verdict.specs.Verdict.{Answer, said, Assessed}
 use Rattle.members.specs.Members.{MembersJudged, nobody, MemberCall, MemberAnswered, refused_17, refused_31}
 use Rattle.members.specs.Members.{refused_32, changes, MembersWorked, no_calls, next_call, last_verdict}
 use Rattle.members.proofs.Parts.{members_judged, nobody_clear}

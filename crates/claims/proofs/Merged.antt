@@ -6,8 +6,7 @@ use Prim.Native.Nat.{ℕ}
 use Rattle.plan_rules.specs.Rules.{refusal}
 use Rattle.plan_check.specs.Meaning.{plan_of, start_of}
 use Rattle.runs.specs.Verdict.{CLEAR, Clear}
-use Rattle.verdict.specs.declared.Answer.{Answer}
-use Rattle.verdict.specs.Verdict.{said, Assessed}
+use Rattle.verdict.specs.Verdict.{Answer, said, Assessed}
 use Rattle.plan_merge.proofs.Only.{merged_only}
 use Rattle.plan_merge.proofs.Left.{left_accepted}
 use Rattle.claims.specs.Merged.{MergedClear, OneMerged}

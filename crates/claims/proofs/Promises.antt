@@ -22,8 +22,7 @@ use Rattle.runs.specs.Blocked.{Stands}
 use Rattle.runs.specs.Branches.{Keeps, OrdersAdded}
 use Rattle.runs.proofs.Calls.Listed.{r_listed}
 use Rattle.runs.proofs.Blocked.Branches.{blocks_out, more_keeps, orders_keep}
-use Rattle.verdict.specs.declared.Answer.{Answer}
-use Rattle.verdict.specs.Verdict.{Assessed}
+use Rattle.verdict.specs.Verdict.{Answer, Assessed}
 use Rattle.claims.specs.Promises.{AnswerKeeps, BlockingKeeps, BytesAddOrders, OrdersKeep}
 
 -- what holds of the plans holds of the answers

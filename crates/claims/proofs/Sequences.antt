@@ -14,8 +14,7 @@ use Rattle.plan_blocked.proofs.Refused.{plan_accepted, none_under}
 use Rattle.runs.specs.Plan.{Plan}
 use Rattle.runs.specs.Verdict.{Verdict, CLEAR, DOOMED, Judged}
 use Rattle.runs.proofs.Reflect.{clash}
-use Rattle.verdict.specs.declared.Answer.{Answer}
-use Rattle.verdict.specs.Verdict.{said, answer_of, Assessed}
+use Rattle.verdict.specs.Verdict.{Answer, said, answer_of, Assessed}
 use Rattle.sequences.proofs.Cases.{sought_only}
 use Rattle.sequences.proofs.Rising.{clear_found, doomed_unfound}
 use Rattle.claims.specs.Sequences.{SequencesAgree, SequencesSame}

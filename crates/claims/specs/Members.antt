@@ -10,8 +10,7 @@ use Rattle.plan_rules.specs.Rules.{refusal}
 use Rattle.plan_check.specs.Meaning.{plan_of, start_of}
 use Rattle.runs.specs.Plan.{all_of, Child}
 use Rattle.runs.specs.Verdict.{Verdict, CLEAR}
-use Rattle.verdict.specs.declared.Answer.{Answer}
-use Rattle.verdict.specs.Verdict.{said, Assessed}
+use Rattle.verdict.specs.Verdict.{Answer, said, Assessed}
 use Rattle.members.specs.Members.{MembersJudged, nobody, MemberCall, MembersWorked, last_verdict}
 use Rattle.member_list.specs.Members.{MembersPass}
 use Rattle.member_calls.specs.Calls.{MemberCalled}

@@ -5,8 +5,7 @@ use Rattle.std.proofs.Common.{inr}
 use Rattle.base.specs.Bytes.{Bytes}
 use Rattle.plan_check.specs.Meaning.{plan_of}
 use Rattle.runs.specs.Verdict.{CLEAR}
-use Rattle.verdict.specs.declared.Answer.{Answer}
-use Rattle.verdict.specs.Verdict.{said, Assessed}
+use Rattle.verdict.specs.Verdict.{Answer, said, Assessed}
 use Rattle.merges.specs.Collisions.{NoCollision}
 use Rattle.plan_merge.specs.Sentences.{IsMerged}
 use Rattle.plan_merge.specs.Calls.{Merges}

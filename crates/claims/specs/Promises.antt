@@ -11,8 +11,7 @@ use Rattle.plan_blocked.specs.Blocked.{refusal_under}
 use Rattle.runs.specs.Searches.{listed}
 use Rattle.runs.specs.Blocked.{Stands}
 use Rattle.runs.specs.Verdict.{CLEAR, DOOMED}
-use Rattle.verdict.specs.declared.Answer.{Answer}
-use Rattle.verdict.specs.Verdict.{said, Assessed}
+use Rattle.verdict.specs.Verdict.{Answer, said, Assessed}
 
 -- CLEAR stays CLEAR and DOOMED stays DOOMED
 pub record AnswerKeeps (a c : Answer) : Type 0 where

@@ -3,8 +3,7 @@
 use Rattle.std.specs.Prelude.{◌≡◌, ◌≢◌, ◌⊎◌, List, [], ℕ}
 use Rattle.std.proofs.Common.{inl, inr}
 use Rattle.runs.specs.Verdict.{CLEAR, DOOMED}
-use Rattle.verdict.specs.declared.Answer.{Answer}
-use Rattle.verdict.specs.Verdict.{said, Assessed}
+use Rattle.verdict.specs.Verdict.{Answer, said, Assessed}
 use Rattle.sequence.specs.Sequence.{SoughtOf}
 
 pub record SequenceAgrees (a : Answer) (s : ℕ ⊎ List ℕ) : Type 0 where
