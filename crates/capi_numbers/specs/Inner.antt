@@ -2,8 +2,9 @@
 -- only.
 use Rattle.std.specs.Prelude.{◌⊎◌, ℕ, ◌≤◌}
 use Rattle.std.proofs.Common.{inl, inr}
-use Rattle.sequence.specs.declared.Finding.{Finding}
-use Rattle.sequence.specs.declared.Finding.TheVariants.{Refused, Found}
+use Rattle.std.specs.declared.result.Result.TheVariants.{Ok, Err}
+use Rattle.answers.specs.Refusals.{number}
+use Rattle.sequence.specs.Sequence.{Finding}
 
 -- a refusal, or a length up to 5,136, that of the longest plan
 abbrev pub Short : ℕ ⊎ ℕ → Type 0
@@ -12,5 +13,5 @@ Short (inr n) = n ≤ 5136
 
 -- the number of a finding, in which a sequence is a word already
 abbrev pub finding_number : Finding → ℕ
-finding_number (Refused n) = n
-finding_number (Found w) = w
+finding_number (Err e) = number e
+finding_number (Ok w) = w

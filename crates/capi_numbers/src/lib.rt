@@ -2,55 +2,62 @@
 #![tactic(auto)]
 
 ghost use Rattle.std.specs.Prelude.{◌≡◌};
+ghost use Rattle.answers.specs.Refusals.{returned, told};
 ghost use Rattle.verdict.specs.Verdict as verdict;
 ghost use Rattle.run_monitor.specs.Status as progress;
-ghost use Rattle.answers.specs.Written.{told};
 ghost use Rattle.capi_numbers.specs.Numbers.{verdict_number, status_number, written_number};
 ghost use Rattle.capi_numbers.specs.Inner.{Short, finding_number};
 
-use answers::Written;
+use answers::Refusal;
 use run_monitor::Progress;
-use sequence::Finding;
-use verdict::{Answer, Verdict};
+use verdict::Verdict;
 
-pub fn verdict_number(answer: Answer) -> u32
+// 0, or the number of the refusal.
+pub fn refusal_number(answer: Result<(), Refusal>) -> u32
+    ensures { result ≡ returned answer }
+{
+    match answer {
+        Ok(()) => 0,
+        Err(refusal) => u32::from(refusal),
+    }
+}
+
+pub fn verdict_number(answer: Result<Verdict, Refusal>) -> u32
     ensures { result ≡ verdict_number (verdict.said answer) }
 {
     match answer {
-        Answer::Refused(n) => n,
-        Answer::Judged(verdict) => match verdict {
-            Verdict::Clear => 128,
-            Verdict::Doomed => 129,
-            Verdict::Open => 130,
-        },
+        Ok(Verdict::Clear) => 128,
+        Ok(Verdict::Doomed) => 129,
+        Ok(Verdict::Open) => 130,
+        Err(refusal) => u32::from(refusal),
     }
 }
 
-pub fn status_number(answer: Progress) -> u32
+pub fn status_number(answer: Result<Progress, Refusal>) -> u32
     ensures { result ≡ status_number (progress.reported answer) }
 {
     match answer {
-        Progress::Refused(n) => n,
-        Progress::Complete => 128,
-        Progress::Unfinished => 129,
+        Ok(Progress::Complete) => 128,
+        Ok(Progress::Unfinished) => 129,
+        Err(refusal) => u32::from(refusal),
     }
 }
 
-pub fn written_number(answer: Written) -> u32
+pub fn written_number(answer: Result<usize, Refusal>) -> u32
     requires { Short (told answer) }
     ensures { result ≡ written_number (told answer) }
 {
     match answer {
-        Written::Refused(n) => n,
-        Written::Length(n) => 256 + n as u32,
+        Ok(length) => 256 + length as u32,
+        Err(refusal) => u32::from(refusal),
     }
 }
 
-pub fn sequence_number(answer: Finding) -> u64
+pub fn sequence_number(answer: Result<u64, Refusal>) -> u64
     ensures { result ≡ finding_number answer }
 {
     match answer {
-        Finding::Refused(n) => n as u64,
-        Finding::Found(word) => word,
+        Ok(word) => word,
+        Err(refusal) => u64::from(u32::from(refusal)),
     }
 }
