@@ -9,8 +9,9 @@ use Rattle.plan_rules.specs.Rules.{refusal}
 use Rattle.plan_check.proofs.Accepted.{clean}
 use Rattle.base.specs.Answers.{refused_or}
 use Rattle.base.proofs.First.{both_none}
-use Rattle.answers.specs.declared.Written.{Written}
-use Rattle.answers.specs.Written.{told}
+use Rattle.std.specs.declared.result.Result.{Result}
+use Rattle.answers.specs.declared.Refusal.{Refusal}
+use Rattle.answers.specs.Refusals.{told}
 use Rattle.text_listing.specs.Model.{text_of}
 use Rattle.listing.specs.Listing.{listing_refusal, listed_of, Lists}
 use Rattle.text_listing.proofs.Text.{text_fits}
@@ -23,7 +24,7 @@ module _ (b out : List ℕ) where
   accepted e = (both_none (refusal b) _ e).0
 
   -- a text is shorter than the longest plan
-  pub short : {out' : List ℕ} (r : Written) → Lists b out r out' → Short (told r)
+  pub short : {out' : List ℕ} (r : Result ℕ Refusal) → Lists b out r out' → Short (told r)
   unfolding listed_of
   short r l = at (told r) l.returns
     where

@@ -9,13 +9,13 @@ use native.Mathlib.Omega.{arith}
 use native.Mathlib.Decide.{ℕ_discrete, dec_lt}
 use lib.ListN.{length}
 use borrow.Author.Tests.{lt-ltb, le-ltb}
+use Rattle.std.specs.declared.result.Result.TheVariants.{Ok, Err}
+use Rattle.answers.specs.Refusals as refusals
 use Rattle.plan_rules.specs.Rules.{refusal}
 use Rattle.plan_rules.proofs.Limit.{refusal_limit}
 use Rattle.sequences.specs.Word.{low_bytes, sequence_in}
 use Rattle.sequences.proofs.Cases.{sought_number}
-use Rattle.sequence.specs.declared.Finding.{Finding}
-use Rattle.sequence.specs.declared.Finding.TheVariants.{Refused, Found}
-use Rattle.sequence.specs.Sequence.{SoughtOf, Sequenced}
+use Rattle.sequence.specs.Sequence.{Finding, SoughtOf, Sequenced}
 use Rattle.capi_numbers.specs.Numbers.{sequence_number}
 use Rattle.capi_numbers.specs.Inner.{finding_number}
 use Rattle.capi.specs.Told.{told_by, SequenceNumber}
@@ -48,10 +48,11 @@ module _ (b : List ℕ) where
       empty l = ap (λ (n : ℕ). low_bytes n w) (div-eq_of_lt l)
 
   pub sequence_told : (f : Finding) {r : ℕ} → Sequenced b f → r ≡ finding_number f → SequenceNumber b r
-  sequence_told (Refused n) a e =
+  sequence_told (Err x) a e =
+      let n = refusals.number x in
       let t : told_by n ≡ inl n = rw (lt-ltb n (2 ^ 56) (small a.sought)) in
       rw e (record { returns = ap sequence_number a.returns; sought = rw t a.sought; exact = rw t })
-  sequence_told (Found w) a e =
+  sequence_told (Ok w) a e =
       let t : told_by w ≡ inr (sequence_in w) = rw (le-ltb w (2 ^ 56) (great a.sought)) in
       rw e (record {
         returns = a.exact w refl ∙ ap sequence_number a.returns;

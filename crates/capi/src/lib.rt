@@ -12,21 +12,22 @@ ghost use Rattle.members.specs.Members.{include, exclude};
 ghost use Rattle.capi.specs.Told.{VerdictNumber, StatusNumber, ListingNumber, SequenceNumber, MemberNumber};
 ghost use Rattle.capi.specs.Told.{GeneratedNumber, MergedNumber};
 
-use capi_numbers::{sequence_number, status_number, verdict_number, written_number};
+use capi_numbers::{
+    refusal_number, sequence_number, status_number, verdict_number, written_number,
+};
 
 #[unsafe(no_mangle)]
 pub extern "C" fn knowetop_refusal(plan: &[u8]) -> u32
     ensures { result ≡ refusal plan.now }
 {
-    plan_check::check(plan)
+    refusal_number(plan_check::check(plan))
 }
 
 #[unsafe(no_mangle)]
 pub extern "C" fn knowetop_verdict(plan: &[u8], blocked: &[usize]) -> u32
     ensures { VerdictNumber plan.now blocked.now result }
 {
-    let answer = verdict::assess(plan, blocked);
-    verdict_number(answer)
+    verdict_number(verdict::assess(plan, blocked))
 }
 
 #[unsafe(no_mangle)]
@@ -39,7 +40,7 @@ pub extern "C" fn knowetop_summary(
     ensures { Summarised plan.now blocked.now node out.old result
         out.new }
 {
-    summary::summary(plan, blocked, node, out)
+    refusal_number(summary::summary(plan, blocked, node, out))
 }
 
 #[unsafe(no_mangle)]
@@ -47,7 +48,7 @@ pub extern "C" fn knowetop_fresh(plan: &[u8], blocked: &[usize], state: &mut [u8
     ensures { Freshened plan.now blocked.now state.old result
         state.new }
 {
-    run_state::fresh(plan, blocked, state)
+    refusal_number(run_state::fresh(plan, blocked, state))
 }
 
 #[unsafe(no_mangle)]
@@ -60,7 +61,7 @@ pub extern "C" fn knowetop_start(
     ensures { Called plan.now blocked.now state.old
         (one (execution.start task)) result state.new }
 {
-    run_monitor::start(plan, blocked, state, task)
+    refusal_number(run_monitor::start(plan, blocked, state, task))
 }
 
 #[unsafe(no_mangle)]
@@ -73,7 +74,7 @@ pub extern "C" fn knowetop_finish(
     ensures { Called plan.now blocked.now state.old
         (one (execution.finish task)) result state.new }
 {
-    run_monitor::finish(plan, blocked, state, task)
+    refusal_number(run_monitor::finish(plan, blocked, state, task))
 }
 
 #[unsafe(no_mangle)]
@@ -86,7 +87,7 @@ pub extern "C" fn knowetop_finish_together(
     ensures { Called plan.now blocked.now state.old
         (together tasks.now) result state.new }
 {
-    run_monitor::finish_together(plan, blocked, state, tasks)
+    refusal_number(run_monitor::finish_together(plan, blocked, state, tasks))
 }
 
 #[unsafe(no_mangle)]
@@ -99,47 +100,42 @@ pub extern "C" fn knowetop_skip(
     ensures { Called plan.now blocked.now state.old
         (one (execution.skip group)) result state.new }
 {
-    run_monitor::skip(plan, blocked, state, group)
+    refusal_number(run_monitor::skip(plan, blocked, state, group))
 }
 
 #[unsafe(no_mangle)]
 pub extern "C" fn knowetop_status(plan: &[u8], blocked: &[usize], state: &[u8]) -> u32
     ensures { StatusNumber plan.now blocked.now state.now result }
 {
-    let answer = run_monitor::status(plan, blocked, state);
-    status_number(answer)
+    status_number(run_monitor::status(plan, blocked, state))
 }
 
 #[unsafe(no_mangle)]
 pub extern "C" fn knowetop_listing(plan: &[u8], out: &mut [u8]) -> u32
     ensures { ListingNumber plan.now out.old result out.new }
 {
-    let answer = listing::listing(plan, out);
-    written_number(answer)
+    written_number(listing::listing(plan, out))
 }
 
 #[unsafe(no_mangle)]
 pub extern "C" fn knowetop_sequence(plan: &[u8]) -> u64
     ensures { SequenceNumber plan.now result }
 {
-    let answer = sequence::sequence(plan);
-    sequence_number(answer)
+    sequence_number(sequence::sequence(plan))
 }
 
 #[unsafe(no_mangle)]
 pub extern "C" fn knowetop_include(plan: &[u8], members: &mut [u8], node: usize) -> u32
     ensures { MemberNumber plan.now members.old (include node) result members.new }
 {
-    let answer = member_calls::include(plan, members, node);
-    verdict_number(answer)
+    verdict_number(member_calls::include(plan, members, node))
 }
 
 #[unsafe(no_mangle)]
 pub extern "C" fn knowetop_exclude(plan: &[u8], members: &mut [u8], node: usize) -> u32
     ensures { MemberNumber plan.now members.old (exclude node) result members.new }
 {
-    let answer = member_calls::exclude(plan, members, node);
-    verdict_number(answer)
+    verdict_number(member_calls::exclude(plan, members, node))
 }
 
 #[unsafe(no_mangle)]
@@ -147,14 +143,12 @@ pub extern "C" fn knowetop_generate(seed: u32, groups: usize, tasks: usize, out:
     ensures { GeneratedNumber (record { seed = seed; groups = groups; tasks = tasks }) out.old result
         out.new }
 {
-    let answer = plan_generate::generate(seed, groups, tasks, out);
-    written_number(answer)
+    written_number(plan_generate::generate(seed, groups, tasks, out))
 }
 
 #[unsafe(no_mangle)]
 pub extern "C" fn knowetop_merge(first: &[u8], second: &[u8], out: &mut [u8]) -> u32
     ensures { MergedNumber first.now second.now out.old result out.new }
 {
-    let answer = plan_merge::merge(first, second, out);
-    written_number(answer)
+    written_number(plan_merge::merge(first, second, out))
 }

@@ -3,7 +3,7 @@ use Rattle.capi.proofs.Generated.{plan_short, generated_told}
 use Rattle.capi.proofs.knowetop_generate.Goals as goal
 
 pub written_number-requires : goal.written_number-requires
-written_number-requires c = plan_short _ c.generate-answer.ensures
+written_number-requires c = plan_short _ c.generate.ensures
 
 pub returns : goal.returns
-returns c = generated_told c.generate-answer.ensures c.written_number.ensures
+returns c = generated_told c.generate.ensures c.written_number.ensures

@@ -3,4 +3,4 @@ use Rattle.capi.proofs.Members.{member_told}
 use Rattle.capi.proofs.knowetop_include.Goals as goal
 
 pub returns : goal.returns
-returns c = member_told c.include-answer.ensures c.verdict_number.ensures
+returns c = member_told c.include.ensures c.verdict_number.ensures

@@ -4,7 +4,7 @@ use Rattle.capi.proofs.Told.{listing_told}
 use Rattle.capi.proofs.knowetop_listing.Goals as goal
 
 pub written_number-requires : goal.written_number-requires
-written_number-requires c = short _ _ _ c.listing-answer.ensures
+written_number-requires c = short _ _ _ c.listing.ensures
 
 pub returns : goal.returns
-returns c = listing_told _ _ _ c.listing-answer.ensures c.written_number.ensures
+returns c = listing_told _ _ _ c.listing.ensures c.written_number.ensures

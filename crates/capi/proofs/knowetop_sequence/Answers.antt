@@ -3,4 +3,4 @@ use Rattle.capi.proofs.Sequence.{sequence_told}
 use Rattle.capi.proofs.knowetop_sequence.Goals as goal
 
 pub returns : goal.returns
-returns c = sequence_told _ _ c.sequence-answer.ensures c.sequence_number.ensures
+returns c = sequence_told _ _ c.sequence.ensures c.sequence_number.ensures

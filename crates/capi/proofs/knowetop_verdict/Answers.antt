@@ -3,4 +3,4 @@ use Rattle.capi.proofs.Told.{verdict_told}
 use Rattle.capi.proofs.knowetop_verdict.Goals as goal
 
 pub returns : goal.returns
-returns c = verdict_told _ _ _ c.assess-answer.ensures c.verdict_number.ensures
+returns c = verdict_told _ _ _ c.assess.ensures c.verdict_number.ensures

@@ -1,6 +1,0 @@
--- `knowetop_status` meets its contract. Assumes nothing.
-use Rattle.capi.proofs.Told.{status_told}
-use Rattle.capi.proofs.knowetop_status.Goals as goal
-
-pub returns : goal.returns
-returns c = status_told _ _ _ _ c.status-answer.ensures c.status_number.ensures
