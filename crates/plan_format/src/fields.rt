@@ -15,32 +15,36 @@ pub fn u16_at(plan: &[u8], at: usize) -> u16
     u16::from(plan[at]) + 256 * u16::from(plan[at + 1])
 }
 
+#[tactic(auto, unfolding(crate::specs::Format::node_count))]
 pub fn nodes(plan: &[u8]) -> usize
     requires { 16 ≤ length plan.now }
     ensures { result ≡ node_count plan.now }
 {
-    u16_at(plan, 0) as usize
+    usize::from(u16_at(plan, 0))
 }
 
+#[tactic(auto, unfolding(crate::specs::Format::cond_count))]
 pub fn conditions(plan: &[u8]) -> usize
     requires { 16 ≤ length plan.now }
     ensures { result ≡ cond_count plan.now }
 {
-    u16_at(plan, 2) as usize
+    usize::from(u16_at(plan, 2))
 }
 
+#[tactic(auto, unfolding(crate::specs::Format::order_count))]
 pub fn orders(plan: &[u8]) -> usize
     requires { 16 ≤ length plan.now }
     ensures { result ≡ order_count plan.now }
 {
-    u16_at(plan, 4) as usize
+    usize::from(u16_at(plan, 4))
 }
 
+#[tactic(auto, unfolding(crate::specs::Format::flag_count))]
 pub fn flags(plan: &[u8]) -> usize
     requires { 16 ≤ length plan.now }
     ensures { result ≡ flag_count plan.now }
 {
-    u16_at(plan, 6) as usize
+    usize::from(u16_at(plan, 6))
 }
 
 pub fn start_flag(plan: &[u8], f: usize) -> bool

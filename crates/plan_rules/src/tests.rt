@@ -22,6 +22,7 @@ pub fn bad_start(plan: &[u8], f: usize) -> bool
     flags(plan) <= f && start_flag(plan, f)
 }
 
+#[tactic(auto, unfolding(crate::specs::Rules::bad_char))]
 pub fn bad_char(plan: &[u8], k: usize) -> bool
     requires { (k < 4 * node_count plan.now) × Whole plan.now }
     ensures { result ≡ bad_char plan.now k }
@@ -70,6 +71,7 @@ fn not_below(x: u8, y: u16, x2: u8, y2: u16) -> bool
     !(x < x2 || (x == x2 && y < y2))
 }
 
+#[tactic(auto, unfolding(crate::specs::Rules::not_rising))]
 pub fn conditions_fall(plan: &[u8], i: usize) -> bool
     requires { (i + 1 < cond_count plan.now) × Whole plan.now }
     ensures { result ≡ not_rising (cond_node plan.now) (cond_value plan.now) i }
@@ -82,15 +84,16 @@ pub fn conditions_fall(plan: &[u8], i: usize) -> bool
     )
 }
 
+#[tactic(auto, unfolding(crate::specs::Rules::not_rising))]
 pub fn orders_fall(plan: &[u8], j: usize) -> bool
     requires { (j + 1 < order_count plan.now) × Whole plan.now }
     ensures { result ≡ not_rising (earlier_of plan.now) (later_of plan.now) j }
 {
     not_below(
         earlier(plan, j),
-        later(plan, j) as u16,
+        u16::from(later(plan, j)),
         earlier(plan, j + 1),
-        later(plan, j + 1) as u16,
+        u16::from(later(plan, j + 1)),
     )
 }
 
@@ -116,6 +119,7 @@ fn bad_pair(plan: &[u8], x: usize, y: usize) -> bool
     !siblings || x >= y
 }
 
+#[tactic(auto, unfolding(crate::specs::Rules::bad_order))]
 pub fn bad_order(plan: &[u8], j: usize) -> bool
     requires { (j < order_count plan.now) × Whole plan.now }
     ensures { result ≡ bad_order plan.now j }
