@@ -6,9 +6,7 @@ use Prim.Native.Nat.{ℕ, suc, ◌+◌, ◌*◌, ◌<◌}
 use native.Mathlib.Omega.{arith}
 use lib.ListN.{length, get_or, replicate, length-replicate}
 use borrow.Author.Tests.{lt-ltb}
-use Rattle.std.specs.declared.result.Result.{Result}
 use Rattle.std.specs.declared.result.Result.TheVariants.{Ok}
-use Rattle.answers.specs.declared.Refusal.{Refusal}
 use Rattle.plan_format.specs.Format.{node_count}
 use Rattle.plan_blocked.specs.Blocked.{plan_under, refusal_under}
 use Rattle.plan_blocked.proofs.Refused.{plan_accepted, blocks}
@@ -18,8 +16,7 @@ use Rattle.plan_check.proofs.Meaning.{means_well_formed}
 use Rattle.runs.specs.Verdict.{Verdict, CLEAR, DOOMED, OPEN}
 use Rattle.runs.specs.Model.Verdicts.{verdict}
 use Rattle.verdict.specs.declared.Verdict.TheVariants.{Clear, Doomed, Open}
-use Rattle.verdict.specs.declared.Verdict.{Verdict as Answer}
-use Rattle.verdict.specs.Verdict.{Assessed}
+use Rattle.verdict.specs.Verdict.{Answer, Assessed}
 use Rattle.verdict.proofs.Judging.{assessed}
 use Rattle.runs.specs.Calls.{Call, World, accepted_starts}
 use Rattle.runs.specs.Demand3.{Demand3On}
@@ -49,8 +46,7 @@ module _ (b xs : List ℕ) (h : Bytes b) (acc : refusal_under b xs ≡ 0) where
       g s cs m.0 m.1 m.2 n (rw (on_plans.unique w f.worked).0 at x)
 
   -- the case of the enum for a verdict
-  assessment : (v : Verdict) → v ≡ verdict (plan_under b xs) (start_of b)
-      → (r : Result Answer Refusal) × Assessed b xs r
+  assessment : (v : Verdict) → v ≡ verdict (plan_under b xs) (start_of b) → (r : Answer) × Assessed b xs r
   assessment CLEAR e = (Ok Clear, assessed b xs Clear acc e)
   assessment DOOMED e = (Ok Doomed, assessed b xs Doomed acc e)
   assessment OPEN e = (Ok Open, assessed b xs Open acc e)

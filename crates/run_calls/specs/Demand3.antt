@@ -5,8 +5,6 @@
 use Rattle.std.specs.Prelude.{ℕ, suc, ◌+◌, ◌*◌, ◌≤◌, ◌<◌, ◌≡◌, ◌≢◌, ◌⊎◌, ◌↔◌, true, false, List, [], ◌∷◌, ◌++◌, length}
 use Rattle.std.specs.Prelude.{get_or}
 use Rattle.std.proofs.Common.{inr}
-use Rattle.std.specs.declared.result.Result.{Result}
-use Rattle.answers.specs.declared.Refusal.{Refusal}
 use Rattle.plan_format.specs.Format.{node_count, is_kind}
 use Rattle.plan_blocked.specs.Blocked.{plan_under, refusal_under}
 use Rattle.plan_check.specs.Meaning.{plan_of, start_of}
@@ -18,11 +16,9 @@ use Rattle.run_starts.specs.Starts.{node_byte, ordinal_in}
 use Rattle.run_state.specs.State.{world_of, state_refusal_under}
 use Rattle.base.specs.Answers.{overlay}
 use Rattle.base.specs.Bytes.{Bytes}
-use Rattle.run_monitor.specs.declared.Progress.{Progress}
 use Rattle.run_monitor.specs.Status as status
-use Rattle.run_monitor.specs.Status.{COMPLETE, Told}
-use Rattle.verdict.specs.declared.Verdict.{Verdict as Answer}
-use Rattle.verdict.specs.Verdict.{said, Assessed}
+use Rattle.run_monitor.specs.Status.{COMPLETE, Report, Told}
+use Rattle.verdict.specs.Verdict.{Answer, said, Assessed}
 use Rattle.run_calls.specs.Shown.{shown_byte}
 use Rattle.run_calls.specs.Lists.{Calls, ListMade}
 
@@ -75,7 +71,7 @@ pub record Demand3Of (b xs : List ℕ) : Type 0 where
   -- every list of calls can be made, on any bytes that have room for a state, and the plan has an answer
   pub made : (s : List ℕ) → 8 + 3 * node_count b ≤ length s → (cs : List Call)
       → (rs : List ℕ) × (z : List ℕ) × ListMade b xs s cs rs z
-  pub assessed : (r : Result Answer Refusal) × Assessed b xs r
+  pub assessed : (r : Answer) × Assessed b xs r
   -- each call of a list returns what 01 works out from the plan and the calls up to it, and the bytes then show the
   -- states worked out there
   pub each : (s : List ℕ) (cs : List Call) (c : Call) (ds : List Call) (rs z : List ℕ)
@@ -91,27 +87,26 @@ pub record Demand3Of (b xs : List ℕ) : Type 0 where
   pub unique : {cs : List Call} {ns ms : List ℕ} {a c : World} → WorkedOut b xs cs ns a → WorkedOut b xs cs ms c
       → (ns ≡ ms) × (a ≡ c)
   -- after every list `status` says COMPLETE exactly if the root is complete in the states worked out
-  pub complete : (s : List ℕ) (cs : List Call) (rs z : List ℕ) → ListMade b xs s cs rs z
-      → (t : Result Progress Refusal) → Told b xs z t → (a : World) → WorkedOut b xs cs rs a
+  pub complete : (s : List ℕ) (cs : List Call) (rs z : List ℕ) → ListMade b xs s cs rs z → (t : Report)
+      → Told b xs z t → (a : World) → WorkedOut b xs cs rs a
       → (status.reported t ≡ inr COMPLETE) ↔ Complete (plan_under b xs) a.status 0
   -- the answer is the one that 01 defines
-  pub answer : (r : Result Answer Refusal) → Assessed b xs r
+  pub answer : (r : Answer) → Assessed b xs r
       → (v : Verdict) × (said r ≡ inr v) × Judged (plan_under b xs) (start_of b) v
       × ((u : Verdict) → Judged (plan_under b xs) (start_of b) u → u ≡ v)
   -- it is CLEAR exactly if no call in any list returns 21, 22 or 26
-  pub clear : (r : Result Answer Refusal) → Assessed b xs r
+  pub clear : (r : Answer) → Assessed b xs r
       → (said r ≡ inr CLEAR)
       ↔ ((s : List ℕ) (cs : List Call) (rs z : List ℕ) → ListMade b xs s cs rs z → NoViolation rs)
   -- if it is not, some list of calls has such a return (02: "a book that is not CLEAR has one"), on any bytes that have
   -- room for a state
-  pub violated : (r : Result Answer Refusal) → Assessed b xs r → said r ≢ inr CLEAR
-      → (s : List ℕ) → 8 + 3 * node_count b ≤ length s
+  pub violated : (r : Answer) → Assessed b xs r → said r ≢ inr CLEAR → (s : List ℕ) → 8 + 3 * node_count b ≤ length s
       → (cs : List Call) × (rs : List ℕ) × (z : List ℕ) × ListMade b xs s cs rs z × Violation rs
   -- if it is DOOMED, the root is complete after no list: not in the states worked out, and `status` never says so
-  pub doomed : (r : Result Answer Refusal) → Assessed b xs r → said r ≡ inr DOOMED
+  pub doomed : (r : Answer) → Assessed b xs r → said r ≡ inr DOOMED
       → (s : List ℕ) (cs : List Call) (rs z : List ℕ) → ListMade b xs s cs rs z
       → ((a : World) → WorkedOut b xs cs rs a → ¬ Complete (plan_under b xs) a.status 0)
-      × ((t : Result Progress Refusal) → Told b xs z t → status.reported t ≢ inr COMPLETE)
+      × ((t : Report) → Told b xs z t → status.reported t ≢ inr COMPLETE)
 
 -- the whole claim: it holds of every accepted plan with every list of blocked nodes that passes 28 and 29, the empty
 -- one among them, which "is given to the answer, to fresh and to every keeper call alike" (02)
