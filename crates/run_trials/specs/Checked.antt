@@ -5,14 +5,12 @@ use Rattle.std.proofs.Common.{inl, inr}
 use Rattle.plan_check.specs.Meaning.{plan_of}
 use Rattle.plan_blocked.specs.Blocked.{plan_under}
 use Rattle.runs.specs.Calls.{Call, Answered}
-use Rattle.verdict.specs.declared.Answer.{Answer}
 use Rattle.verdict.specs.Verdict as verdicts
-use Rattle.verdict.specs.Verdict.{Assessed}
+use Rattle.verdict.specs.Verdict.{Answer, Assessed}
 use Rattle.summary.specs.Summary.{Summarised}
 use Rattle.run_state.specs.State.{world_of}
 use Rattle.run_state.specs.Fresh.{Freshened}
-use Rattle.run_monitor.specs.declared.Progress.{Progress}
-use Rattle.run_monitor.specs.Status.{Word, reported, Told}
+use Rattle.run_monitor.specs.Status.{Word, Report, reported, Told}
 use Rattle.run_monitor.specs.Events.{Called}
 use Rattle.run_trials.specs.Written.{PlanPieces, bytes_of}
 
@@ -25,13 +23,13 @@ pub record StateRow : Type 0 where
 
 -- `status` and every call that moves something refuse with r and change nothing, and `fresh` too where r is 15
 pub record AllRefuse (b xs s : List ℕ) (r : ℕ) : Type 0 where
-  pub status : (p : Progress) → Told b xs s p → reported p ≡ inl r
+  pub status : (p : Report) → Told b xs s p → reported p ≡ inl r
   pub call : (c : Call) (n : ℕ) (z : List ℕ) → Called b xs s c n z → (n ≡ r) × (z ≡ s)
   pub room : r ≡ 15 → (n : ℕ) (z : List ℕ) → Freshened b xs s n z → (n ≡ 15) × (z ≡ s)
 
 -- `status` says a word, and the calls that move something answer as 01 says of the states that the bytes show
 pub record AllPass (b xs s : List ℕ) : Type 0 where
-  pub status : (p : Progress) → Told b xs s p → (w : Word) × (reported p ≡ inr w)
+  pub status : (p : Report) → Told b xs s p → (w : Word) × (reported p ≡ inr w)
   pub call : (c : Call) (n : ℕ) (z : List ℕ) → Called b xs s c n z
       → Answered (plan_of b) (plan_under b xs) (world_of b s) c n (world_of b z)
 
@@ -52,7 +50,7 @@ pub record Worded : Type 0 where
 
 abbrev pub AllWorded : List Worded → Type 0
 AllWorded [] = Unit {0}
-AllWorded (c ∷ l) = ((p : Progress) → Told (bytes_of c.plan) c.blocked c.state p → reported p ≡ inr c.word)
+AllWorded (c ∷ l) = ((p : Report) → Told (bytes_of c.plan) c.blocked c.state p → reported p ≡ inr c.word)
     × AllWorded l
 
 -- a plan, a list of blocked nodes, and the refusal of 1 to 14, 28 or 29 that both meet
@@ -66,7 +64,7 @@ pub record RefusesAll (b xs : List ℕ) (r : ℕ) : Type 0 where
   pub assess : (a : Answer) → Assessed b xs a → verdicts.said a ≡ inl r
   pub summary : (n : ℕ) (out out' : List ℕ) (k : ℕ) → Summarised b xs n out k out' → (k ≡ r) × (out' ≡ out)
   pub fresh : (s z : List ℕ) (k : ℕ) → Freshened b xs s k z → (k ≡ r) × (z ≡ s)
-  pub status : (s : List ℕ) (p : Progress) → Told b xs s p → reported p ≡ inl r
+  pub status : (s : List ℕ) (p : Report) → Told b xs s p → reported p ≡ inl r
   pub call : (s : List ℕ) (c : Call) (k : ℕ) (z : List ℕ) → Called b xs s c k z → (k ≡ r) × (z ≡ s)
 
 abbrev pub AllRefused : List Listing → Type 0

@@ -3,8 +3,7 @@
 use Rattle.std.specs.Prelude.{ℕ, ◌≡◌, ◌⊎◌, Bool, List, [], ◌∷◌, length, take, replicate}
 use Rattle.std.proofs.Common.{inl, inr}
 use Rattle.runs.specs.Verdict.{Verdict, CLEAR, DOOMED, OPEN}
-use Rattle.verdict.specs.declared.Answer.{Answer}
-use Rattle.verdict.specs.Verdict.{said, Assessed}
+use Rattle.verdict.specs.Verdict.{Answer, said, Assessed}
 use Rattle.plan_merge.specs.Calls.{Merges}
 use Rattle.run_trials.specs.Written.{then, PlanPieces, bytes_of}
 use Rattle.run_trials.specs.Terms.{name, off, on, needs, holds, leaves, work, none_set, one_set, under_root}

@@ -3,8 +3,7 @@
 use Rattle.std.specs.Prelude.{ℕ, ◌≡◌, ◌⊎◌, List, [], ◌∷◌, ◌++◌, replicate}
 use Rattle.std.proofs.Common.{inl, inr}
 use Rattle.runs.specs.Plan.{Kind, all_of, any_of, optional}
-use Rattle.sequence.specs.declared.Finding.{Finding}
-use Rattle.sequence.specs.Sequence.{found_in, Sequenced}
+use Rattle.sequence.specs.Sequence.{Finding, found_in, Sequenced}
 use Rattle.run_trials.specs.Written.{Entry, Order, then, PlanPieces, bytes_of}
 use Rattle.run_trials.specs.Terms.{short, off, on, needs, leaves, group, work, none_set, under_root, a_task}
 use Rattle.run_trials.specs.Terms.{z_task, A, C, G, O, R, Z}

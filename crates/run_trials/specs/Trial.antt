@@ -14,8 +14,7 @@ use Rattle.runs.specs.Verdict.{Verdict}
 use Rattle.runs.specs.Calls.{Call}
 use Rattle.runs.specs.Numbers.{status_byte}
 use Rattle.run_calls.specs.Lists.{ListMade}
-use Rattle.verdict.specs.declared.Answer.{Answer}
-use Rattle.verdict.specs.Verdict.{said, Assessed}
+use Rattle.verdict.specs.Verdict.{Answer, said, Assessed}
 use Rattle.summary.specs.Summary.{Summarised}
 use Rattle.run_trials.specs.Written.{PlanPieces, bytes_of, eight, twos}
 
