@@ -10,7 +10,7 @@ use Rattle.text_listing.proofs.write_listing.Goals as goal
 pub marks_and_children-words-requires : goal.marks_and_children-words-requires
 marks_and_children-words-requires c =
     let p = c.requires in
-    (p.0, (clean _ p.0).fits.limits.some_node, (zeros STARTS), (zeros NODES))
+    (p.0, (clean _ p.0).fits.limits.some_node, zeros STARTS, zeros NODES)
 
 pub write_text-requires : goal.write_text-requires
 write_text-requires c =

@@ -2,6 +2,8 @@
 use mathlib.Core.Path.{ap}
 use Prim.Native.Nat.{ℕ}
 use lib.ListN.{length}
+use Rattle.base.proofs.Zeros.{zeros}
+use Rattle.tables.specs.Sizes.{NODES}
 use Rattle.plan_check.proofs.Accepted.{clean}
 use Rattle.verdict.specs.Verdict.{word_of}
 use Rattle.text_decimals.proofs.Written.{wrote_long, wrote_then, wrote_same}
@@ -49,3 +51,6 @@ returns c =
     let word = wrote_same (ap letters c.requires.1) c.write_word-a.ensures in
     let line = wrote_same (ap ending c.longest_waits-root.ensures.1) c.end_line-b.ensures in
     wrote_same (text_is _) (wrote_then (wrote_then word line) c.write_lines.ensures)
+
+pub longest_waits-root-requires : goal.longest_waits-root-requires
+longest_waits-root-requires c = (c.requires.0, c.requires.3, zeros NODES)
