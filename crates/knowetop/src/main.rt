@@ -23,8 +23,8 @@ fn page() -> Page
     [0u8; 2048]
 }
 
-// Reads until the input is full or ends, and returns how many bytes stand at its start. A `while`: a read may give fewer
-// bytes than it has room for.
+// Reads until the input is full or ends, and returns how many bytes stand at its start. A `while`: a read may give
+// fewer bytes than there is room for.
 fn read_full<R: Read>(reader: &mut R, input: &mut [u8]) -> io::Result<usize>
     ensures { IfOk result (λ n. n ≤ length input.new) }
 {
