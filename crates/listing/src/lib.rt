@@ -5,7 +5,7 @@ ghost use Rattle.listing.specs.Listing.{Lists, Prints};
 
 use answers::Refusal;
 use plan_check::check;
-use text_decimals::write_bytes;
+use text_decimals::Text;
 use text_lines::end_line;
 use text_listing::write_listing;
 
@@ -30,8 +30,10 @@ pub fn print(plan: &[u8], out: &mut Page) -> usize
     match listing(plan, out) {
         Ok(length) => length,
         Err(refusal) => {
-            let at = write_bytes(out, 0, b"REFUSED");
-            end_line(out, at, u32::from(refusal))
+            let mut text = Text { out, at: 0 };
+            text.write_bytes(b"REFUSED");
+            end_line(&mut text, u32::from(refusal));
+            text.at
         }
     }
 }

@@ -1,3 +1,4 @@
--- Laws of decimals and of written bytes.
+-- Laws of decimals, of written bytes, and of texts.
 pub mod Written
 pub mod Decimals
+pub mod Writes

@@ -2,37 +2,44 @@
 #![tactic(auto)]
 
 ghost use Rattle.std.specs.Prelude.{[], ◌∷◌, ◌+◌, ◌<◌, ◌≤◌, length};
-ghost use Rattle.text_decimals.specs.Decimals.{Wrote};
+ghost use Rattle.text_decimals.specs.Writes.{Writes};
 ghost use Rattle.text_decimals.specs.Model.{decimal};
 
-// Writes a byte, and answers where the next one goes.
-pub fn put(out: &mut [u8], at: usize, x: u8) -> usize
-    requires { at < length out.old }
-    ensures { Wrote out.old at (x ∷ []) result out.new }
-{
-    out[at] = x;
-    at + 1
+// Lent memory, and where its next byte goes.
+#[derive(Drop)]
+pub struct Text<'a> {
+    pub out: &'a mut [u8],
+    pub at: usize,
 }
 
-// Writes some bytes, and answers where the next one goes.
-pub fn write_bytes(out: &mut [u8], at: usize, s: &[u8]) -> usize
-    requires { at + length s.now ≤ length out.old }
-    ensures { Wrote out.old at s.now result out.new }
-{
-    let end = at + s.len();
-    out[at..end].copy_from_slice(s);
-    end
-}
-
-// Writes n in plain decimals, and answers where the next byte goes.
-pub fn write_decimal(out: &mut [u8], at: usize, n: u32) -> usize
-    requires { at + length (decimal n) ≤ length out.old }
-    ensures { Wrote out.old at (decimal n) result out.new }
-{
-    let last = b'0' + (n % 10) as u8;
-    if n < 10 {
-        return put(out, at, last);
+impl<'a> Text<'a> {
+    // Writes a byte.
+    pub fn put(&mut self, x: u8)
+        requires { self.old.at < length self.old.out.now }
+        ensures { Writes self.old (x ∷ []) self.new }
+    {
+        self.out[self.at] = x;
+        self.at += 1;
     }
-    let end = write_decimal(out, at, n / 10);
-    put(out, end, last)
+
+    // Writes some bytes.
+    pub fn write_bytes(&mut self, s: &[u8])
+        requires { self.old.at + length s.now ≤ length self.old.out.now }
+        ensures { Writes self.old s.now self.new }
+    {
+        let end = self.at + s.len();
+        self.out[self.at..end].copy_from_slice(s);
+        self.at = end;
+    }
+
+    // Writes n in plain decimals.
+    pub fn write_decimal(&mut self, n: u32)
+        requires { self.old.at + length (decimal n) ≤ length self.old.out.now }
+        ensures { Writes self.old (decimal n) self.new }
+    {
+        if n >= 10 {
+            self.write_decimal(n / 10);
+        }
+        self.put(b'0' + (n % 10) as u8);
+    }
 }

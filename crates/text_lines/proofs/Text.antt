@@ -10,10 +10,11 @@ use lib.ListN.{length, get_or, take, drop, length-append}
 use lib.Seq.{take-suc, take_all, drop-cons}
 use Rattle.plan_format.specs.Format.{node_count, name_char, name_of}
 use Rattle.plan_check.proofs.Accepted.{Clean}
-use Rattle.text_decimals.specs.Decimals.{Wrote}
+use Rattle.text_decimals.specs.declared.Text.{Text}
+use Rattle.text_decimals.specs.Writes.{Writes}
 use Rattle.text_decimals.specs.Model.{decimal}
 use Rattle.text_decimals.proofs.Decimals.{length_limit, plain, plain_only}
-use Rattle.text_decimals.proofs.Written.{written_none, wrote_then, wrote_same}
+use Rattle.text_decimals.proofs.Writes.{writes_none, writes_then, writes_same}
 use Rattle.wait_lengths.specs.Waits.{longest_wait}
 use Rattle.wait_lengths.proofs.Bounds.{end_limit}
 use Rattle.text_order.specs.Model.{ranked_to, ranking}
@@ -125,10 +126,10 @@ name_bytes b t n e l = rw e (four b (16 + 4 * t) (16 + (4 * t + 1)) (16 + (4 * t
     (omega arith) (omega arith) (omega arith))
 
 -- ---- the first i lines are written
-pub record LinesTo (b out out' : List ℕ) (at a i : ℕ) : Type 0 where
+pub record LinesTo (b : List ℕ) (x y : Text) (i : ℕ) : Type 0 where
   pub inside : i ≤ length (ranking b)
-  pub wrote : Wrote out at (lines_of b (longest_wait b) (take i (ranking b))) a out'
-  pub short : a ≤ at + 13 * i
+  pub writes : Writes x (lines_of b (longest_wait b) (take i (ranking b))) y
+  pub short : y.at ≤ x.at + 13 * i
 
 module _ {b : List ℕ} (ok : Clean b) where
   pub lines_limit : length (lines_of b (longest_wait b) (ranking b)) ≤ 1651
@@ -140,13 +141,9 @@ module _ {b : List ℕ} (ok : Clean b) where
     ranking_length b ok,
   )
 
-  pub lines_none : {out : List ℕ} {at : ℕ} → LinesTo b out out at at 0
+  pub lines_none : {x : Text} → LinesTo b x x 0
   unfolding lines_of
-  lines_none {out} {at} = record {
-    inside = omega arith;
-    wrote = record { bytes = sym (written_none out at); next = omega arith };
-    short = omega arith;
-  }
+  lines_none = record { inside = omega arith; writes = writes_none; short = omega arith }
 
   -- the task of line i
   pub line_task : {tasks : List ℕ} {i t : ℕ} → tasks ≡ ranking b → i < length tasks → t ≡ get_or tasks i 0
@@ -159,19 +156,19 @@ module _ {b : List ℕ} (ok : Clean b) where
         q,
       )
 
-  pub lines_turn : {out out' out'' : List ℕ} {at a a' i t w : ℕ} → i < length (ranking b) → t < node_count b
-      → t ≡ get_or (ranking b) i 0 → w ≡ longest_wait b t → Wrote out' a (line_of b t w) a' out''
-      → LinesTo b out out' at a i → LinesTo b out out'' at a' (i + 1)
-  lines_turn {i = i} {t} l m e q x h =
+  pub lines_turn : {x y z : Text} {i t w : ℕ} → i < length (ranking b) → t < node_count b
+      → t ≡ get_or (ranking b) i 0 → w ≡ longest_wait b t → Writes y (line_of b t w) z
+      → LinesTo b x y i → LinesTo b x z (i + 1)
+  lines_turn {i = i} {t} l m e q k h =
       let lines = lines_of b (longest_wait b) (take i (ranking b)) in
       rw add-one (record {
         inside = omega arith;
-        wrote = wrote_same
+        writes = writes_same
             (ap (λ (k : ℕ). lines ++ line_of b t k) q ∙ ap (λ (k : ℕ). lines ++ line_of b k (longest_wait b k)) e
-            ∙ sym (lines_next b (longest_wait b) (ranking b) i l)) (wrote_then h.wrote x);
-        short = omega (arith, h.short, x.next, task_limit ok m q);
+            ∙ sym (lines_next b (longest_wait b) (ranking b) i l)) (writes_then h.writes k);
+        short = omega (arith, h.short, k.wrote.next, task_limit ok m q);
       })
 
-  pub lines_all : {out out' : List ℕ} {at a i : ℕ} → length (ranking b) ≤ i → LinesTo b out out' at a i
-      → Wrote out at (lines_of b (longest_wait b) (ranking b)) a out'
-  lines_all {i = i} l h = wrote_same (ap (lines_of b (longest_wait b)) (take_all i (ranking b) l)) h.wrote
+  pub lines_all : {x y : Text} {i : ℕ} → length (ranking b) ≤ i → LinesTo b x y i
+      → Writes x (lines_of b (longest_wait b) (ranking b)) y
+  lines_all {i = i} l h = writes_same (ap (lines_of b (longest_wait b)) (take_all i (ranking b) l)) h.writes

@@ -8,27 +8,28 @@ ghost use Rattle.runs.specs.Model.Verdicts as model;
 ghost use Rattle.table_children.specs.Children.{TreeOf};
 ghost use Rattle.verdict.specs.Verdict.{word_of};
 ghost use Rattle.text_decimals.specs.Decimals.{Wrote};
+ghost use Rattle.text_decimals.specs.Writes.{Writes};
 ghost use Rattle.text_listing.specs.Text.{letters};
 ghost use Rattle.text_listing.specs.Model.{text_of};
 
 use node_sets::all_nodes;
 use table_marks::marks_and_children;
 use tables::{NODES, Nodes, STARTS, Starts};
-use text_decimals::write_bytes;
+use text_decimals::Text;
 use text_lines::{end_line, write_lines};
 use text_order::rank;
 use verdict::{Verdict, of_words, start_word};
 use wait_tree::longest_waits;
 
 // Writes the word of a verdict.
-fn write_word(out: &mut [u8], at: usize, verdict: Verdict) -> usize
-    requires { at + 6 ≤ length out.old }
-    ensures { Wrote out.old at (letters (word_of verdict)) result out.new }
+fn write_word(text: &mut Text, verdict: Verdict)
+    requires { text.old.at + 6 ≤ length text.old.out.now }
+    ensures { Writes text.old (letters (word_of verdict)) text.new }
 {
     match verdict {
-        Verdict::Clear => write_bytes(out, at, b"CLEAR"),
-        Verdict::Doomed => write_bytes(out, at, b"DOOMED"),
-        Verdict::Open => write_bytes(out, at, b"OPEN"),
+        Verdict::Clear => text.write_bytes(b"CLEAR"),
+        Verdict::Doomed => text.write_bytes(b"DOOMED"),
+        Verdict::Open => text.write_bytes(b"OPEN"),
     }
 }
 
@@ -42,9 +43,11 @@ fn write_text(plan: &[u8], from: &Starts, kids: &Nodes, verdict: Verdict, out: &
     let root = longest_waits(plan, from, kids, &mut waits);
     let mut ranked = [0; NODES];
     let k = rank(plan, &waits, &mut ranked);
-    let a = write_word(out, 0, verdict);
-    let b = end_line(out, a, root);
-    write_lines(plan, &waits, &ranked[..k], out, b)
+    let mut text = Text { out, at: 0 };
+    write_word(&mut text, verdict);
+    end_line(&mut text, root);
+    write_lines(plan, &waits, &ranked[..k], &mut text);
+    text.at
 }
 
 // Writes the listing of an accepted plan: the tables are filled once, and that of the children is lent for the waits.

@@ -2,7 +2,7 @@
 use mathlib.Core.Path.{ap, ◌∙◌}
 use Prim.Native.Nat.{◌≤◌}
 use lib.ListN.{length}
-use Rattle.text_decimals.proofs.Written.{wrote_long, wrote_then, wrote_same}
+use Rattle.text_decimals.proofs.Writes.{writes_long, writes_then, writes_same}
 use Rattle.text_lines.proofs.Text.{ending_limit}
 use Rattle.listing.proofs.Printed.{refused_is}
 use Rattle.listing.proofs.Answers.{text_answered, refused_answered, prints}
@@ -14,14 +14,15 @@ pub end_line-requires : goal.end_line-requires
 end_line-requires c =
     let l : 2048 ≤ length c.args.out.now = search rules in
     let w = refused_answered _ _ c.from.ensures l c.in-Err.ensures in
-    let b = c.write_bytes-at.ensures in
-    omega (arith, l, b.next, wrote_long b, ap length w.2, ending_limit c.from.result (omega (arith, w.0)))
+    let b = c.write_bytes.ensures in
+    omega (arith, l, b.wrote.next, writes_long b, ap length w.2, ending_limit c.from.result (omega (arith, w.0)))
 
 pub returns-in-Err : goal.returns-in-Err
 returns-in-Err c =
     let l : 2048 ≤ length c.args.out.now = search rules in
     let w = refused_answered _ _ c.from.ensures l c.in-Err.ensures in
-    prints _ l (wrote_same (refused_is _ ∙ w.1) (wrote_then (rw w.2 at c.write_bytes-at.ensures) c.end_line.ensures))
+    let all = writes_same (refused_is _ ∙ w.1) (writes_then c.write_bytes.ensures c.end_line.ensures) in
+    prints _ l (rw w.2 at all.wrote)
 
 pub returns-in-Ok : goal.returns-in-Ok
 returns-in-Ok c =

@@ -2,7 +2,7 @@
 use mathlib.Core.Path.{ap}
 use lib.ListN.{length}
 use Rattle.plan_check.proofs.Accepted.{clean}
-use Rattle.text_decimals.proofs.Written.{wrote_long}
+use Rattle.text_decimals.proofs.Writes.{writes_long}
 use Rattle.text_order.proofs.Order.{ranking_length}
 use Rattle.text_lines.proofs.Text.{task_limit, lines_none, line_task, lines_turn, lines_all}
 use native.Mathlib.Omega.{arith}
@@ -16,7 +16,7 @@ loop-task-preserved c =
     let ok = clean _ c.requires.0 in
     let t = line_task ok c.requires.2 (omega arith) c.from-t.ensures in
     lines_turn ok (omega (arith, ap length c.requires.2)) t.0 t.1 (c.requires.1.is _ t.0)
-    c.write_line-end.ensures c.loop-task.invariant
+    c.write_line.ensures c.loop-task.invariant
 
 pub offset_bounds-waits-t : goal.offset_bounds-waits-t
 offset_bounds-waits-t c = omega (arith, c.from-t.ensures)
@@ -26,8 +26,8 @@ bounds-waits-t c =
     let ok = clean _ c.requires.0 in
     omega (arith, (line_task ok c.requires.2 (omega arith) c.from-t.ensures).0, ok.fits.limits.nodes)
 
-pub write_line-end-requires : goal.write_line-end-requires
-write_line-end-requires c =
+pub write_line-requires : goal.write_line-requires
+write_line-requires c =
     let ok = clean _ c.requires.0 in
     let t = (line_task ok c.requires.2 (omega arith) c.from-t.ensures).0 in (
       c.requires.0,
@@ -38,13 +38,10 @@ write_line-end-requires c =
         c.loop-task.invariant.short,
         ap length c.requires.2,
         ranking_length _ ok,
-        wrote_long c.loop-task.invariant.wrote,
+        writes_long c.loop-task.invariant.writes,
         task_limit ok t (c.requires.1.is _ t),
       ),
     )
-
-pub shape_of-out : goal.shape_of-out
-shape_of-out c = wrote_long c.loop-task.invariant.wrote
 
 pub returns : goal.returns
 returns c =

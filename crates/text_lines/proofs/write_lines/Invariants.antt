@@ -3,4 +3,4 @@ use Rattle.text_lines.proofs.Text.{LinesTo}
 use Rattle.text_lines.proofs.write_lines.Given as goal
 
 abbrev pub invariant-loop-task : goal.invariant-loop-task
-invariant-loop-task l = LinesTo l.plan l.initial.out l.out l.at l.end l.task-index
+invariant-loop-task l = LinesTo l.plan l.initial.text l.text l.task-index

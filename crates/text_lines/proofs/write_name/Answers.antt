@@ -1,6 +1,6 @@
 -- `write_name` meets its contract: the characters of a name are four bytes of the plan. Assumes nothing.
 use Rattle.plan_check.proofs.Accepted.{clean}
-use Rattle.text_decimals.proofs.Written.{wrote_same}
+use Rattle.text_decimals.proofs.Writes.{writes_same}
 use Rattle.text_lines.proofs.Text.{name_bytes}
 use Prim.Native.Nat.{◌+◌, ◌-◌, ◌*◌}
 use native.Mathlib.Omega.{arith}
@@ -24,6 +24,6 @@ slice_bounds-write_bytes-end c = let ok = clean _ c.requires.0 in
 
 pub returns : goal.returns
 returns c =
-    wrote_same (name_bytes c.args.plan.now c.args.t (16 + 4 * c.args.t + 4 - (16 + 4 * c.args.t))
+    writes_same (name_bytes c.args.plan.now c.args.t (16 + 4 * c.args.t + 4 - (16 + 4 * c.args.t))
     (omega arith) (let ok = clean _ c.requires.0 in omega (arith, ok.fits.whole, c.requires.1)))
     c.write_bytes.ensures

@@ -1,7 +1,0 @@
--- `write_bytes` meets its contract. Assumes nothing.
-use Rattle.text_decimals.proofs.Written.{wrote_over}
-use native.Mathlib.Omega.{arith}
-use Rattle.text_decimals.proofs.write_bytes.Goals as goal
-
-pub returns : goal.returns
-returns c = wrote_over c.requires (omega arith) c.copy_from_slice.ensures.after
