@@ -31,4 +31,4 @@ item_of b at =
 
 -- the reader at the next position
 abbrev pub advanced : Reader → Reader
-advanced r = record { plan = r.plan; at = r.at + 1; end = r.end }
+advanced r = record { plan = r.plan; at = r.at + 1 }

@@ -5,7 +5,7 @@ use native.Mathlib.Omega.{arith}
 use Prim.Native.Nat.{◌+◌}
 use Rattle.plan_check.proofs.Accepted.{clean}
 use Rattle.plan_reader.specs.Items.{item_of}
-use Rattle.plan_reader.specs.declared.Reader.{Reader}
+use Rattle.plan_reader.specs.declared.Reading.{Reading}
 use Rattle.table_all.proofs.Drawn.{drawn_none, drawn_fits, drawn_more, drawn_to}
 use Rattle.table_all.proofs.fill_items.Goals as goal
 use Rattle.table_all.proofs.fill_items.Goals.{In-Some}
@@ -49,12 +49,13 @@ loop-at-preserved c =
     let i = c.loop-at.invariant in
     let s = c.in-Some.ensures.steps in
     let r = s.0.2 in
-    let at : c.next.new.self.iter.at ≡ c.loop-at.at-iterator.iter.at + 1 = ap (λ (x : Reader). x.at) r in
+    let at : c.next.new.self.iter.reader.at ≡ c.loop-at.at-iterator.iter.reader.at + 1 =
+    ap (λ (x : Reading). x.reader.at) r in
     record {
       place = omega (arith, s.2, i.place, at);
       low = omega (arith, at, s.0.0, i.end);
-      end = ap (λ (x : Reader). x.end) r ∙ i.end;
-      bytes = ap (λ (x : Reader). x.plan.now) r ∙ i.bytes;
+      end = ap (λ (x : Reading). x.end) r ∙ i.end;
+      bytes = ap (λ (x : Reading). x.reader.plan.now) r ∙ i.bytes;
       drawn = rw (s.2, ← s.1)
           (drawn_more _ (clean _ c.requires.0) _ (is_item (goal.at.loop-at-preserved c).In-Some) _ _ _ (rw s.1 i.drawn)
           c.put_item.ensures (omega (arith, s.0.0, s.1, c.requires.1)));

@@ -6,9 +6,9 @@ use Rattle.table_all.proofs.fill_items.Given as goal
 
 abbrev pub invariant-loop-at : goal.invariant-loop-at
 invariant-loop-at l = record {
-  place : l.at-iterator.count ≡ l.at-iterator.iter.at;
-  low : l.at-iterator.iter.at ≤ l.n;
+  place : l.at-iterator.count ≡ l.at-iterator.iter.reader.at;
+  low : l.at-iterator.iter.reader.at ≤ l.n;
   end : l.at-iterator.iter.end ≡ l.n;
-  bytes : l.at-iterator.iter.plan.now ≡ l.plan;
+  bytes : l.at-iterator.iter.reader.plan.now ≡ l.plan;
   drawn : Drawn l.plan l.kinds l.order l.conds l.at-iterator.count;
 }
