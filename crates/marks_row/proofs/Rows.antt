@@ -3,7 +3,7 @@ use mathlib.Core.Path.{◌≡◌, refl, ap, ◌∙◌}
 use mathlib.Core.Logic.{by_cases, ◌↔◌}
 use mathlib.Core.Bool.{true, false}
 use mathlib.Core.List.{List, [], ◌∷◌}
-use Prim.Native.Nat.{ℕ, ◌+◌, ◌<◌}
+use Prim.Native.Nat.{ℕ, ◌+◌, ◌*◌, ◌<◌}
 use native.Mathlib.Decide.{ℕ_discrete}
 use native.Mathlib.Omega.{arith}
 use lib.ListN.{length, get_or, set}
@@ -24,6 +24,24 @@ pub filled : (P : ℕ → ℕ → Type 0) (out : List ℕ) (k x : ℕ) → k < l
     → (j : ℕ) → j < k + 1 → P j (get_or (set out k x) j 0)
 filled P out k x l p h j m = by_cases (ℕ_discrete j k) (λ e. rw (e, get_or-set_same out k x 0 l) p)
     (λ ne. rw (get_or-set_other out k j x 0 ne) (h j (omega arith)))
+
+-- one word more of the row of a node: those written stand, and so do all other rows
+pub row_here : (rows words : List ℕ) (node k : ℕ) → node < 128 → k < 23 → length rows ≡ 2944
+    → ((j : ℕ) → j < k → word_at rows node j ≡ get_or words j 0)
+    → (j : ℕ) → j < k + 1 → word_at (set rows (node * 23 + k) (get_or words k 0)) node j ≡ get_or words j 0
+row_here rows words node k l m e h j i =
+    by_cases (ℕ_discrete j k)
+    (λ q. rw q (get_or-set_same rows (node * 23 + k) (get_or words k 0) 0 (omega arith)))
+    (λ q. get_or-set_other rows (node * 23 + k) (node * 23 + j) (get_or words k 0) 0
+    (λ (z : node * 23 + j ≡ node * 23 + k). q (omega arith)) ∙ h j (omega arith))
+
+pub row_there : (rows rows₀ words : List ℕ) (node k : ℕ) → k < 23
+    → ((c j : ℕ) → j < 23 → (c ≡ node → ⊥) → word_at rows c j ≡ word_at rows₀ c j)
+    → (c j : ℕ) → j < 23 → (c ≡ node → ⊥) → word_at (set rows (node * 23 + k) (get_or words k 0)) c j ≡ word_at rows₀ c
+    j
+row_there rows rows₀ words node k m h c j i q =
+    get_or-set_other rows (node * 23 + k) (c * 23 + j) (get_or words k 0) 0
+    (λ (z : c * 23 + j ≡ node * 23 + k). q (omega arith)) ∙ h c j i q
 
 pub index_small : (k : Column) → index_of k < 23
 index_small avoid = omega arith

@@ -106,8 +106,10 @@ pub fn write_row(rows: &mut Rows, node: usize, words: Words)
     requires { (node < NODES) × (length rows.old ≡ ROWS) }
     ensures { RowWritten rows.old rows.new node words }
 {
-    let from = node * COLUMNS;
-    rows[from..from + COLUMNS].copy_from_slice(&words);
+    // Word by word: a copy of the whole row would keep the words in memory, at each level of `marks_tree`'s recursion.
+    for k in 0..COLUMNS {
+        rows[node * COLUMNS + k] = words[k];
+    }
 }
 
 // The word of a node in a column.
