@@ -5,11 +5,6 @@ use mathlib.Core.List.{List, [], ◌∷◌}
 use Prim.Native.Nat.{ℕ, ◌<◌}
 use native.Mathlib.Omega.{arith}
 use lib.ListN.{length}
-use Rattle.std.specs.declared.result.Result.TheVariants.{Ok, Err}
-use Rattle.answers.specs.declared.Refusal.{Refusal}
-use Rattle.answers.specs.declared.Refusal.TheVariants.{BadBlocked, NoBranch}
-use Rattle.answers.specs.Refusals.{number}
-use Rattle.answers.proofs.Refusals.{some_number, not_ok, same_ok}
 use Rattle.base.proofs.First.{first_none, first_some, both_none}
 use Rattle.node_sets.specs.Sets.{AllMarked, Each}
 use Rattle.plan_format.specs.Format.{node_count}
@@ -34,11 +29,11 @@ use Rattle.plan_blocked.proofs.Standing.{all_stand}
 
 module _ (b xs : List ℕ) where
   -- the plan is refused
-  pub plan_refused : (e : Refusal) → number e ≡ refusal b → ListChecked b xs (Err e)
+  pub plan_refused : (table : List ℕ) (r : ℕ) → r ≡ refusal b → (r ≡ 0 → ⊥) → ListChecked b xs r table
   unfolding refusal_under
-  plan_refused e q = record {
-    returns = q ∙ first_some _ _ (λ z. some_number e (q ∙ z));
-    standing = λ table z. absurd (not_ok z);
+  plan_refused table r e n = record {
+    returns = e ∙ first_some _ _ (λ z. n (e ∙ z));
+    standing = λ z. absurd (n z);
   }
 
   module _ (ok : refusal b ≡ 0) where
@@ -46,29 +41,29 @@ module _ (b xs : List ℕ) where
     unfolding refusal_under
     then r e = e ∙ first_none (refusal b) _ ok
 
-    pub none_blocked : (table : List ℕ) → AllMarked table → length xs ≡ 0 → ListChecked b xs (Ok table)
+    pub none_blocked : (table : List ℕ) → AllMarked table → length xs ≡ 0 → ListChecked b xs 0 table
     none_blocked table all e = at xs e refl
       where
-        at : (ys : List ℕ) → length ys ≡ 0 → ys ≡ xs → ListChecked b xs (Ok table)
+        at : (ys : List ℕ) → length ys ≡ 0 → ys ≡ xs → ListChecked b xs 0 table
         at [] e q = record {
           returns = then 0 (rw (sym q) (sym (nothing_refused (plan_of b) (means_well_formed b ok))));
-          standing = λ t z. rw (sym q, sym (same_ok z)) (all_stand b ok table all);
+          standing = λ z. rw (sym q) (all_stand b ok table all);
         }
         at (y ∷ ys) e q = absurd (omega arith)
 
-    pub refused_28 : refused28_b (plan_of b) xs ≡ true → ListChecked b xs (Err BadBlocked)
+    pub refused_28 : (table : List ℕ) → refused28_b (plan_of b) xs ≡ true → ListChecked b xs 28 table
     unfolding blocked_refusal
-    refused_28 e = record { returns = then 28 (rw e); standing = λ t z. absurd (not_ok z) }
+    refused_28 table e = record { returns = then 28 (rw e); standing = λ z. absurd (omega (arith, z)) }
 
-    pub refused_29 : refused28_b (plan_of b) xs ≡ false → refused29_b (plan_of b) xs ≡ true
-        → ListChecked b xs (Err NoBranch)
+    pub refused_29 : (table : List ℕ) → refused28_b (plan_of b) xs ≡ false → refused29_b (plan_of b) xs ≡ true
+        → ListChecked b xs 29 table
     unfolding blocked_refusal
-    refused_29 e f = record { returns = then 29 (rw (e, f)); standing = λ t z. absurd (not_ok z) }
+    refused_29 table e f = record { returns = then 29 (rw (e, f)); standing = λ z. absurd (omega (arith, z)) }
 
     pub none_refused : (table : List ℕ) → refused28_b (plan_of b) xs ≡ false → refused29_b (plan_of b) xs ≡ false
-        → Standing b (listed xs) table → ListChecked b xs (Ok table)
+        → Standing b (listed xs) table → ListChecked b xs 0 table
     unfolding blocked_refusal
-    none_refused table e f h = record { returns = then 0 (rw (e, f)); standing = λ t z. rw (sym (same_ok z)) h }
+    none_refused table e f h = record { returns = then 0 (rw (e, f)); standing = λ z. h }
 
     -- where 28 does not apply: the root is not listed, and the numbers are those of nodes
     module _ (e : refused28_b (plan_of b) xs ≡ false) where

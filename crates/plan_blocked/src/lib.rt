@@ -7,13 +7,14 @@ ghost use Rattle.plan_rules.specs.Rules.{refusal};
 ghost use Rattle.plan_check.specs.Meaning.{plan_of};
 ghost use Rattle.runs.specs.Searches.{any_in};
 ghost use Rattle.runs.specs.Model.Blocked.{unblockable_b, refused28_b};
+ghost use Rattle.answers.specs.Refusals.{returned};
 ghost use Rattle.node_sets.specs.Sets.{marked, AllMarked, Each};
 ghost use Rattle.plan_blocked.specs.Inner.{Standing, ListChecked};
 ghost use Rattle.plan_blocked.specs.Branches.{WithBranch, emptied_at};
 
 use answers::Refusal;
 use base::kinds::Kind;
-use node_sets::{all_nodes, mark_all, rises};
+use node_sets::{mark_all, rises};
 use plan_check::check;
 use plan_format::fields::{is_kind, nodes, parent};
 use tables::{NODES, Nodes};
@@ -79,30 +80,31 @@ fn branchless(plan: &[u8], list: &[usize], standing: &Nodes, marks: &Nodes) -> b
     list.iter().any(|s| emptied(plan, standing, marks, *s))
 }
 
-// Refuses a list (28, 29), or hands over the marks of the nodes that stand. With nothing blocked all do.
-fn check_list(plan: &[u8], list: &[usize]) -> Result<Nodes, Refusal>
-    requires { refusal plan.now ≡ 0 }
-    ensures { ListChecked plan.now list.now result }
+// Refuses a list (28, 29), or leaves of the marks those of the nodes that stand. With nothing blocked all do.
+fn check_list(plan: &[u8], list: &[usize], standing: &mut Nodes) -> Result<(), Refusal>
+    requires { (refusal plan.now ≡ 0) × AllMarked standing.old }
+    ensures { ListChecked plan.now list.now (returned result) standing.new }
 {
-    let mut standing = all_nodes();
     if list.is_empty() {
-        return Ok(standing);
+        return Ok(());
     }
     if list_bad(plan, list) {
         return Err(Refusal::BadBlocked);
     }
     let blocked = mark_all(list);
-    let marks = mark_standing(plan, &blocked, &mut standing);
-    if branchless(plan, list, &standing, &marks) {
+    let marks = mark_standing(plan, &blocked, standing);
+    if branchless(plan, list, standing, &marks) {
         return Err(Refusal::NoBranch);
     }
-    Ok(standing)
+    Ok(())
 }
 
-// Refuses plan or list (1 to 14, 28, 29), or hands over the marks of the nodes that stand.
-pub fn check_blocked(plan: &[u8], list: &[usize]) -> Result<Nodes, Refusal>
-    ensures { ListChecked plan.now list.now result }
+// Refuses plan or list (1 to 14, 28, 29), or leaves of the marks those of the nodes that stand. The table is lent: one
+// that is handed over takes its bytes of the stack anew in each layer of the calls.
+pub fn check_blocked(plan: &[u8], list: &[usize], standing: &mut Nodes) -> Result<(), Refusal>
+    requires { AllMarked standing.old }
+    ensures { ListChecked plan.now list.now (returned result) standing.new }
 {
     check(plan)?;
-    check_list(plan, list)
+    check_list(plan, list, standing)
 }

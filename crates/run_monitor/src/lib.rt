@@ -11,6 +11,7 @@ ghost use Rattle.run_monitor.specs.Events.{Called};
 
 use answers::Refusal;
 use base::statuses::Status;
+use node_sets::all_nodes;
 use run_progress::{Tally, children, is_complete};
 use run_refusals::{Move, refused, skip_refused, together_refused};
 use run_state::check_state;
@@ -26,7 +27,8 @@ pub enum Progress {
 pub fn status(plan: &[u8], blocked: &[usize], state: &[u8]) -> Result<Progress, Refusal>
     ensures { Told plan.now blocked.now state.now result }
 {
-    check_state(plan, blocked, state)?;
+    let mut standing = all_nodes();
+    check_state(plan, blocked, state, &mut standing)?;
     let ends = children(plan, state, Tally::Ends);
     if is_complete(plan, state, &ends, 0) {
         Ok(Progress::Complete)
@@ -46,7 +48,8 @@ fn call(
     ensures { Called plan.now blocked.now state.old (one (event_of m task)) (returned result)
         state.new }
 {
-    let standing = check_state(plan, blocked, state)?;
+    let mut standing = all_nodes();
+    check_state(plan, blocked, state, &mut standing)?;
     refused(plan, state, &standing, m, task)?;
     write_move(plan, state, m, task);
     Ok(())
@@ -74,7 +77,8 @@ pub fn skip(plan: &[u8], blocked: &[usize], state: &mut [u8], group: usize) -> R
     ensures { Called plan.now blocked.now state.old
         (one (execution.skip group)) (returned result) state.new }
 {
-    let standing = check_state(plan, blocked, state)?;
+    let mut standing = all_nodes();
+    check_state(plan, blocked, state, &mut standing)?;
     skip_refused(plan, state, &standing, group)?;
     state[8 + group] = Status::Done as u8;
     Ok(())
@@ -90,7 +94,8 @@ pub fn finish_together(
     ensures { Called plan.now blocked.now state.old
         (together tasks.now) (returned result) state.new }
 {
-    check_state(plan, blocked, state)?;
+    let mut standing = all_nodes();
+    check_state(plan, blocked, state, &mut standing)?;
     together_refused(plan, state, tasks)?;
     write_finishes(plan, state, tasks);
     Ok(())

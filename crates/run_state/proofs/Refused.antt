@@ -1,16 +1,15 @@
 -- The chain of refusals 1 to 16, forwards and backwards. Assumes nothing.
-use mathlib.Core.Path.{◌≡◌, refl, sym, ◌∙◌}
+use mathlib.Core.Path.{◌≡◌, refl, ◌∙◌}
 use mathlib.Core.Bool.{Bool, true, false, ◌&&◌, ◌||◌}
 use mathlib.Core.List.{List}
 use Prim.Native.Nat.{ℕ, ◌+◌, ◌*◌, ◌<◌, ◌≤◌}
 use lib.ListN.{length, take}
 use lib.Dec.{leb}
 use borrow.Author.Tests.{lt-ltb, le-ltb, ltb-false}
-use Rattle.std.specs.declared.result.Result.TheVariants.{Ok, Err}
 use Rattle.answers.specs.declared.Refusal.{Refusal}
 use Rattle.answers.specs.declared.Refusal.TheVariants.{NoRoom, Malformed}
 use Rattle.answers.specs.Refusals.{number}
-use Rattle.answers.proofs.Refusals.{some_number, not_ok, same_ok}
+use Rattle.answers.proofs.Refusals.{some_number}
 use Rattle.base.proofs.First.{first_some, both_none, check_passed}
 use Rattle.run_flags.specs.Flags.{flag_in}
 use Rattle.run_flags.proofs.EachFlag.{in_first}
@@ -46,21 +45,21 @@ turned false true false = refl
 turned false false true = refl
 turned false false false = refl
 
-module _ {b xs : List ℕ} {q : ℕ} where
-  refused : (e : Refusal) → number e ≡ q → StateChecked b xs q (Err e)
-  refused e z = record { returns = z; standing = λ table y. absurd (not_ok y) }
+module _ {b xs : List ℕ} {q : ℕ} {table : List ℕ} where
+  refused : (e : Refusal) → number e ≡ q → StateChecked b xs q (number e) table
+  refused e z = record { returns = z; standing = λ y. absurd (some_number e y) }
 
-  passes : {table : List ℕ} → 0 ≡ q → Standing b (listed xs) table → StateChecked b xs q (Ok table)
-  passes z h = record { returns = z; standing = λ t y. rw (sym (same_ok y)) h }
+  passes : 0 ≡ q → Standing b (listed xs) table → StateChecked b xs q 0 table
+  passes z h = record { returns = z; standing = λ y. h }
 
 module _ (b xs s : List ℕ) where
-  pub room_refused : (e : Refusal) → number e ≡ refusal_under b xs
-      → StateChecked b xs (room_refusal_under b xs s) (Err e)
+  pub room_refused : {table : List ℕ} (e : Refusal) → number e ≡ refusal_under b xs
+      → StateChecked b xs (room_refusal_under b xs s) (number e) table
   unfolding room_refusal_under
   room_refused e q = refused e (q ∙ first_some (refusal_under b xs) _ (λ z. some_number e (q ∙ z)))
 
-  pub room_short : refusal_under b xs ≡ 0 → length s < 8 + 3 * node_count b
-      → StateChecked b xs (room_refusal_under b xs s) (Err NoRoom)
+  pub room_short : {table : List ℕ} → refusal_under b xs ≡ 0 → length s < 8 + 3 * node_count b
+      → StateChecked b xs (room_refusal_under b xs s) 15 table
   unfolding room_refusal_under too_short
   room_short e l = refused NoRoom (simp (e, lt-ltb _ _ l))
 
@@ -69,21 +68,21 @@ module _ (b xs s : List ℕ) where
   room_enough e l = simp (e, le-ltb _ _ l)
 
   pub room_long : {table : List ℕ} → refusal_under b xs ≡ 0 → 8 + 3 * node_count b ≤ length s
-      → Standing b (listed xs) table → StateChecked b xs (room_refusal_under b xs s) (Ok table)
+      → Standing b (listed xs) table → StateChecked b xs (room_refusal_under b xs s) 0 table
   room_long e l h = passes (room_enough e l) h
 
-  pub state_refused : (e : Refusal) → number e ≡ room_refusal_under b xs s
-      → StateChecked b xs (state_refusal_under b xs s) (Err e)
+  pub state_refused : {table : List ℕ} (e : Refusal) → number e ≡ room_refusal_under b xs s
+      → StateChecked b xs (state_refusal_under b xs s) (number e) table
   unfolding state_refusal_under
   state_refused e q = refused e (q ∙ first_some (room_refusal_under b xs s) _ (λ z. some_number e (q ∙ z)))
 
-  pub state_bad : room_refusal_under b xs s ≡ 0 → malformed_under b xs s ≡ true
-      → StateChecked b xs (state_refusal_under b xs s) (Err Malformed)
+  pub state_bad : {table : List ℕ} → room_refusal_under b xs s ≡ 0 → malformed_under b xs s ≡ true
+      → StateChecked b xs (state_refusal_under b xs s) 16 table
   unfolding state_refusal_under
   state_bad e m = refused Malformed (simp (e, m))
 
   pub state_good : {table : List ℕ} → room_refusal_under b xs s ≡ 0 → malformed_under b xs s ≡ false
-      → Standing b (listed xs) table → StateChecked b xs (state_refusal_under b xs s) (Ok table)
+      → Standing b (listed xs) table → StateChecked b xs (state_refusal_under b xs s) 0 table
   unfolding state_refusal_under
   state_good e m h = passes (simp (e, m)) h
 

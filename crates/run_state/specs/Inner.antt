@@ -1,10 +1,6 @@
 -- Inner contracts: what is asked of a state that has passed, and the checks by a table of the nodes that stand.
 -- Definitions only.
 use Rattle.std.specs.Prelude.{ℕ, ◌<◌, ◌≡◌, Bool, not, ◌&&◌, ◌||◌, List, [], eqb}
-use Rattle.std.specs.declared.result.Result.{Result}
-use Rattle.std.specs.declared.result.Result.TheVariants.{Ok}
-use Rattle.answers.specs.declared.Refusal.{Refusal}
-use Rattle.answers.specs.Refusals.{returned}
 use Rattle.node_sets.specs.Sets.{marked}
 use Rattle.plan_format.specs.Format.{node_count}
 use Rattle.plan_blocked.specs.Inner.{Standing}
@@ -28,7 +24,7 @@ bad_byte_in b table s n = bad_byte b s n || (not (marked table n) && not (eqb (n
 unfoldable pub bad_node_in : List ℕ → List ℕ → List ℕ → ℕ → Bool
 bad_node_in b table s n = bad_byte_in b table s n || stray_ordinal b s n
 
--- what a check answers: its refusal, or a table of the nodes that stand
-pub record StateChecked (b xs : List ℕ) (q : ℕ) (r : Result (List ℕ) Refusal) : Type 0 where
-  pub returns : returned r ≡ q
-  pub standing : (table : List ℕ) → r ≡ Ok table → Standing b (listed xs) table
+-- what a check leaves: the refusal, and the table once nothing is refused
+pub record StateChecked (b xs : List ℕ) (q r : ℕ) (table : List ℕ) : Type 0 where
+  pub returns : r ≡ q
+  pub standing : r ≡ 0 → Standing b (listed xs) table

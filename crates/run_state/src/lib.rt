@@ -5,6 +5,7 @@ ghost use Rattle.std.specs.Prelude.{◌≡◌, ◌+◌, ◌<◌, ◌≤◌, leng
 ghost use Rattle.answers.specs.Refusals.{returned};
 ghost use Rattle.plan_format.specs.Format.{node_count};
 ghost use Rattle.runs.specs.Searches.{any_below};
+ghost use Rattle.node_sets.specs.Sets.{AllMarked};
 ghost use Rattle.run_starts.specs.Inner.{StateFits};
 ghost use Rattle.run_state.specs.State.{bad_flag, room_refusal_under, state_refusal_under};
 ghost use Rattle.run_state.specs.Inner.{bad_byte_in, bad_node_in, StateChecked};
@@ -13,6 +14,7 @@ ghost use Rattle.run_state.specs.Fresh.{Freshened};
 use answers::Refusal;
 use base::kinds::Kind;
 use base::statuses::Status;
+use node_sets::all_nodes;
 use plan_blocked::check_blocked;
 use plan_format::fields::{flags, is_kind, nodes};
 use run_flags::load;
@@ -64,36 +66,49 @@ fn nodes_bad(plan: &[u8], state: &[u8], standing: &Nodes) -> bool
     (0..nodes(plan)).any(|n| node_bad(plan, state, standing, n))
 }
 
-// Refuses plan, list or a state that is too short (1 to 14, 28, 29, 15), or hands over the marks of the nodes that
+// Refuses plan, list or a state that is too short (1 to 14, 28, 29, 15), or leaves of the marks those of the nodes that
 // stand.
-fn check_room(plan: &[u8], blocked: &[usize], state: &[u8]) -> Result<Nodes, Refusal>
+fn check_room(
+    plan: &[u8],
+    blocked: &[usize],
+    state: &[u8],
+    standing: &mut Nodes,
+) -> Result<(), Refusal>
+    requires { AllMarked standing.old }
     ensures { StateChecked plan.now blocked.now
-        (room_refusal_under plan.now blocked.now state.now) result }
+        (room_refusal_under plan.now blocked.now state.now) (returned result) standing.new }
 {
-    let standing = check_blocked(plan, blocked)?;
+    check_blocked(plan, blocked, standing)?;
     if state.len() < 8 + 3 * nodes(plan) {
         return Err(Refusal::NoRoom);
     }
-    Ok(standing)
+    Ok(())
 }
 
-// Refuses plan, list or state (1 to 16, 28, 29), or hands over the marks of the nodes that stand.
-pub fn check_state(plan: &[u8], blocked: &[usize], state: &[u8]) -> Result<Nodes, Refusal>
+// Refuses plan, list or state (1 to 16, 28, 29), or leaves of the marks those of the nodes that stand.
+pub fn check_state(
+    plan: &[u8],
+    blocked: &[usize],
+    state: &[u8],
+    standing: &mut Nodes,
+) -> Result<(), Refusal>
+    requires { AllMarked standing.old }
     ensures { StateChecked plan.now blocked.now
-        (state_refusal_under plan.now blocked.now state.now) result }
+        (state_refusal_under plan.now blocked.now state.now) (returned result) standing.new }
 {
-    let standing = check_room(plan, blocked, state)?;
-    if flags_bad(plan, state) || nodes_bad(plan, state, &standing) || ordinals_bad(plan, state) {
+    check_room(plan, blocked, state, standing)?;
+    if flags_bad(plan, state) || nodes_bad(plan, state, standing) || ordinals_bad(plan, state) {
         return Err(Refusal::Malformed);
     }
-    Ok(standing)
+    Ok(())
 }
 
 // A state in which every task waits and each flag is as its start bit says; refused, nothing changes.
 pub fn fresh(plan: &[u8], blocked: &[usize], state: &mut [u8]) -> Result<(), Refusal>
     ensures { Freshened plan.now blocked.now state.old (returned result) state.new }
 {
-    check_room(plan, blocked, state)?;
+    let mut standing = all_nodes();
+    check_room(plan, blocked, state, &mut standing)?;
     let n = 8 + 3 * nodes(plan);
     state[..8].copy_from_slice(&plan[8..16]);
     state[8..n].fill(0);

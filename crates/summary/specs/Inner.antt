@@ -1,9 +1,5 @@
--- Inner contracts: what the check of a summary call answers, and the words that its bytes come from. Definitions only.
+-- Inner contracts: what the check of a summary call leaves, and the words that its bytes come from. Definitions only.
 use Rattle.std.specs.Prelude.{◌≡◌, Bool, List, ℕ, ◌<◌, get_or}
-use Rattle.std.specs.declared.result.Result.{Result}
-use Rattle.std.specs.declared.result.Result.TheVariants.{Ok}
-use Rattle.answers.specs.declared.Refusal.{Refusal}
-use Rattle.answers.specs.Refusals.{returned}
 use Rattle.base.specs.Words.{Says}
 use Rattle.plan_check.specs.Meaning.{plan_of}
 use Rattle.plan_blocked.specs.Inner.{Standing}
@@ -14,10 +10,10 @@ use Rattle.runs.specs.Branches.{Blocks}
 use Rattle.marks_words.specs.Words.{word_index}
 use Rattle.summary.specs.Summary.{summary_refusal}
 
--- what a check answers: the refusal, or a table of the nodes that stand
-pub record Checked (b xs : List ℕ) (n : ℕ) (out : List ℕ) (r : Result (List ℕ) Refusal) : Type 0 where
-  pub returns : returned r ≡ summary_refusal b xs n out
-  pub stands : (standing : List ℕ) → r ≡ Ok standing → Standing b (listed xs) standing
+-- what a check leaves: the refusal, and the table once nothing is refused
+pub record Checked (b xs : List ℕ) (n : ℕ) (out : List ℕ) (r : ℕ) (standing : List ℕ) : Type 0 where
+  pub returns : r ≡ summary_refusal b xs n out
+  pub stands : r ≡ 0 → Standing b (listed xs) standing
 
 -- sixteen words say the marks of n under blocked nodes: of any blocked nodes S, if a table marks the nodes that stand
 pub record UnderWords (b standing : List ℕ) (n : ℕ) (words : List ℕ) : Type 0 where

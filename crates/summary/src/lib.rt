@@ -3,6 +3,7 @@
 
 ghost use Rattle.std.specs.Prelude.{◌≡◌, ◌/◌, ◌%◌, ◌^◌, ◌<◌, get_or};
 ghost use Rattle.answers.specs.Refusals.{returned};
+ghost use Rattle.node_sets.specs.Sets.{AllMarked};
 ghost use Rattle.plan_format.specs.Format.{node_count};
 ghost use Rattle.plan_rules.specs.Rules.{refusal};
 ghost use Rattle.summary.specs.Summary.{Summarised};
@@ -10,23 +11,32 @@ ghost use Rattle.summary.specs.Inner.{UnderWords, Checked};
 
 use answers::Refusal;
 use marks_words::Marks;
+use node_sets::all_nodes;
 use plan_blocked::check_blocked;
 use plan_format::fields::{flags, nodes};
 use table_marks::node_marks;
 use tables::Nodes;
 
-// Refuses a call (1 to 14, 28, 29, 15, 17), or hands over the marks of the nodes that stand.
-fn check_summary(plan: &[u8], blocked: &[usize], node: usize, out: &[u8]) -> Result<Nodes, Refusal>
-    ensures { Checked plan.now blocked.now node out.now result }
+// Refuses a call (1 to 14, 28, 29, 15, 17), or leaves of the marks those of the nodes that stand.
+fn check_summary(
+    plan: &[u8],
+    blocked: &[usize],
+    node: usize,
+    out: &[u8],
+    standing: &mut Nodes,
+) -> Result<(), Refusal>
+    requires { AllMarked standing.old }
+    ensures { Checked plan.now blocked.now node out.now
+        (returned result) standing.new }
 {
-    let standing = check_blocked(plan, blocked)?;
+    check_blocked(plan, blocked, standing)?;
     if out.len() < 16 * flags(plan) {
         return Err(Refusal::NoRoom);
     }
     if node >= nodes(plan) {
         return Err(Refusal::NoSuchNode);
     }
-    Ok(standing)
+    Ok(())
 }
 
 // The marks of a node: none, if it does not stand.
@@ -54,7 +64,8 @@ pub fn summary(plan: &[u8], blocked: &[usize], node: usize, out: &mut [u8]) -> R
     ensures { Summarised plan.now blocked.now node out.old (returned result)
         out.new }
 {
-    let standing = check_summary(plan, blocked, node, out)?;
+    let mut standing = all_nodes();
+    check_summary(plan, blocked, node, out, &mut standing)?;
     let words = under_words(plan, &standing, node);
     for i in 0..16 * flags(plan) {
         out[i] = mark_byte(&words, i);

@@ -11,6 +11,7 @@ ghost use Rattle.verdict.specs.Inner.{OfWords, OfStanding};
 use answers::Refusal;
 use marks_words::marks::{MAY_CLOBBER, MAY_PRE, MUST_CLOBBER, MUST_PRE};
 use marks_words::{Marks, failing};
+use node_sets::all_nodes;
 use plan_blocked::check_blocked;
 use plan_format::fields::{flags, start_flag};
 use table_marks::node_marks;
@@ -65,6 +66,7 @@ fn judge(plan: &[u8], standing: &Nodes) -> Verdict
 pub fn assess(plan: &[u8], blocked: &[usize]) -> Result<Verdict, Refusal>
     ensures { Assessed plan.now blocked.now result }
 {
-    let standing = check_blocked(plan, blocked)?;
+    let mut standing = all_nodes();
+    check_blocked(plan, blocked, &mut standing)?;
     Ok(judge(plan, &standing))
 }

@@ -18,6 +18,9 @@ none : (c : In_ok-together_refused) → let a = c.args in
     call_refusal a.plan.now a.blocked.now a.state.now (together a.tasks.now) ≡ 0
 none c = sym (c.in_ok-together_refused.ensures _ (sym c.in_ok-check_state.ensures.returns))
 
+pub check_state-requires : goal.check_state-requires
+check_state-requires c = c.all_nodes-standing.ensures
+
 pub returns-in_err-check_state : goal.returns-in_err-check_state
 returns-in_err-check_state c =
     let r = err_from_is_err_and c.from_residual.result c.from_residual.ensures.1 in

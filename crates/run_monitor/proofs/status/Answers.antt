@@ -16,6 +16,9 @@ passed c = sym c.in_ok-check_state.ensures.returns
 whole : (c : In_ok-check_state) → state_refusal c.args.plan.now c.args.state.now ≡ 0
 whole c = checks.passed _ _ _ (passed c)
 
+pub check_state-requires : goal.check_state-requires
+check_state-requires c = c.all_nodes-standing.ensures
+
 pub returns-in_err-check_state : goal.returns-in_err-check_state
 returns-in_err-check_state c =
     let r = err_from_is_err_and c.from_residual.result c.from_residual.ensures.1 in

@@ -27,6 +27,9 @@ enough c = room_passed _ _ _ (passed c)
 sized : (s ys : List ℕ) → 8 ≤ length s → length ys ≡ length (take 8 s) → length (ys ++ drop 8 s) ≡ length s
 sized s ys l e = omega (arith, length-append ys (drop 8 s), length-drop 8 s, length-take-le 8 s l, e)
 
+pub check_room-requires : goal.check_room-requires
+check_room-requires c = c.all_nodes-standing.ensures
+
 pub returns-in_err-check_room : goal.returns-in_err-check_room
 returns-in_err-check_room c =
     let a = c.args in

@@ -5,16 +5,19 @@ use Rattle.plan_blocked.proofs.Refused.{plan_accepted, blocks}
 use Rattle.verdict.proofs.Judging.{assessed_refused, assessed}
 use Rattle.verdict.proofs.assess.Goals as goal
 
-pub returns-in_err-standing : goal.returns-in_err-standing
-returns-in_err-standing c =
+pub check_blocked-requires : goal.check_blocked-requires
+check_blocked-requires c = c.all_nodes-standing.ensures
+
+pub returns-in_err-check_blocked : goal.returns-in_err-check_blocked
+returns-in_err-check_blocked c =
     let p = err_from_is_err_and c.from_residual.result c.from_residual.ensures.1 in
-    rw (p.1, p.2) (assessed_refused _ _ c.in_err-standing.ensures.returns)
+    rw (p.1, p.2) (assessed_refused _ _ c.in_err-check_blocked.ensures.returns)
 
 pub judge-requires : goal.judge-requires
-judge-requires c = plan_accepted _ _ (sym c.in_ok-standing.ensures.returns)
+judge-requires c = plan_accepted _ _ (sym c.in_ok-check_blocked.ensures.returns)
 
 pub returns : goal.returns
 returns c =
-    let e = c.in_ok-standing.ensures in
+    let e = c.in_ok-check_blocked.ensures in
     let p = sym e.returns in
-    assessed _ _ c.judge.result p (c.judge.ensures _ (blocks _ _ p) (e.standing _ refl))
+    assessed _ _ c.judge.result p (c.judge.ensures _ (blocks _ _ p) (e.standing refl))
