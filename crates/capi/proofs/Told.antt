@@ -13,10 +13,12 @@ use Rattle.answers.specs.declared.Refusal.{Refusal}
 use Rattle.answers.specs.Refusals.{told}
 use Rattle.plan_blocked.specs.Blocked.{refusal_under}
 use Rattle.runs.specs.Verdict.{Verdict, CLEAR, DOOMED, OPEN}
+use Rattle.run_state.specs.State.{state_refusal_under}
+use Rattle.run_monitor.specs.Status.{Word, COMPLETE, UNFINISHED, Report, reported, Told, status_answer}
 use Rattle.verdict.specs.Verdict.{Answer, said, answer_of, Assessed}
 use Rattle.listing.specs.Listing.{Lists}
-use Rattle.capi_numbers.specs.Numbers.{verdict_number, written_number}
-use Rattle.capi.specs.Told.{VerdictNumber, ListingNumber}
+use Rattle.capi_numbers.specs.Numbers.{verdict_number, status_number, written_number}
+use Rattle.capi.specs.Told.{VerdictNumber, StatusNumber, ListingNumber}
 
 -- a number from which the word can be told is that of a word exactly if the answer is that word
 number_tells : {A : Type 0} (num : ℕ ⊎ A → ℕ) (of : ℕ → A) → ((v : A) → of (num (inr v)) ≡ v) → {x : ℕ ⊎ A} {u : A}
@@ -34,6 +36,14 @@ unfolding verdict_in
 verdict_back CLEAR = refl
 verdict_back DOOMED = refl
 verdict_back OPEN = refl
+
+word_in : ℕ → Word
+word_in n = cond (eqb n 128) COMPLETE UNFINISHED
+
+word_back : (v : Word) → word_in (status_number (inr v)) ≡ v
+unfolding word_in
+word_back COMPLETE = refl
+word_back UNFINISHED = refl
 
 -- a number below those of the words is that of a refusal
 refusal_number_lem : (x : ℕ ⊎ Verdict) (n : ℕ) → n < 128 → (verdict_number x ≡ n) ↔ (x ≡ inl n)
@@ -67,6 +77,20 @@ verdict_told b xs a x q =
         (said a ≡ inr v)
     tells acc v =
         number_tells verdict_number verdict_in verdict_back (x.returns ∙ sym (answer_none (refusal_under b xs) _ acc)) v
+
+pub status_told : (b xs s : List ℕ) (a : Report) {r : ℕ} → Told b xs s a → r ≡ status_number (reported a)
+    → StatusNumber b xs s r
+unfolding status_answer
+status_told b xs s a x q =
+    record {
+      returns = q ∙ ap status_number x.returns;
+      complete = λ ok.
+          rw q
+          (Iff.trans
+          (number_tells status_number word_in word_back
+          (x.returns ∙ sym (answer_none (state_refusal_under b xs s) _ ok)) COMPLETE)
+          (λ c. (x.complete.0 c).1, λ c. x.complete.1 (ok, c)));
+    }
 
 pub listing_told : (b out : List ℕ) (a : Result ℕ Refusal) {r : ℕ} {out' : List ℕ} → Lists b out a out'
     → r ≡ written_number (told a) → ListingNumber b out r out'

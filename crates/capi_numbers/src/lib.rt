@@ -1,12 +1,13 @@
 // The numbers by which the C interface tells answers.
 #![tactic(auto)]
 
-ghost use Rattle.std.specs.Prelude.{◌≡◌};
-ghost use Rattle.answers.specs.Refusals.{returned, told};
+ghost use Rattle.std.specs.Prelude.{◌≡◌, MatchResult, ⊤};
+ghost use Rattle.std.proofs.Common.{inr};
+ghost use Rattle.answers.specs.Refusals.{returned};
 ghost use Rattle.verdict.specs.Verdict as verdict;
 ghost use Rattle.run_monitor.specs.Status as progress;
 ghost use Rattle.capi_numbers.specs.Numbers.{verdict_number, status_number, written_number};
-ghost use Rattle.capi_numbers.specs.Inner.{Short, finding_number};
+ghost use Rattle.capi_numbers.specs.Inner.{Short};
 
 use answers::Refusal;
 use run_monitor::Progress;
@@ -22,42 +23,45 @@ pub fn refusal_number(answer: Result<(), Refusal>) -> u32
     }
 }
 
-pub fn verdict_number(answer: Result<Verdict, Refusal>) -> u32
-    ensures { result ≡ verdict_number (verdict.said answer) }
+// The number of a verdict or of a refusal, of which any type will do that tells its number.
+pub fn verdict_number<E: Into<u32>>(answer: Result<Verdict, E>) -> u32
+    ensures { MatchResult answer (λ v. result ≡ verdict_number (inr (verdict.word_of v)))
+        (λ e. E.converts e result) }
 {
     match answer {
         Ok(Verdict::Clear) => 128,
         Ok(Verdict::Doomed) => 129,
         Ok(Verdict::Open) => 130,
-        Err(refusal) => u32::from(refusal),
+        Err(cause) => cause.into(),
     }
 }
 
-pub fn status_number(answer: Result<Progress, Refusal>) -> u32
-    ensures { result ≡ status_number (progress.reported answer) }
+pub fn status_number<E: Into<u32>>(answer: Result<Progress, E>) -> u32
+    ensures { MatchResult answer (λ p. result ≡ status_number (inr (progress.word_of p)))
+        (λ e. E.converts e result) }
 {
     match answer {
         Ok(Progress::Complete) => 128,
         Ok(Progress::Unfinished) => 129,
-        Err(refusal) => u32::from(refusal),
+        Err(refusal) => refusal.into(),
     }
 }
 
-pub fn written_number(answer: Result<usize, Refusal>) -> u32
-    requires { Short (told answer) }
-    ensures { result ≡ written_number (told answer) }
+pub fn written_number<E: Into<u32>>(answer: Result<usize, E>) -> u32
+    requires { MatchResult answer (λ n. Short (inr n)) (λ _. ⊤) }
+    ensures { MatchResult answer (λ n. result ≡ written_number (inr n)) (λ e. E.converts e result) }
 {
     match answer {
         Ok(length) => 256 + length as u32,
-        Err(refusal) => u32::from(refusal),
+        Err(refusal) => refusal.into(),
     }
 }
 
-pub fn sequence_number(answer: Result<u64, Refusal>) -> u64
-    ensures { result ≡ finding_number answer }
+pub fn sequence_number<E: Into<u32>>(answer: Result<u64, E>) -> u64
+    ensures { MatchResult answer (λ w. result ≡ w) (λ e. E.converts e result) }
 {
     match answer {
         Ok(word) => word,
-        Err(refusal) => u64::from(u32::from(refusal)),
+        Err(refusal) => u64::from(refusal.into()),
     }
 }

@@ -1,6 +1,7 @@
 -- `knowetop_include` meets its contract. Assumes nothing.
+use Rattle.capi.proofs.Numbers.{verdict_is}
 use Rattle.capi.proofs.Members.{member_told}
 use Rattle.capi.proofs.knowetop_include.Goals as goal
 
 pub returns : goal.returns
-returns c = member_told c.include.ensures c.verdict_number.ensures
+returns c = member_told c.include.ensures (verdict_is _ c.verdict_number.ensures)
