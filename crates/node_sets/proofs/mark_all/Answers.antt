@@ -20,7 +20,7 @@ pub loop-t-preserved : goal.loop-t-preserved
 loop-t-preserved c =
     let l = c.loop-t in
     let ts = c.args.list.now in (
-      length-set l.marks _ 1 ∙ l.invariant.0,
+      length-set l.marks _ _ ∙ l.invariant.0,
       marked_next l.marks _ _ (omega (arith, c.requires _ (among_at ts l.t-index c.loop-t-test.true), l.invariant.0))
           l.invariant.1
           ∙ ap listed (sym (take_more ts l.t-index 0 c.loop-t-test.true)),

@@ -10,7 +10,7 @@ use Rattle.plan_blocked.proofs.list_bad.Goals as goal
 
 pub returns-then-not-rises : goal.returns-then-not-rises
 returns-then-not-rises c =
-    rw c.if-not-rises.true (falling_28 _ _ (sym c.rises.ensures ∙ c.if-not-rises.true))
+    cc (c.if-not-rises.true, falling_28 _ _ (sym c.rises.ensures ∙ c.if-not-rises.true))
 
 pub returns-else-not-rises : goal.returns-else-not-rises
 returns-else-not-rises c =

@@ -37,9 +37,10 @@ begun c =
 
 pub returns-then-state-n : goal.returns-then-state-n
 returns-then-state-n c =
-    let e = ne_eqb _ 0 c.if-state-n.true in
-    rw e (rw e at (begun (goal.at.returns-then-state-n c).Start))
+    let e = ne_eqb (get_or c.args.state.now (8 + c.args.n) 0) 0 (λ z. omega (arith, z, c.if-state-n.true)) in
+    rw (ne_eqb _ 0 c.if-state-n.true) (rw e at (begun (goal.at.returns-then-state-n c).Start))
 
 pub returns-else-state-n : goal.returns-else-state-n
 returns-else-state-n c =
-    rw (eq-eqb _ 0 c.if-state-n.false) at (begun (goal.at.returns-else-state-n c).Start)
+    let e = eq-eqb (get_or c.args.state.now (8 + c.args.n) 0) 0 (omega (arith, c.if-state-n.false)) in
+    rw e at (begun (goal.at.returns-else-state-n c).Start)
